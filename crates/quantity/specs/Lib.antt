@@ -1,0 +1,5 @@
+pub mod Limits
+pub mod Refusals
+pub mod Distance
+pub mod Window
+pub mod Examples
