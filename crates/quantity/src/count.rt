@@ -3,13 +3,18 @@ ghost use mathlib.Core.Path.{_≡_};
 ghost use Rattle.quantity.specs.Distance.{aheadOf, distanceOf, fitsOf, advanceOf};
 
 pub struct DatalinkId(pub u8);
+
 pub struct LinkInstanceId(pub u64);
+
 pub struct FlowSequence(pub u32);
+
 pub struct FlowWindow(pub u32);
+
 pub struct ByteCount(pub usize);
 
 // Half the numbers of 32 bits: from here on a difference counts as negative.
 const HALF: u32 = 2147483648;
+
 const WORD: i64 = 4294967296;
 
 // Window minus sequence modulo 2^32.
@@ -36,7 +41,11 @@ pub fn fits(sequence: FlowSequence, window: FlowWindow, bytes: ByteCount) -> boo
     ensures { λ r. ⌜ r ≡ fitsOf sequence window bytes ⌝ }
 {
     let word = ahead(sequence, window);
-    if word < HALF { bytes.0 <= word as usize } else { false }
+    if word < HALF {
+        bytes.0 <= word as usize
+    } else {
+        false
+    }
 }
 
 // Sending under a window adds the bytes to the sequence modulo 2^32.

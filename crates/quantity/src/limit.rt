@@ -1,15 +1,25 @@
 // The limits of document 01, once. specs/Limits.antt has the same names, with `-` for `_`.
 pub const LONGEST_DATAGRAM: usize = 65507;
+
 pub const FEWEST_CHANNELS: usize = 1;
+
 pub const MOST_CHANNELS: usize = 16;
+
 pub const SHORTEST_PACKET: usize = 40;
+
 pub const LONGEST_PACKET: usize = 1500;
+
 pub const MOST_WAITING: usize = 32;
+
 pub const SMALLEST_STORE: usize = 1500;
+
 pub const LARGEST_STORE: usize = 65536;
+
 // Channel IDs are the numbers below the reserved one.
 pub const RESERVED_CHANNEL: u8 = 255;
+
 pub const HIGHEST_STATUS: u8 = 15;
 // Lengths of a Link Instance and of a Datalink Context.
 pub const SHORTEST_NAME: usize = 1;
+
 pub const LONGEST_NAME: usize = 8;

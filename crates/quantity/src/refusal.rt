@@ -1,23 +1,42 @@
 // Document 01, "Numbers of refusal", by name. specs/Refusals.antt has the same names, with `-` for `_`.
 pub const LONG_DATAGRAM: u8 = 1;
+
 pub const HEADER: u8 = 2;
+
 pub const CUT: u8 = 3;
+
 pub const LENGTH: u8 = 4;
+
 pub const VALUE: u8 = 5;
+
 pub const UNLISTED: u8 = 6;
+
 pub const REPEATED: u8 = 7;
+
 pub const BEHIND_PACKET: u8 = 8;
+
 pub const MISSING: u8 = 9;
+
 pub const UNPAIRED: u8 = 10;
+
 pub const OTHER_DATALINK: u8 = 11;
+
 pub const NO_CHANNEL: u8 = 12;
+
 pub const NOT_IPV6: u8 = 13;
+
 pub const LONG_PACKET: u8 = 14;
+
 pub const EARLIER_TIME: u8 = 15;
+
 pub const EXPIRY_PAST: u8 = 16;
+
 pub const FULL: u8 = 17;
+
 pub const NO_ROOM: u8 = 18;
+
 pub const CONFIGURATION: u8 = 19;
+
 pub const MEANING: u8 = 20;
 
 // A refusal: its number and its place.

@@ -1,0 +1,68 @@
+-- `option::lay` meets its contract: the frame, and behind it the content copied into the rest. Assumes nothing.
+use borrow.Author.Needs.{needs}
+use native.Mathlib.Omega.{arith}
+use lib.ListN.{length-set, length-drop, length-take}
+use denote.Ref.{now}
+use Rattle.wire.specs.Options.{optionBytes}
+use Rattle.wire.proofs.Options.{option-length, lay-all, laid-same}
+use Rattle.wire.proofs.option.lay.Statement.{statement}
+use Rattle.wire.proofs.option.lay.Tie as tie
+
+slice-write-out : tie.Need-slice-write-out
+slice-write-out c = search needs
+
+cast-out : tie.Need-cast-out
+cast-out c = search needs
+
+slice-write-out-2 : tie.Need-slice-write-out-2
+slice-write-out-2 c = simp length-set (omega arith)
+
+cast-out-2 : tie.Need-cast-out-2
+cast-out-2 c = search needs
+
+slice-write-out-3 : tie.Need-slice-write-out-3
+slice-write-out-3 c = simp length-set (omega arith)
+
+sub-copy : tie.Need-sub-copy
+sub-copy c = simp length-set (omega arith)
+
+part-copy-start : tie.Need-part-copy-start
+part-copy-start c = simp length-set (omega arith)
+
+part-copy-end : tie.Need-part-copy-end
+part-copy-end c = search needs
+
+copy-requires : tie.Need-copy-requires
+copy-requires c κs = simp (length-take, length-drop, length-set) (omega arith)
+
+add-result : tie.Need-add-result
+add-result c = search needs
+
+same-length : tie.Need-same-length
+same-length c =
+    let start = c .before .before .before .before .before .before in
+    let n = option-length (start .args .kind) (now (start .args .content)) in
+    laid-same (optionBytes (start .args .kind) (now (start .args .content))) (now (start .args .out)) _ _ (omega (arith, start .pre .1))
+    (lay-all _ _ _ _ (start .pre .0) (start .pre .1) (c .before .before .copy .ensures .1))
+
+returns : tie.Need-returns
+returns c =
+    let start = c .before .before .before .before .before .before in
+    lay-all _ _ _ _ (start .pre .0) (start .pre .1) (c .before .before .copy .ensures .1)
+
+pub lay-spec : {M : Type 1} → statement M
+lay-spec =
+    tie.close
+    (tie.spec
+    slice-write-out
+    cast-out
+    slice-write-out-2
+    cast-out-2
+    slice-write-out-3
+    sub-copy
+    part-copy-start
+    part-copy-end
+    copy-requires
+    add-result
+    same-length
+    returns)
