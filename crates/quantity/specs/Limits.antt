@@ -34,6 +34,10 @@ LARGEST-STORE = 65536
 abbrev pub RESERVED-CHANNEL : ℕ
 RESERVED-CHANNEL = 255
 
+-- the Channel IDs 0 to 254
+abbrev pub CHANNEL-IDS : ℕ
+CHANNEL-IDS = 255
+
 -- "4-bit Status"
 abbrev pub HIGHEST-STATUS : ℕ
 HIGHEST-STATUS = 15

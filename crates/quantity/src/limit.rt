@@ -18,7 +18,11 @@ pub const LARGEST_STORE: usize = 65536;
 // Channel IDs are the numbers below the reserved one.
 pub const RESERVED_CHANNEL: u8 = 255;
 
+// How many Channel IDs there are: a table over them has so many places.
+pub const CHANNEL_IDS: usize = 255;
+
 pub const HIGHEST_STATUS: u8 = 15;
+
 // Lengths of a Link Instance and of a Datalink Context.
 pub const SHORTEST_NAME: usize = 1;
 

@@ -11,7 +11,7 @@ use lib.Seq.{length-take-le, take-length, drop-length, take-at, drop-at, drop-dr
 use Rattle.wire.specs.declared.option.Frame.{Frame}
 use Rattle.wire.specs.declared.option.Frame.the-variants.{Cut, Whole}
 use Rattle.wire.specs.Numbers.{numberFrom, bigEndian, bytesOf, Octets}
-use Rattle.wire.specs.Options.{optionBytes, lengthAt, frameOf, Options, end, cut, option, bytes, splitFirst, splitWith, split, Whole-options, over, Laid}
+use Rattle.wire.specs.Options.{optionBytes, lengthAt, frameOf, Options, done, cut, option, bytes, splitFirst, splitWith, split, Whole-options, over, Laid}
 use Rattle.wire.proofs.Numbers.{length-bytes, there-and-back, back-and-there}
 
 -- ---- the first option
@@ -79,7 +79,7 @@ enough zero zero xs h g = refl
 enough zero (suc j) xs h g = let e : length xs ≡ 0 = omega arith in simp (eq-eqb (length xs) 0 e)
 enough (suc k) zero xs h g = let e : length xs ≡ 0 = omega arith in simp (eq-eqb (length xs) 0 e)
 enough (suc k) (suc j) xs h g =
-    ap (cond (eqb (length xs) 0) end) (same-first xs (splitWith k) (splitWith j) (λ ys l. enough k j ys (omega arith) (omega arith)))
+    ap (cond (eqb (length xs) 0) done) (same-first xs (splitWith k) (splitWith j) (λ ys l. enough k j ys (omega arith) (omega arith)))
 
 -- the unfolding, with no bound
 split-eq : (xs : List ℕ) → 0 < length xs → split xs ≡ splitFirst (frameOf xs) xs split
@@ -89,7 +89,7 @@ split-eq xs h =
     enough (length xs) (suc (length xs)) xs (omega arith) (omega arith)
     ∙ rw (ne-eqb (length xs) 0 n) (same-first xs (splitWith (length xs)) split (λ ys l. enough (length xs) (length ys) ys (omega arith) (omega arith)))
 
-pub split-end : (xs : List ℕ) → length xs ≡ 0 → split xs ≡ end
+pub split-end : (xs : List ℕ) → length xs ≡ 0 → split xs ≡ done
 unfolding split splitWith
 split-end xs e = rw e
 
@@ -134,7 +134,7 @@ module _ (kind : ℕ) (content rest : List ℕ) (h : length content < 2 ^ 16) wh
 -- the options of a body that was laid down option by option are those options
 pub split-bytes : (f : Options) → Whole-options f → split (bytes f) ≡ f
 unfolding bytes Whole-options
-split-bytes end w = split-end [] refl
+split-bytes done w = split-end [] refl
 split-bytes (cut xs) w = absurd w
 split-bytes (option kind content f) w = split-front kind content (bytes f) (w .0) ∙ ap (option kind content) (split-bytes f (w .1))
 
@@ -182,7 +182,7 @@ bytes-with (suc k) xs h o = each (eqb (length xs) 0) refl (λ ys l p. bytes-with
         ap (λ (l : List ℕ). optionBytes kind (take size (drop 3 xs)) ++ l) (shorter (drop (3 + size) xs) (rw length-drop (omega arith)) (octets-drop (3 + size) xs o))
         ∙ first-bytes xs kind size o e
 
-    each : (b : Bool) → eqb (length xs) 0 ≡ b → Shorter k xs → bytes (cond b end (splitFirst (frameOf xs) xs (splitWith k))) ≡ xs
+    each : (b : Bool) → eqb (length xs) 0 ≡ b → Shorter k xs → bytes (cond b done (splitFirst (frameOf xs) xs (splitWith k))) ≡ xs
     each true e shorter = sym (nil-of xs (eqb-true (length xs) 0 e))
     each false e shorter = go (frameOf xs) refl shorter
 

@@ -24,13 +24,13 @@ frameOf rest = cond (ltb (length rest) 3) Cut (cond (ltb (length rest - 3) (leng
 
 -- a body: nothing left; bytes that are no whole option; or an option's type and content, and what stands behind it
 pub data Options : Type 0 where
-  end : Options
+  done : Options
   cut : List ℕ → Options
   option : (kind : ℕ) (content : List ℕ) → Options → Options
 
 -- the bytes of a body
 unfoldable pub bytes : Options → List ℕ
-bytes end = []
+bytes done = []
 bytes (cut rest) = rest
 bytes (option kind content more) = optionBytes kind content ++ bytes more
 
@@ -41,8 +41,8 @@ splitFirst (Whole kind size) rest f = option kind (take size (drop 3 rest)) (f (
 
 -- the first argument is a bound on the number of options, which each have three bytes at least
 unfoldable pub splitWith : ℕ → List ℕ → Options
-splitWith zero rest = end
-splitWith (suc k) rest = cond (eqb (length rest) 0) end (splitFirst (frameOf rest) rest (splitWith k))
+splitWith zero rest = done
+splitWith (suc k) rest = cond (eqb (length rest) 0) done (splitFirst (frameOf rest) rest (splitWith k))
 
 -- a body, option by option
 unfoldable pub split : List ℕ → Options
@@ -50,7 +50,7 @@ split rest = splitWith (length rest) rest
 
 -- every option is whole, and its length fits 16 bits
 unfoldable pub Whole-options : Options → Type 0
-Whole-options end = Unit {0}
+Whole-options done = Unit {0}
 Whole-options (cut rest) = ⊥
 Whole-options (option kind content more) = (length content < 2 ^ 16) × Whole-options more
 

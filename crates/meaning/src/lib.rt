@@ -1,0 +1,3 @@
+// What the four messages mean, and which options each may hold.
+pub mod kind;
+pub mod message;

@@ -1,0 +1,5 @@
+pub mod Judging
+pub mod Sorts
+pub mod Stated
+pub mod Readings
+pub mod Items

@@ -1,0 +1,2 @@
+// Reading a message of either end and either plane.
+pub mod answer;

@@ -1,0 +1,2 @@
+// Writing a message of either end and either plane.
+pub mod answer;
