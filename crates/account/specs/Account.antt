@@ -1,6 +1,7 @@
 -- What an accepted message is, and what it means: no order of tests, no place, nothing gathered on the way.
-use Prim.Native.Nat.{ℕ, _+_, _≤_}
+use Prim.Native.Nat.{ℕ, _+_, _%_, _≤_}
 use mathlib.Core.Path.{_≡_}
+use mathlib.Core.Logic.{_⊎_}
 use mathlib.Core.List.{List, [], _∷_}
 use mathlib.Core.Option.{Option, none, some}
 use mathlib.Core.Bool.{Bool, true, false, cond}
@@ -15,7 +16,7 @@ use Rattle.meaning.specs.declared.message.Plane.the-variants as planes
 use Rattle.meaning.specs.declared.message.Datalink.{Datalink}
 use Rattle.meaning.specs.declared.message.Control.{Control}
 use Rattle.meaning.specs.declared.message.Data.{Data}
-use Rattle.meaning.specs.Kinds.{among, known, lengthListed, valueListed, mayHold, mustHold, standsLast, DATALINK-IDENTIFIER, CHANNEL-IDENTIFIER, FLOW-SEQUENCE}
+use Rattle.meaning.specs.Kinds.{among, known, lengthListed, valueListed, mayHold, mustHold, standsLast, DATALINK-IDENTIFIER, CHANNEL-STATUS, CHANNEL-IDENTIFIER, FLOW-SEQUENCE}
 use Rattle.reader.specs.Judging.{CURRENT-VERSION, versionOf, flagOf, flag}
 use Rattle.reader.specs.Sorts.{channelOf}
 use Rattle.reader.specs.Stated.{Table, datalinkFrom, controlStated, dataStated}
@@ -59,6 +60,12 @@ unfoldable pub the : Plane → End → ℕ → ℕ → Options → Option (List 
 the plane e k n done = none
 the plane e k n (cut rest) = none
 the plane e k n (option kind content more) = cond (speaks plane e k n kind content) (some content) (the plane e k n more)
+
+-- an option of type k for channel n with this content stands somewhere
+unfoldable pub Stands : Plane → End → ℕ → ℕ → List ℕ → Options → Type 0
+Stands plane e k n content done = ⊥
+Stands plane e k n content (cut rest) = ⊥
+Stands plane e k n content (option kind other more) = ((speaks plane e k n kind other ≡ true) × (other ≡ content)) ⊎ Stands plane e k n content more
 
 -- what the options say, for each type and channel
 abbrev pub tableOf : Plane → End → Options → Table
@@ -112,11 +119,12 @@ controlMeaning e options = controlStated (tableOf planes.Control e options)
 abbrev pub dataMeaning : End → Options → Data
 dataMeaning e options = dataStated (tableOf planes.Data e options)
 
--- the same options, but for their order and for those that say nothing
+-- the same options, but for their order, for the unused bits of a Channel Status, and for those that say nothing
 pub data Shuffled (plane : Plane) (e : End) : Options → Options → Type 0 where
   same : {f : Options} → Shuffled plane e f f
   flip : {f g : Options} → Shuffled plane e f g → Shuffled plane e g f
   chain : {f g h : Options} → Shuffled plane e f g → Shuffled plane e g h → Shuffled plane e f h
   under : {t : ℕ} {c : List ℕ} {f g : Options} → Shuffled plane e f g → Shuffled plane e (option t c f) (option t c g)
   swap : {t u : ℕ} {c d : List ℕ} {f : Options} → Shuffled plane e (option t c (option u d f)) (option u d (option t c f))
+  unused : {n a b : ℕ} {f : Options} → a % 16 ≡ b % 16 → Shuffled plane e (option CHANNEL-STATUS (n ∷ (a ∷ [])) f) (option CHANNEL-STATUS (n ∷ (b ∷ [])) f)
   skip : {t : ℕ} {c : List ℕ} {f : Options} → among t known ≡ false → Shuffled plane e (option t c f) f

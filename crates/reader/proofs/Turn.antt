@@ -7,15 +7,18 @@ use native.Mathlib.Nat.{add-sub-cancel-left}
 use lib.ListN.{length, take, drop, length-drop}
 use lib.Seq.{take-all, drop-drop, length-take-le}
 use Rattle.quantity.specs.Refusals.{CUT}
-use Rattle.wire.specs.declared.option.Frame.{Frame}
 use Rattle.wire.specs.declared.option.Frame.the-variants.{Cut, Whole}
 use Rattle.wire.specs.Options.{frameOf, split}
 use Rattle.wire.proofs.Options.{frame-tells, split-end, split-cut, split-whole}
-use Rattle.reader.specs.Judging.{Step, next, stop, Rules, judge}
+use Rattle.reader.specs.Judging.{next, stop, Rules, judge}
 
 -- a part up to the end is what is left
 pub rest-part : (a : ℕ) (s : List ℕ) → take (length s - a) (drop a s) ≡ drop a s
 rest-part a s = take-all (length s - a) (drop a s) (rw length-drop (omega arith))
+
+-- a whole option at a place, of n bytes of content, ends within the datagram
+pub reaches : (s : List ℕ) (at kind n : ℕ) → Whole kind n ≡ frameOf (take (length s - at) (drop at s)) → at + 3 + n ≤ length s
+reaches s at kind n w = let f = frame-tells (drop at s) kind n (rw rest-part at (sym w)) .inside in omega (arith, rw length-drop at f)
 
 -- whole: what reading the datagram gives; at: an option's first byte; m: what is stated so far
 module _ {A B : Type 0} (R : Rules A B) {whole : B} (s : List ℕ) (at : ℕ) (m : A) (inv : whole ≡ judge R (split (drop at s)) at m) where
@@ -30,7 +33,7 @@ module _ {A B : Type 0} (R : Rules A B) {whole : B} (s : List ℕ) (at : ℕ) (m
   -- a whole option of a type and n bytes of content
   module _ (kind n : ℕ) (w : Whole kind n ≡ frameOf (take (length s - at) (drop at s))) (h : at < length s) where
     pub fits : at + 3 + n ≤ length s
-    fits = let f = frame-tells (drop at s) kind n (rw rest-part at (sym w)) .inside in omega (arith, rw length-drop at f)
+    fits = reaches s at kind n w
 
     pub again : (m′ : A) → R .step kind (take (at + 3 + n - (at + 3)) (drop (at + 3) s)) m ≡ next m′
         → whole ≡ judge R (split (drop (at + 3 + n) s)) (at + 3 + n) m′

@@ -1,2 +1,7 @@
 // Reading a message of either end and either plane.
 pub mod answer;
+pub mod control;
+pub mod data;
+pub mod header;
+pub mod option;
+pub mod packet;

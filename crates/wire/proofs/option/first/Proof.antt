@@ -18,16 +18,16 @@ shared-slice-read-size : tie.Need-shared-slice-read-size
 shared-slice-read-size c = search needs
 
 cast-size : tie.Need-cast-size
-cast-size c = omega (arith, c .shared-slice-known .given 1)
+cast-size c = omega (arith, c .shared-slice-known .given 1, c .shared-slice-known .given 2)
 
 mul-size : tie.Need-mul-size
-mul-size c = omega (arith, c .shared-slice-known .given 1)
+mul-size c = omega (arith, c .shared-slice-known .given 1, c .shared-slice-known .given 2)
 
 shared-slice-read-size-2 : tie.Need-shared-slice-read-size-2
 shared-slice-read-size-2 c = search needs
 
 cast-size-2 : tie.Need-cast-size-2
-cast-size-2 c = omega (arith, c .shared-slice-known2 .given 2)
+cast-size-2 c = omega (arith, c .shared-slice-known2 .given 1, c .shared-slice-known2 .given 2)
 
 add-size : tie.Need-add-size
 add-size c = omega (arith, c .shared-slice-known2 .given 1, c .shared-slice-known2 .given 2)

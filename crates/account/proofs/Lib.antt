@@ -1,0 +1,15 @@
+-- The account of an accepted message. The promises: in Control and Data, what is accepted, what it means, and that order, unused bits and skipped
+-- options carry no meaning; in Own, that its options are unique; in Standing, that what is looked up stands there; in Examples, the starred rows.
+pub mod Lists
+pub mod Seats
+pub mod Body
+pub mod Own
+pub mod Standing
+pub mod Cells
+pub mod Account
+pub mod Shuffle
+pub mod Tables
+pub mod Ours
+pub mod Control
+pub mod Data
+pub mod Examples

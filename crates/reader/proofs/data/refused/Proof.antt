@@ -1,0 +1,12 @@
+-- `reader::data::refused` gives the number and the place, and a message that states nothing. Assumes nothing.
+use borrow.Author.Needs.{needs}
+use Rattle.reader.specs.Readings.{dataRefused}
+use Rattle.reader.proofs.data.refused.Statement.{statement}
+use Rattle.reader.proofs.data.refused.Tie as tie
+
+returns : tie.Need-returns
+unfolding dataRefused
+returns c = rw (c .blank .ensures)
+
+pub refused-spec : {M : Type 1} → statement M
+refused-spec = tie.close (tie.spec (λ c κs. search needs) returns)

@@ -1,0 +1,187 @@
+// What one option states, by its content: each kind tests the length (4), then the value (5).
+ghost use mathlib.Core.Path.{_≡_};
+ghost use mathlib.Core.Bool.{true};
+ghost use Rattle.meaning.specs.Kinds.{among, known, lengthListed, DATALINK-IDENTIFIER, LINK-INSTANCE, DATALINK-CONTEXT, CHANNEL-STATUS, FLOW-WINDOW, CHANNEL-IDENTIFIER, EXPIRATION-TIME, FLOW-SEQUENCE};
+ghost use Rattle.reader.specs.Items.{statedOf, answerOf, numberOf, Placed};
+use crate::answer::Item;
+use crate::answer::OptionAnswer;
+use meaning::kind;
+use meaning::message::ContextBytes;
+use meaning::message::End;
+use meaning::message::Plane;
+use meaning::message::Window;
+use quantity::count::DatalinkId;
+use quantity::count::FlowSequence;
+use quantity::count::FlowWindow;
+use quantity::count::LinkInstanceId;
+use quantity::limit::LONGEST_NAME;
+use quantity::limit::RESERVED_CHANNEL;
+use quantity::limit::SHORTEST_NAME;
+use quantity::refusal::LENGTH;
+use quantity::refusal::UNLISTED;
+use quantity::refusal::VALUE;
+use wire::number;
+
+fn datalink(content: &[u8]) -> OptionAnswer
+    ensures { λ r. ⌜ r ≡ statedOf DATALINK-IDENTIFIER (now (content .entry)) ⌝ }
+{
+    if content.len() != 1 {
+        return OptionAnswer::Refused(LENGTH);
+    }
+    OptionAnswer::Took(Item::Datalink(DatalinkId(content[0])))
+}
+
+// Link Instance and Datalink Context have the same lengths.
+fn is_name_length(n: usize) -> bool
+    ensures { λ r. ⌜ r ≡ lengthListed LINK-INSTANCE n ⌝ }
+{
+    if n < SHORTEST_NAME {
+        return false;
+    }
+    n <= LONGEST_NAME
+}
+
+fn instance(content: &[u8]) -> OptionAnswer
+    ensures { λ r. ⌜ r ≡ statedOf LINK-INSTANCE (now (content .entry)) ⌝ }
+{
+    let n = content.len();
+    if !is_name_length(n) {
+        return OptionAnswer::Refused(LENGTH);
+    }
+    OptionAnswer::Took(Item::Instance(LinkInstanceId(number::read(content)), n))
+}
+
+fn context(content: &[u8]) -> OptionAnswer
+    ensures { λ r. ⌜ r ≡ statedOf DATALINK-CONTEXT (now (content .entry)) ⌝ }
+{
+    let n = content.len();
+    if !is_name_length(n) {
+        return OptionAnswer::Refused(LENGTH);
+    }
+    OptionAnswer::Took(Item::Context(ContextBytes(number::read(content)), n))
+}
+
+fn status(content: &[u8]) -> OptionAnswer
+    ensures { λ r. ⌜ r ≡ statedOf CHANNEL-STATUS (now (content .entry)) ⌝ }
+{
+    if content.len() != 2 {
+        return OptionAnswer::Refused(LENGTH);
+    }
+    let channel = content[0];
+    if RESERVED_CHANNEL <= channel {
+        return OptionAnswer::Refused(VALUE);
+    }
+    // the four higher bits are unused
+    OptionAnswer::Took(Item::Status(channel, content[1] % 16))
+}
+
+// A Flow Window's field may be left out.
+fn is_window_length(n: usize) -> bool
+    ensures { λ r. ⌜ r ≡ lengthListed FLOW-WINDOW n ⌝ }
+{
+    match n {
+        1 => true,
+        5 => true,
+        _ => false,
+    }
+}
+
+fn window(content: &[u8]) -> OptionAnswer
+    ensures { λ r. ⌜ r ≡ statedOf FLOW-WINDOW (now (content .entry)) ⌝ }
+{
+    let n = content.len();
+    if !is_window_length(n) {
+        return OptionAnswer::Refused(LENGTH);
+    }
+    let channel = content[0];
+    if RESERVED_CHANNEL <= channel {
+        return OptionAnswer::Refused(VALUE);
+    }
+    if n == 1 {
+        return OptionAnswer::Took(Item::Window(channel, Window::Empty));
+    }
+    let word = number::read(&content[1..]) as u32;
+    OptionAnswer::Took(Item::Window(channel, Window::Given(FlowWindow(word))))
+}
+
+fn channel(content: &[u8]) -> OptionAnswer
+    ensures { λ r. ⌜ r ≡ statedOf CHANNEL-IDENTIFIER (now (content .entry)) ⌝ }
+{
+    if content.len() != 1 {
+        return OptionAnswer::Refused(LENGTH);
+    }
+    let id = content[0];
+    if RESERVED_CHANNEL <= id {
+        return OptionAnswer::Refused(VALUE);
+    }
+    OptionAnswer::Took(Item::Channel(id))
+}
+
+fn expiration(content: &[u8]) -> OptionAnswer
+    ensures { λ r. ⌜ r ≡ statedOf EXPIRATION-TIME (now (content .entry)) ⌝ }
+{
+    if content.len() != 4 {
+        return OptionAnswer::Refused(LENGTH);
+    }
+    let time = number::read(content);
+    // section 3.3.9 reserves 0
+    if time == 0 {
+        return OptionAnswer::Refused(VALUE);
+    }
+    OptionAnswer::Took(Item::Expiration(time as u32))
+}
+
+fn sequence(content: &[u8]) -> OptionAnswer
+    ensures { λ r. ⌜ r ≡ statedOf FLOW-SEQUENCE (now (content .entry)) ⌝ }
+{
+    if content.len() != 5 {
+        return OptionAnswer::Refused(LENGTH);
+    }
+    let channel = content[0];
+    if RESERVED_CHANNEL <= channel {
+        return OptionAnswer::Refused(VALUE);
+    }
+    let word = number::read(&content[1..]) as u32;
+    OptionAnswer::Took(Item::Sequence(channel, FlowSequence(word)))
+}
+
+// What an option of a known type states, Flow Sequence being the one left at the end. Packet Data may have any content.
+fn stated(kind: u8, content: &[u8]) -> OptionAnswer
+    requires { ⌜ among kind known ≡ true ⌝ }
+    ensures { λ r. ⌜ r ≡ statedOf kind (now (content .entry)) ⌝ }
+{
+    match kind {
+        kind::DATALINK_IDENTIFIER => datalink(content),
+        kind::LINK_INSTANCE => instance(content),
+        kind::DATALINK_CONTEXT => context(content),
+        kind::CHANNEL_STATUS => status(content),
+        kind::FLOW_WINDOW => window(content),
+        kind::PACKET_DATA => OptionAnswer::Took(Item::Packet),
+        kind::CHANNEL_IDENTIFIER => channel(content),
+        kind::EXPIRATION_TIME => expiration(content),
+        _ => sequence(content),
+    }
+}
+
+// An option in a message of a plane and an end: 6, 4, 5, or what it states. An unknown one is skipped.
+pub fn answer(plane: Plane, end: End, kind: u8, content: &[u8]) -> OptionAnswer
+    ensures value { λ r. ⌜ r ≡ answerOf plane end kind (now (content .entry)) ⌝ }
+    ensures placed { λ r. ⌜ Placed r ⌝ }
+{
+    if !kind::is_known(kind) {
+        return OptionAnswer::Took(Item::Skipped);
+    }
+    if !kind::may_hold(plane, end, kind) {
+        return OptionAnswer::Refused(UNLISTED);
+    }
+    stated(kind, content)
+}
+
+pub fn number_of(answer: OptionAnswer) -> u8
+    ensures { λ r. ⌜ r ≡ numberOf answer ⌝ }
+{
+    match answer {
+        OptionAnswer::Took(_) => 0,
+        OptionAnswer::Refused(number) => number,
+    }
+}

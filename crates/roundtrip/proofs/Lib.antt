@@ -1,0 +1,7 @@
+-- The round trip, for the crates above this one.
+pub mod Adding
+pub mod Tables
+pub mod Control
+pub mod Data
+pub mod Answers
+pub mod Returned
