@@ -1,0 +1,212 @@
+-- What is unread, moved and read. Assumes nothing.
+use mathlib.Core.Path.{_≡_, refl, sym, ap, _∙_}
+use mathlib.Core.Bool.{Bool, true, false, cond, _&&_, _||_}
+use mathlib.Core.List.{List}
+use Prim.Native.Nat.{ℕ, zero, suc, _+_, _-_, _≤_, _<_}
+use native.Mathlib.Numerals.{add-one}
+use native.Mathlib.Omega.{arith}
+use borrow.Author.Tests.{lt-ltb, le-ltb, ltb-true, leb-true, eq-eqb, ne-eqb}
+use borrow.Rule.Slice.PartMut.{midOf, putMid, take-put, mid-len}
+use lib.Dec.{ltb, leb, eqb}
+use lib.ListN.{length, getD, take, drop, set, length-set, length-drop}
+use lib.Seq.{length-take-le, take-add, drop-at, getD-drop, paste, paste-zero, paste-suc, take-paste, drop-paste, length-paste}
+use Rattle.bytes.specs.Bytes.{indexOf, slice}
+use Rattle.lines.specs.declared.Input.{Input}
+use Rattle.lines.specs.declared.Found.the-variants.{More, End, Line, Over}
+use Rattle.lines.specs.Unread.{tidyOf, restOf, lineOf, lastOf, foundOf, nextOf, lostOf, keptOf, Behind, Filled}
+
+-- ---- where what is unread lies
+
+both : (a b : Bool) → (a && b) ≡ true → (a ≡ true) × (b ≡ true)
+both true b e = (refl, e)
+both false b e = ((cc), (cc))
+
+pub tidy-is : (size : ℕ) (input : Input) → tidyOf size input ≡ true → (input .at ≤ input .have) × (input .have ≤ size)
+unfolding tidyOf
+tidy-is size input e =
+    let k = both (leb (input .at) (input .have)) (leb (input .have) size) e in
+    (leb-true _ _ (k .0), leb-true _ _ (k .1))
+
+-- ---- what stands next
+
+module _ (input : Input) where
+  pub last-is : (b : Bool) → (input .over || ltb (input .at) (input .have)) ≡ b → cond b (lineOf input (input .have) (input .have)) End ≡ lastOf input
+  unfolding lastOf
+  last-is b e = rw e
+
+  module _ (buffer : List ℕ) where
+    pub next-end : tidyOf (length buffer) input ≡ false → End ≡ nextOf buffer input
+    unfolding nextOf
+    next-end t = rw t
+
+    module _ {to : ℕ} (t : tidyOf (length buffer) input ≡ true) (e : to ≡ input .at + indexOf 10 (slice (input .at) (input .have) buffer)) where
+      found-is : foundOf input to ≡ nextOf buffer input
+      unfolding nextOf
+      found-is = rw t (ap (foundOf input) e)
+
+      pub next-line : to < input .have → lineOf input to (to + 1) ≡ nextOf buffer input
+      unfolding foundOf
+      next-line h = sym (rw (lt-ltb to (input .have) h)) ∙ found-is
+
+      pub next-last : input .have ≤ to → input .ended ≡ true → lastOf input ≡ nextOf buffer input
+      unfolding foundOf
+      next-last h g = sym (rw (le-ltb to (input .have) h, g)) ∙ found-is
+
+      pub next-more : input .have ≤ to → input .ended ≡ false → More ≡ nextOf buffer input
+      unfolding foundOf
+      next-more h g = sym (rw (le-ltb to (input .have) h, g)) ∙ found-is
+
+-- ---- bytes moved down
+
+pub record Moves (buffer : List ℕ) (from n i : ℕ) (buffer′ : List ℕ) : Type 0 where
+  pub within : i ≤ n
+  pub bytes : buffer′ ≡ paste buffer 0 (drop from buffer) i
+  pub size : length buffer′ ≡ length buffer
+
+pub move-none : (buffer : List ℕ) (from n : ℕ) → Moves buffer from n 0 buffer
+move-none buffer from n = record { within = omega arith; bytes = paste-zero buffer 0 (drop from buffer); size = refl }
+
+-- a byte is read behind what was written
+pub move-on : {buffer : List ℕ} {from n i : ℕ} {buffer′ : List ℕ} → Moves buffer from n i buffer′ → from + n ≤ length buffer → i < n
+    → Moves buffer from n (i + 1) (set buffer′ i (getD buffer′ (from + i) 0))
+move-on {buffer} {from} {n} {i} {buffer′} k room h = record {
+  within = omega arith;
+  bytes =
+      rw (k .bytes)
+      (ap (λ (m : ℕ). set part m (getD part (from + i) 0)) z
+      ∙ ap (set part (0 + i)) same
+      ∙ rw (add-one i) (paste-suc buffer 0 (drop from buffer) i 0 (omega arith) fits));
+  size = simp length-set (k .size);
+}
+  where
+    part : List ℕ
+    part = paste buffer 0 (drop from buffer) i
+
+    z : i ≡ 0 + i
+    z = omega arith
+
+    fits : i < length (drop from buffer)
+    fits = simp length-drop (omega arith)
+
+    far : (l : List ℕ) → getD l (from + i) 0 ≡ getD (drop (0 + i) l) from 0
+    far l = let e : from + i ≡ 0 + i + from = omega arith in ap (λ (m : ℕ). getD l m 0) e ∙ sym (getD-drop (0 + i) l from 0)
+
+    same : getD part (from + i) 0 ≡ getD (drop from buffer) i 0
+    same =
+        far part
+        ∙ ap (λ (l : List ℕ). getD l from 0) (drop-paste buffer 0 (drop from buffer) i (omega arith) (omega (arith, fits)))
+        ∙ sym (far buffer)
+        ∙ sym (getD-drop from buffer i 0)
+
+pub move-end : {buffer : List ℕ} {from n i : ℕ} {buffer′ : List ℕ} → Moves buffer from n i buffer′ → n ≤ i → buffer′ ≡ paste buffer 0 (drop from buffer) n
+move-end {buffer} {from} {n} {i} k h = let e : i ≡ n = omega (arith, k .within) in k .bytes ∙ ap (paste buffer 0 (drop from buffer)) e
+
+-- ---- reading more
+
+same-end : (kept got : ℕ) → eqb got 0 ≡ eqb (kept + got) kept
+same-end kept zero = sym (eq-eqb (kept + 0) kept (omega arith))
+same-end kept (suc got) = ne-eqb (suc got) 0 (omega arith) ∙ sym (ne-eqb (kept + suc got) kept (omega arith))
+
+-- what a read leaves in the part behind the bytes that are kept
+pub behind-is : (buffer : List ℕ) (kept got : ℕ) (dropped : Bool) (part : List ℕ) → kept ≤ length buffer → length part ≡ length (midOf kept (length buffer - kept) buffer) → got ≤ length part
+    → Behind buffer kept dropped (record { at = 0; have = kept + got; over = dropped; ended = eqb got 0 }) (putMid kept (length buffer - kept) buffer part)
+behind-is buffer kept got dropped part h e l =
+    let room : length (midOf kept (length buffer - kept) buffer) ≡ length buffer - kept = mid-len kept (length buffer) buffer (omega arith) in
+    record {
+      start = refl;
+      stays = take-put kept (length buffer - kept) buffer part h;
+      least = omega arith;
+      most = omega arith;
+      over = refl;
+      ended = same-end kept got;
+    }
+
+-- a stretch of a list, taken from its start or from its end
+slice-is : (from to : ℕ) (l : List ℕ) → from ≤ to → to ≤ length l → slice from to l ≡ take (to - from) (drop from l)
+unfolding slice
+slice-is from to l h g =
+    let e : to ≡ from + (to - from) = omega arith in
+    ap (λ (n : ℕ). drop from (take n l)) e
+    ∙ ap (drop from) (take-add from (to - from) l)
+    ∙ drop-at (take from l) (take (to - from) (drop from l)) from (length-take-le from l (omega arith))
+
+module _ (buffer : List ℕ) (input : Input) where
+  -- what is kept stands at the start of a buffer, and more is read behind it
+  filled-is : {buffer₁ : List ℕ} {n : ℕ} {dropped : Bool} {r : Input} {buffer₂ : List ℕ} → length buffer₁ ≡ length buffer → n ≤ length buffer₁ → keptOf buffer input ≡ take n buffer₁
+      → (tidyOf (length buffer) input && lostOf (length buffer) input) ≡ dropped → Behind buffer₁ n dropped r buffer₂ → Filled buffer input r buffer₂
+  filled-is {buffer₁} {n} {dropped} {r} {buffer₂} size h kept lost k =
+      let count : length (keptOf buffer input) ≡ n = ap length kept ∙ length-take-le n buffer₁ h in
+      record {
+        start = k .start;
+        kept = rw count (k .stays ∙ sym kept);
+        least = omega (arith, k .least);
+        most = omega (arith, k .most);
+        over = k .over ∙ sym lost;
+        ended = rw count (k .ended);
+      }
+
+  pub filled-none : tidyOf (length buffer) input ≡ false → Filled buffer input (record { at = 0; have = 0; over = false; ended = true }) buffer
+  unfolding keptOf
+  filled-none t =
+      let k : Behind buffer 0 false (record { at = 0; have = 0; over = false; ended = true }) buffer = record { start = refl; stays = refl; least = omega arith; most = omega arith; over = refl; ended = refl } in
+      filled-is refl (omega arith) (rw t) (rw t) k
+
+  module _ (t : tidyOf (length buffer) input ≡ true) where
+    pub filled-lost : {r : Input} {buffer₂ : List ℕ} → lostOf (length buffer) input ≡ true → Behind buffer 0 true r buffer₂ → Filled buffer input r buffer₂
+    unfolding keptOf
+    filled-lost lost k = filled-is refl (omega arith) (rw (t, lost)) (rw (t, lost)) k
+
+    pub filled-kept : {buffer₁ : List ℕ} {r : Input} {buffer₂ : List ℕ} → lostOf (length buffer) input ≡ false
+        → buffer₁ ≡ paste buffer 0 (drop (input .at) buffer) (input .have - input .at)
+        → Behind buffer₁ (input .have - input .at) false r buffer₂ → Filled buffer input r buffer₂
+    unfolding keptOf
+    filled-kept {buffer₁} lost moved k =
+        let within = tidy-is (length buffer) input t in
+        let n : ℕ = input .have - input .at in
+        let fits : n ≤ length (drop (input .at) buffer) = simp length-drop (omega arith) in
+        let size : length buffer₁ ≡ length buffer = ap length moved ∙ length-paste buffer 0 (drop (input .at) buffer) n (omega arith) fits in
+        let z : n ≡ 0 + n = omega arith in
+        let front : take n buffer₁ ≡ take n (drop (input .at) buffer) = rw moved (ap (λ (m : ℕ). take m (paste buffer 0 (drop (input .at) buffer) n)) z ∙ take-paste buffer 0 (drop (input .at) buffer) n (omega arith) fits) in
+        filled-is size (omega arith) (rw (t, lost) (slice-is (input .at) (input .have) buffer (within .0) (within .1) ∙ sym front)) (rw (t, lost)) k
+
+-- ---- what a caller goes by: a line that is found lies within the buffer
+
+module _ (input : Input) {from to : ℕ} {rest : Input} where
+  line-ends : (end at : ℕ) → lineOf input end at ≡ Line from to rest → (from ≡ input .at) × (to ≡ end)
+  unfolding lineOf
+  line-ends end at e = go (input .over) e
+    where
+      go : (b : Bool) → cond b (Over (restOf input at)) (Line (input .at) end (restOf input at)) ≡ Line from to rest → (from ≡ input .at) × (to ≡ end)
+      go true p = ((cc), (cc))
+      go false p = ((cc), (cc))
+
+  last-ends : lastOf input ≡ Line from to rest → (from ≡ input .at) × (to ≡ input .have)
+  unfolding lastOf
+  last-ends e = go (input .over || ltb (input .at) (input .have)) e
+    where
+      go : (b : Bool) → cond b (lineOf input (input .have) (input .have)) End ≡ Line from to rest → (from ≡ input .at) × (to ≡ input .have)
+      go true p = line-ends (input .have) (input .have) p
+      go false p = ((cc), (cc))
+
+  found-ends : (end : ℕ) → foundOf input end ≡ Line from to rest → input .at ≤ end → input .at ≤ input .have → (from ≤ to) × (to ≤ input .have)
+  unfolding foundOf
+  found-ends end e h g = go (ltb end (input .have)) refl (input .ended) e
+    where
+      go : (b : Bool) → ltb end (input .have) ≡ b → (b′ : Bool) → cond b (lineOf input end (end + 1)) (cond b′ (lastOf input) More) ≡ Line from to rest → (from ≤ to) × (to ≤ input .have)
+      go true q b′ p = let k = line-ends end (end + 1) p in omega (arith, ltb-true end (input .have) q)
+      go false q true p = let k = last-ends p in omega arith
+      go false q false p = let z : _≡_ {A = ℕ} 0 1 = cc in absurd (omega arith)
+
+pub next-inside : (buffer : List ℕ) (input : Input) {from to : ℕ} {rest : Input} → nextOf buffer input ≡ Line from to rest → (from ≤ to) × (to ≤ length buffer)
+unfolding nextOf
+next-inside buffer input {from} {to} {rest} e = go (tidyOf (length buffer) input) refl e
+  where
+    newline : ℕ
+    newline = input .at + indexOf 10 (slice (input .at) (input .have) buffer)
+
+    go : (b : Bool) → tidyOf (length buffer) input ≡ b → cond b (foundOf input newline) End ≡ Line from to rest → (from ≤ to) × (to ≤ length buffer)
+    go true t p =
+        let within = tidy-is (length buffer) input t in
+        let k = found-ends input newline p (omega arith) (within .0) in
+        omega arith
+    go false t p = let z : _≡_ {A = ℕ} 0 1 = cc in absurd (omega arith)

@@ -1,0 +1,2 @@
+-- The laws of lines, for this crate's proofs and for those above it.
+pub mod Laws

@@ -1,0 +1,68 @@
+-- What was read of an input and isn't handed on yet.
+use mathlib.Core.Path.{_≡_}
+use mathlib.Core.Bool.{Bool, false, not, cond, _&&_, _||_}
+use mathlib.Core.List.{List, []}
+use Prim.Native.Nat.{ℕ, _+_, _≤_}
+use lib.Dec.{ltb, leb, eqb}
+use lib.ListN.{length, take}
+use Rattle.bytes.specs.Bytes.{indexOf, slice}
+use Rattle.lines.specs.declared.Input.{Input}
+use Rattle.lines.specs.declared.Found.{Found}
+use Rattle.lines.specs.declared.Found.the-variants.{More, End, Line, Over}
+
+-- nothing is read yet
+abbrev pub startOf : Input
+startOf = record { at = 0; have = 0; over = false; ended = false }
+
+-- whether what is unread lies within a buffer of so many bytes
+unfoldable pub tidyOf : ℕ → Input → Bool
+tidyOf size input = leb (input .at) (input .have) && leb (input .have) size
+
+-- ---- what stands next
+
+-- the input from an index on, behind a line
+abbrev pub restOf : Input → ℕ → Input
+restOf input at = record { at = at; have = input .have; over = false; ended = input .ended }
+
+-- the line up to an index, and the input from another index on; of a line that was dropped, only that
+unfoldable pub lineOf : Input → ℕ → ℕ → Found
+lineOf input to at = cond (input .over) (Over (restOf input at)) (Line (input .at) to (restOf input at))
+
+-- where no newline stands and nothing more comes: a line that was dropped or isn't empty
+unfoldable pub lastOf : Input → Found
+lastOf input = cond (input .over || ltb (input .at) (input .have)) (lineOf input (input .have) (input .have)) End
+
+-- by where the next newline stands, or what was read ends
+unfoldable pub foundOf : Input → ℕ → Found
+foundOf input to = cond (ltb to (input .have)) (lineOf input to (to + 1)) (cond (input .ended) (lastOf input) More)
+
+unfoldable pub nextOf : List ℕ → Input → Found
+nextOf buffer input = cond (tidyOf (length buffer) input) (foundOf input (input .at + indexOf 10 (slice (input .at) (input .have) buffer))) End
+
+-- ---- reading more
+
+-- whether the unread line is dropped: its start was, or it fills the buffer
+unfoldable pub lostOf : ℕ → Input → Bool
+lostOf size input = input .over || eqb (input .at) 0 && eqb (input .have) size
+
+-- the bytes that are kept
+unfoldable pub keptOf : List ℕ → Input → List ℕ
+keptOf buffer input = cond (tidyOf (length buffer) input && not (lostOf (length buffer) input)) (slice (input .at) (input .have) buffer) []
+
+-- bytes at the start of a buffer stay, and more may stand behind them; where none do, the input is at its end
+pub record Behind (buffer : List ℕ) (kept : ℕ) (dropped : Bool) (r : Input) (buffer′ : List ℕ) : Type 0 where
+  pub start : r .at ≡ 0
+  pub stays : take kept buffer′ ≡ take kept buffer
+  pub least : kept ≤ r .have
+  pub most : r .have ≤ length buffer
+  pub over : r .over ≡ dropped
+  pub ended : r .ended ≡ eqb (r .have) kept
+
+-- what is kept stands at the start, and what was read behind it
+pub record Filled (buffer : List ℕ) (input : Input) (r : Input) (buffer′ : List ℕ) : Type 0 where
+  pub start : r .at ≡ 0
+  pub kept : take (length (keptOf buffer input)) buffer′ ≡ keptOf buffer input
+  pub least : length (keptOf buffer input) ≤ r .have
+  pub most : r .have ≤ length buffer
+  pub over : r .over ≡ (tidyOf (length buffer) input && lostOf (length buffer) input)
+  pub ended : r .ended ≡ eqb (r .have) (length (keptOf buffer input))

@@ -1,0 +1,51 @@
+// What a table states, by rising Channel ID.
+ghost use Rattle.phrase.specs.Saying.{Says};
+ghost use Rattle.phrase.specs.Phrases.{tableTexts, statusTexts, sequenceTexts, windowTexts};
+use crate::part::{sequence, status, window};
+use meaning::message::{SequenceCell, StatusCell, WindowCell};
+use quantity::limit::CHANNEL_IDS;
+
+pub fn statuses(out: &mut [u8], at: usize, cells: [StatusCell; CHANNEL_IDS]) -> usize
+    ensures { λ r. ⌜ Says (now (out .entry)) at (tableTexts (λ n cell. statusTexts n (cell .status)) 0 cells) r (now (out .exit)) ⌝ }
+{
+    let mut behind = at;
+    let mut i: usize = 0;
+    while i < CHANNEL_IDS {
+        let next = i + 1;
+        let cell = cells[i];
+        let stated = cell.status;
+        behind = status(out, behind, i as u8, stated);
+        i = next;
+    }
+    behind
+}
+
+pub fn sequences(out: &mut [u8], at: usize, cells: [SequenceCell; CHANNEL_IDS]) -> usize
+    ensures { λ r. ⌜ Says (now (out .entry)) at (tableTexts (λ n cell. sequenceTexts n (cell .sequence)) 0 cells) r (now (out .exit)) ⌝ }
+{
+    let mut behind = at;
+    let mut i: usize = 0;
+    while i < CHANNEL_IDS {
+        let next = i + 1;
+        let cell = cells[i];
+        let stated = cell.sequence;
+        behind = sequence(out, behind, i as u8, stated);
+        i = next;
+    }
+    behind
+}
+
+pub fn windows(out: &mut [u8], at: usize, cells: [WindowCell; CHANNEL_IDS]) -> usize
+    ensures { λ r. ⌜ Says (now (out .entry)) at (tableTexts (λ n cell. windowTexts n (cell .window)) 0 cells) r (now (out .exit)) ⌝ }
+{
+    let mut behind = at;
+    let mut i: usize = 0;
+    while i < CHANNEL_IDS {
+        let next = i + 1;
+        let cell = cells[i];
+        let stated = cell.window;
+        behind = window(out, behind, i as u8, stated);
+        i = next;
+    }
+    behind
+}

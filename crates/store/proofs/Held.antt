@@ -1,0 +1,188 @@
+-- A queue and a store that hold packets: what the crates above cite. Assumes nothing.
+use mathlib.Core.Bool.{Bool, true, false, _&&_, _||_}
+use mathlib.Core.Path.{_≡_, refl, ap}
+use mathlib.Core.List.{List, [], _∷_, _++_, map, tail, append-assoc, append-nil}
+use Prim.Native.Nat.{ℕ, zero, suc, _+_, _-_, _<_, _≤_}
+use native.Mathlib.Nat.{zero-add, suc-add}
+use native.Mathlib.Omega.{arith}
+use borrow.Author.Tests.{leb-true, leb-false, ltb-false, le-leb}
+use lib.Dec.{leb, ltb}
+use lib.ListN.{length, take, drop, replicate, length-append, length-replicate, length-map}
+use lib.Seq.{take-append-seam, drop-append-seam, take-nil, take-take}
+use Rattle.quantity.specs.Limits.{MOST-WAITING}
+use Rattle.store.specs.declared.queue.Entry.{Entry}
+use Rattle.store.specs.declared.queue.Queue.{Queue}
+use Rattle.store.specs.declared.waiting.Offered.{Offered}
+use Rattle.store.specs.Packets.{Packet, alive, joined, firstBytes, isFull}
+use Rattle.store.specs.Waiting.{waiting, total, cut, packetsOf, noEntry, listed, entryOf, queueOf, storeOf, Holds, Sound, within, allWithin, wellFormed, Offering}
+use Rattle.store.specs.Parts.{kept, amountOf}
+use Rattle.store.proofs.Lasting.{lasting-ind, lasting-fewer, lasting-again, lasting-map}
+use Rattle.store.proofs.Entries.{waiting-few, both, within-limits, total-kept, total-of, entries-cut, entries-alive}
+
+-- ---- packets that a queue and a store of so many bytes may hold
+pub record Fit (size : ℕ) (ps : List Packet) : Type 0 where
+  pub few : length ps ≤ MOST-WAITING
+  pub room : length (joined ps) ≤ size
+  pub sizes : allWithin (map entryOf ps) ≡ true
+
+-- ---- from packets to a queue and a store, and back
+waiting-listed : (es : List Entry) → waiting (listed es) ≡ es
+unfolding waiting listed
+waiting-listed es = take-append-seam es (replicate (MOST-WAITING - length es) noEntry)
+
+pub waiting-of : (ps : List Packet) → waiting (queueOf ps) ≡ map entryOf ps
+unfolding queueOf
+waiting-of ps = waiting-listed (map entryOf ps)
+
+cut-joined : (ps : List Packet) (z : List ℕ) → cut (map entryOf ps) (joined ps ++ z) ≡ ps
+unfolding cut entryOf joined
+cut-joined [] z = refl
+cut-joined (p ∷ ps) z = rw (append-assoc, take-append-seam, drop-append-seam, cut-joined ps z)
+
+pub packets-of : (size : ℕ) (ps : List Packet) → packetsOf (queueOf ps) (storeOf size ps) ≡ ps
+unfolding packetsOf storeOf
+packets-of size ps = rw (waiting-of ps) (cut-joined ps (replicate (size - length (joined ps)) 0))
+
+module _ (size : ℕ) (ps : List Packet) (q : Queue) (s : List ℕ) (h : Holds size ps q s) where
+  pub holds-packets : packetsOf q s ≡ ps
+  holds-packets = rw (h .queue-is, h .store-is) (packets-of size ps)
+
+  pub holds-count : q .count ≡ length ps
+  unfolding queueOf listed
+  holds-count = rw (h .queue-is) (length-map ps entryOf)
+
+  pub holds-length : length (joined ps) ≤ size → length s ≡ size
+  unfolding storeOf
+  holds-length k = rw (h .store-is) (simp (length-append, length-replicate) (omega arith))
+
+  pub holds-well : Fit size ps → wellFormed q size ≡ true
+  unfolding wellFormed
+  holds-well f =
+      rw (le-leb (q .count) MOST-WAITING (omega (arith, holds-count, f .few)))
+      (rw (h .queue-is, waiting-of ps, f .sizes, total-of ps) (le-leb (length (joined ps)) size (f .room)))
+
+-- ---- what the test of a queue tells
+module _ (q : Queue) (size : ℕ) (e : wellFormed q size ≡ true) where
+  well-parts : (q .count ≤ MOST-WAITING) × (allWithin (waiting q) ≡ true) × (total (waiting q) ≤ size)
+  unfolding wellFormed
+  well-parts =
+      let x = both (leb (q .count) MOST-WAITING && allWithin (waiting q)) (leb (total (waiting q)) size) e in
+      let y = both (leb (q .count) MOST-WAITING) (allWithin (waiting q)) (x .0) in
+      (leb-true (q .count) MOST-WAITING (y .0), y .1, leb-true (total (waiting q)) size (x .1))
+
+  pub well-sound : (s : List ℕ) → length s ≡ size → Sound q s
+  well-sound s l = record { few = well-parts .0; room = omega (arith, well-parts .2, l) }
+
+  pub well-fit : (s : List ℕ) → length s ≡ size → Fit size (packetsOf q s)
+  unfolding packetsOf
+  well-fit s l =
+      let entries : map entryOf (cut (waiting q) s) ≡ waiting q = entries-cut (waiting q) s (omega (arith, well-parts .2, l)) in
+      record {
+        few = omega (arith, length-map (cut (waiting q) s) entryOf, ap length entries, waiting-few q, well-parts .0);
+        room = omega (arith, total-of (cut (waiting q) s), ap total entries, well-parts .2);
+        sizes = rw entries (well-parts .1);
+      }
+
+-- ---- packets that leave or join still fit
+pub fit-none : (size : ℕ) → Fit size []
+unfolding joined allWithin
+fit-none size = record { few = omega arith; room = omega arith; sizes = refl }
+
+within-kept : (t : ℕ) (es : List Entry) → allWithin es ≡ true → allWithin (kept t es) ≡ true
+unfolding allWithin
+within-kept =
+    lasting-ind (λ (e : Entry). e .expiry) (λ ys xs. allWithin xs ≡ true → allWithin ys ≡ true) (λ h. h)
+    (λ e ys xs f h. let k = both (within (e .length .0)) (allWithin xs) h in rw (k .0) (f (k .1)))
+    (λ e ys xs f h. f (both (within (e .length .0)) (allWithin xs) h .1))
+
+pub fit-alive : (size t : ℕ) (ps : List Packet) → Fit size ps → Fit size (alive t ps)
+unfolding entryOf
+fit-alive size t ps f =
+    let entries : map entryOf (alive t ps) ≡ kept t (map entryOf ps) = lasting-map (λ (e : Entry). e .expiry) entryOf t ps in
+    record {
+      few = omega (arith, f .few, lasting-fewer (λ (p : Packet). p .expiry) t ps);
+      room = omega (arith, f .room, total-of ps, total-of (alive t ps), ap total entries, total-kept t (map entryOf ps));
+      sizes = rw entries (within-kept t (map entryOf ps) (f .sizes));
+    }
+
+pub fit-tail : (size : ℕ) (ps : List Packet) → Fit size ps → Fit size (tail ps)
+unfolding joined allWithin entryOf
+fit-tail size [] f = f
+fit-tail size (p ∷ ps) f = record {
+  few = omega (arith, f .few);
+  room = omega (arith, f .room, length-append (p .bytes) (joined ps));
+  sizes = both (within (length (p .bytes))) (allWithin (map entryOf ps)) (f .sizes) .1;
+}
+
+pub joined-join : (ps : List Packet) (p : Packet) → joined (ps ++ (p ∷ [])) ≡ joined ps ++ p .bytes
+unfolding joined
+joined-join [] p = append-nil (p .bytes)
+joined-join (x ∷ ps) p = rw (joined-join ps p, append-assoc)
+
+within-join : (ps : List Packet) (p : Packet) → allWithin (map entryOf ps) ≡ true → within (length (p .bytes)) ≡ true → allWithin (map entryOf (ps ++ (p ∷ []))) ≡ true
+unfolding allWithin entryOf
+within-join [] p e d = rw d
+within-join (x ∷ ps) p e d =
+    let h = both (within (length (x .bytes))) (allWithin (map entryOf ps)) e in
+    rw (h .0) (within-join ps p (h .1) d)
+
+-- ---- room
+neither : (a b : Bool) → (a || b) ≡ false → (a ≡ false) × (b ≡ false)
+neither true b e = ((cc), (cc))
+neither false b e = (refl, e)
+
+pub room-left : (size : ℕ) (ps : List Packet) (p : Packet) → isFull size ps p ≡ false → (length ps < MOST-WAITING) × (length (joined ps) + length (p .bytes) ≤ size)
+unfolding isFull
+room-left size ps p e =
+    let h = neither (leb MOST-WAITING (length ps)) (ltb size (length (joined ps) + length (p .bytes))) e in
+    (leb-false MOST-WAITING (length ps) (h .0), ltb-false size (length (joined ps) + length (p .bytes)) (h .1))
+
+pub fit-join : (size : ℕ) (ps : List Packet) (p : Packet) → Fit size ps → within (length (p .bytes)) ≡ true → isFull size ps p ≡ false → Fit size (ps ++ (p ∷ []))
+fit-join size ps p f d e = record {
+  few = simp length-append (omega (arith, room-left size ps p e));
+  room = rw (joined-join ps p, length-append) (room-left size ps p e .1);
+  sizes = within-join ps p (f .sizes) d;
+}
+
+-- ---- the answers
+pub alive-again : (s t : ℕ) (ps : List Packet) → s ≤ t → alive t (alive s ps) ≡ alive t ps
+alive-again = lasting-again (λ (p : Packet). p .expiry)
+
+pub fit-first : (size : ℕ) (p : Packet) (ps : List Packet) → Fit size (p ∷ ps) → within (length (p .bytes)) ≡ true
+unfolding allWithin entryOf
+fit-first size p ps f = both (within (length (p .bytes))) (allWithin (map entryOf ps)) (f .sizes) .0
+
+-- a packet that waits is not empty, so no bytes mean that none waits
+pub first-none : (size : ℕ) (ps : List Packet) → Fit size ps → length (firstBytes ps) ≡ 0 → ps ≡ []
+unfolding firstBytes
+first-none size [] f e = refl
+first-none size (p ∷ ps) f e = absurd (omega (arith, within-limits (length (p .bytes)) (fit-first size p ps f)))
+
+pub load-packets : (q : Queue) (s : List ℕ) (t : ℕ) → Sound q s
+    → amountOf (kept t (waiting q)) ≡ record { packets = length (alive t (packetsOf q s)); bytes = record { 0 = length (joined (alive t (packetsOf q s))) } }
+unfolding amountOf packetsOf
+load-packets q s t so = rw (← (entries-alive t (waiting q) s (so .room)), length-map, total-of)
+
+module _ (q : Queue) (s : List ℕ) (ps : List Packet) (p : Packet) (r : Offered) (s′ : List ℕ) (o : Offering q s ps p r s′) where
+  pub offering-taken : isFull (length s) ps p ≡ false → Holds (length s) (ps ++ (p ∷ [])) (r .queue) s′
+  offering-taken e = record { queue-is = rw e at (o .queue-is); store-is = rw e at (o .store-is) }
+
+  pub offering-refused : isFull (length s) ps p ≡ true → (r .queue ≡ q) × (s′ ≡ s)
+  offering-refused e = ((rw e at (o .queue-is)), (rw e at (o .store-is)))
+
+-- ---- what stands behind the waiting bytes makes no difference
+drop-take : (n m : ℕ) (s : List ℕ) → drop n (take (n + m) s) ≡ take m (drop n s)
+drop-take zero m s = rw zero-add
+drop-take (suc n) m [] = rw (suc-add, take-nil m)
+drop-take (suc n) m (b ∷ s) = rw suc-add (drop-take n m s)
+
+cut-waiting : (es : List Entry) (s : List ℕ) → cut es s ≡ cut es (take (total es) s)
+unfolding total cut
+cut-waiting [] s = refl
+cut-waiting (e ∷ es) s =
+    let n = e .length .0 in
+    rw (take-take n (n + total es) s (omega arith), drop-take n (total es) s, ← (cut-waiting es (drop n s)))
+
+pub packets-waiting : (q : Queue) (s : List ℕ) → packetsOf q s ≡ packetsOf q (take (total (waiting q)) s)
+unfolding packetsOf
+packets-waiting q s = cut-waiting (waiting q) s
