@@ -1,23 +1,24 @@
 -- What is unread, moved and read. Assumes nothing.
 use mathlib.Core.Path.{_≡_, refl, sym, ap, _∙_}
 use mathlib.Core.Bool.{Bool, true, false, cond, _&&_, _||_}
-use mathlib.Core.List.{List}
+use mathlib.Core.List.{List, [], _∷_}
 use Prim.Native.Nat.{ℕ, zero, suc, _+_, _-_, _≤_, _<_}
 use native.Mathlib.Numerals.{add-one}
 use native.Mathlib.Omega.{arith}
-use borrow.Author.Tests.{lt-ltb, le-ltb, ltb-true, leb-true, eq-eqb, ne-eqb}
+use borrow.Author.Tests.{lt-ltb, le-ltb, ltb-true, ltb-false, leb-true, eq-eqb, ne-eqb}
 use borrow.Rule.Slice.PartMut.{midOf, putMid, take-put, mid-len}
 use lib.Dec.{ltb, leb, eqb}
 use lib.ListN.{length, getD, take, drop, set, length-set, length-drop}
 use lib.Seq.{length-take-le, take-add, drop-at, getD-drop, paste, paste-zero, paste-suc, take-paste, drop-paste, length-paste}
-use Rattle.bytes.specs.Bytes.{indexOf, slice}
+use Rattle.bytes.specs.Bytes.{indexOf, indexAfter, slice}
 use Rattle.lines.specs.declared.Input.{Input}
+use Rattle.lines.specs.declared.Found.{Found}
 use Rattle.lines.specs.declared.Found.the-variants.{More, End, Line, Over}
 use Rattle.lines.specs.Unread.{tidyOf, restOf, lineOf, lastOf, foundOf, nextOf, lostOf, keptOf, Behind, Filled}
 
 -- ---- where what is unread lies
 
-both : (a b : Bool) → (a && b) ≡ true → (a ≡ true) × (b ≡ true)
+pub both : (a b : Bool) → (a && b) ≡ true → (a ≡ true) × (b ≡ true)
 both true b e = (refl, e)
 both false b e = ((cc), (cc))
 
@@ -122,7 +123,7 @@ behind-is buffer kept got dropped part h e l =
     }
 
 -- a stretch of a list, taken from its start or from its end
-slice-is : (from to : ℕ) (l : List ℕ) → from ≤ to → to ≤ length l → slice from to l ≡ take (to - from) (drop from l)
+pub slice-is : (from to : ℕ) (l : List ℕ) → from ≤ to → to ≤ length l → slice from to l ≡ take (to - from) (drop from l)
 unfolding slice
 slice-is from to l h g =
     let e : to ≡ from + (to - from) = omega arith in
@@ -169,44 +170,92 @@ module _ (buffer : List ℕ) (input : Input) where
         let front : take n buffer₁ ≡ take n (drop (input .at) buffer) = rw moved (ap (λ (m : ℕ). take m (paste buffer 0 (drop (input .at) buffer) n)) z ∙ take-paste buffer 0 (drop (input .at) buffer) n (omega arith) fits) in
         filled-is size (omega arith) (rw (t, lost) (slice-is (input .at) (input .have) buffer (within .0) (within .1) ∙ sym front)) (rw (t, lost)) k
 
--- ---- what a caller goes by: a line that is found lies within the buffer
+-- ---- the ways to find what stands next
 
-module _ (input : Input) {from to : ℕ} {rest : Input} where
-  line-ends : (end at : ℕ) → lineOf input end at ≡ Line from to rest → (from ≡ input .at) × (to ≡ end)
-  unfolding lineOf
-  line-ends end at e = go (input .over) e
-    where
-      go : (b : Bool) → cond b (Over (restOf input at)) (Line (input .at) end (restOf input at)) ≡ Line from to rest → (from ≡ input .at) × (to ≡ end)
-      go true p = ((cc), (cc))
-      go false p = ((cc), (cc))
+-- the unread bytes, and where their first newline stands, or they end
+abbrev pub unread : List ℕ → Input → List ℕ
+unread buffer input = slice (input .at) (input .have) buffer
 
-  last-ends : lastOf input ≡ Line from to rest → (from ≡ input .at) × (to ≡ input .have)
-  unfolding lastOf
-  last-ends e = go (input .over || ltb (input .at) (input .have)) e
-    where
-      go : (b : Bool) → cond b (lineOf input (input .have) (input .have)) End ≡ Line from to rest → (from ≡ input .at) × (to ≡ input .have)
-      go true p = line-ends (input .have) (input .have) p
-      go false p = ((cc), (cc))
+abbrev pub stop : List ℕ → Input → ℕ
+stop buffer input = indexOf 10 (unread buffer input)
 
-  found-ends : (end : ℕ) → foundOf input end ≡ Line from to rest → input .at ≤ end → input .at ≤ input .have → (from ≤ to) × (to ≤ input .have)
-  unfolding foundOf
-  found-ends end e h g = go (ltb end (input .have)) refl (input .ended) e
-    where
-      go : (b : Bool) → ltb end (input .have) ≡ b → (b′ : Bool) → cond b (lineOf input end (end + 1)) (cond b′ (lastOf input) More) ≡ Line from to rest → (from ≤ to) × (to ≤ input .have)
-      go true q b′ p = let k = line-ends end (end + 1) p in omega (arith, ltb-true end (input .have) q)
-      go false q true p = let k = last-ends p in omega arith
-      go false q false p = let z : _≡_ {A = ℕ} 0 1 = cc in absurd (omega arith)
+pub data Next (buffer : List ℕ) (input : Input) (found : Found) : Type 0 where
+  a-line : stop buffer input < length (unread buffer input) → input .over ≡ false
+      → found ≡ Line (input .at) (input .at + stop buffer input) (restOf input (input .at + stop buffer input + 1)) → Next buffer input found
+  a-dropped : stop buffer input < length (unread buffer input) → input .over ≡ true
+      → found ≡ Over (restOf input (input .at + stop buffer input + 1)) → Next buffer input found
+  last-line : stop buffer input ≡ length (unread buffer input) → input .ended ≡ true → input .over ≡ false → input .at < input .have
+      → found ≡ Line (input .at) (input .have) (restOf input (input .have)) → Next buffer input found
+  last-dropped : stop buffer input ≡ length (unread buffer input) → input .ended ≡ true → input .over ≡ true
+      → found ≡ Over (restOf input (input .have)) → Next buffer input found
+  unended : stop buffer input ≡ length (unread buffer input) → input .ended ≡ false → found ≡ More → Next buffer input found
+  nothing : input .ended ≡ true → input .over ≡ false → input .have ≤ input .at → found ≡ End → Next buffer input found
 
-pub next-inside : (buffer : List ℕ) (input : Input) {from to : ℕ} {rest : Input} → nextOf buffer input ≡ Line from to rest → (from ≤ to) × (to ≤ length buffer)
-unfolding nextOf
-next-inside buffer input {from} {to} {rest} e = go (tidyOf (length buffer) input) refl e
+index-most : (bytes : List ℕ) → indexOf 10 bytes ≤ length bytes
+unfolding indexOf indexAfter
+index-most [] = omega arith
+index-most (byte ∷ bytes) = go (eqb byte 10) (index-most bytes)
   where
-    newline : ℕ
-    newline = input .at + indexOf 10 (slice (input .at) (input .have) buffer)
+    go : (b : Bool) → indexOf 10 bytes ≤ length bytes → indexAfter b (indexOf 10 bytes) ≤ suc (length bytes)
+    go true h = omega arith
+    go false h = omega arith
 
-    go : (b : Bool) → tidyOf (length buffer) input ≡ b → cond b (foundOf input newline) End ≡ Line from to rest → (from ≤ to) × (to ≤ length buffer)
-    go true t p =
+module _ (buffer : List ℕ) (input : Input) (t : tidyOf (length buffer) input ≡ true) where
+  pub unread-length : length (unread buffer input) ≡ input .have - input .at
+  unfolding slice
+  unread-length = let within = tidy-is (length buffer) input t in simp (length-drop, length-take-le (input .have) buffer (within .1))
+
+  pub next-cases : Next buffer input (nextOf buffer input)
+  unfolding nextOf foundOf lastOf lineOf
+  next-cases = rw t (go (ltb to (input .have)) refl (input .ended) refl (input .over) refl (ltb (input .at) (input .have)) refl)
+    where
+      to : ℕ
+      to = input .at + stop buffer input
+
+      there : ltb to (input .have) ≡ true → stop buffer input < length (unread buffer input)
+      there q = omega (arith, ltb-true to (input .have) q, unread-length)
+
+      none : ltb to (input .have) ≡ false → stop buffer input ≡ length (unread buffer input)
+      none q =
+          let within = tidy-is (length buffer) input t in
+          omega (arith, ltb-false to (input .have) q, unread-length, index-most (unread buffer input))
+
+      line : Bool → ℕ → ℕ → Found
+      line v end at = cond v (Over (restOf input at)) (Line (input .at) end (restOf input at))
+
+      go : (b : Bool) → ltb to (input .have) ≡ b → (e : Bool) → input .ended ≡ e → (v : Bool) → input .over ≡ v → (l : Bool) → ltb (input .at) (input .have) ≡ l
+          → Next buffer input (cond b (line v to (to + 1)) (cond e (cond (v || l) (line v (input .have) (input .have)) End) More))
+      go true q e qe true qv l ql = a-dropped (there q) qv refl
+      go true q e qe false qv l ql = a-line (there q) qv refl
+      go false q true qe true qv l ql = last-dropped (none q) qe qv refl
+      go false q true qe false qv true ql = last-line (none q) qe qv (ltb-true (input .at) (input .have) ql) refl
+      go false q true qe false qv false ql = nothing qe qv (ltb-false (input .at) (input .have) ql) refl
+      go false q false qe v qv l ql = unended (none q) qe refl
+
+-- two answers that can't be one
+pub clash : {A : Type 0} → _≡_ {A = ℕ} 0 1 → A
+clash z = absurd (omega arith)
+
+-- what a caller goes by: a line that is found lies within the buffer
+pub next-inside : (buffer : List ℕ) (input : Input) {from to : ℕ} {rest : Input} → nextOf buffer input ≡ Line from to rest → (from ≤ to) × (to ≤ length buffer)
+next-inside buffer input {from} {to} {rest} e = go (tidyOf (length buffer) input) refl
+  where
+    inside : tidyOf (length buffer) input ≡ true → Next buffer input (nextOf buffer input) → (from ≤ to) × (to ≤ length buffer)
+    inside t (a-line h v p) =
         let within = tidy-is (length buffer) input t in
-        let k = found-ends input newline p (omega arith) (within .0) in
+        let start : from ≡ input .at = cc in
+        let end : to ≡ input .at + stop buffer input = cc in
+        omega (arith, unread-length buffer input t)
+    inside t (last-line h g v l p) =
+        let within = tidy-is (length buffer) input t in
+        let start : from ≡ input .at = cc in
+        let end : to ≡ input .have = cc in
         omega arith
-    go false t p = let z : _≡_ {A = ℕ} 0 1 = cc in absurd (omega arith)
+    inside t (a-dropped h v p) = clash (cc)
+    inside t (last-dropped h g v p) = clash (cc)
+    inside t (unended h g p) = clash (cc)
+    inside t (nothing g v l p) = clash (cc)
+
+    go : (b : Bool) → tidyOf (length buffer) input ≡ b → (from ≤ to) × (to ≤ length buffer)
+    go true t = inside t (next-cases buffer input t)
+    go false t = let p = next-end input buffer t in clash (cc)

@@ -9,9 +9,19 @@ ghost use Rattle.text.specs.Strings.{bytesText};
 ghost use Rattle.text.specs.Laying.{decimalText};
 ghost use Rattle.phrase.specs.Saying.{Says};
 ghost use Rattle.phrase.specs.Phrases.{SPACE, datalinkTexts, instanceTexts, contextTexts, statusTexts, sequenceTexts, windowTexts, countedTexts, channelTexts, expirationTexts};
-use meaning::message::{Channel, Context, Counted, Datalink, Expiration, Instance, Sequence, Status, Window};
+use meaning::message::Channel;
+use meaning::message::Context;
+use meaning::message::Counted;
+use meaning::message::Datalink;
+use meaning::message::Expiration;
+use meaning::message::Instance;
+use meaning::message::Sequence;
+use meaning::message::Status;
+use meaning::message::Window;
 use quantity::limit::LONGEST_NAME;
-use text::{put, put_bytes, put_number};
+use text::put;
+use text::put_bytes;
+use text::put_number;
 
 // A label and a number.
 pub fn labelled(out: &mut [u8], at: usize, label: &[u8], value: u64) -> usize

@@ -1,8 +1,12 @@
 // What a table states, by rising Channel ID.
 ghost use Rattle.phrase.specs.Saying.{Says};
 ghost use Rattle.phrase.specs.Phrases.{tableTexts, statusTexts, sequenceTexts, windowTexts};
-use crate::part::{sequence, status, window};
-use meaning::message::{SequenceCell, StatusCell, WindowCell};
+use crate::part::sequence;
+use crate::part::status;
+use crate::part::window;
+use meaning::message::SequenceCell;
+use meaning::message::StatusCell;
+use meaning::message::WindowCell;
 use quantity::limit::CHANNEL_IDS;
 
 pub fn statuses(out: &mut [u8], at: usize, cells: [StatusCell; CHANNEL_IDS]) -> usize

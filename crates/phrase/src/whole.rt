@@ -1,11 +1,21 @@
 // A whole meaning, and a refusal.
 ghost use Rattle.phrase.specs.Saying.{Says};
 ghost use Rattle.phrase.specs.Phrases.{tablesTexts, controlTexts, dataTexts, refusedTexts};
-use crate::part::{channel, context, counted, datalink, expiration, instance, paired};
-use crate::table::{sequences, statuses, windows};
-use meaning::message::{Control, Data};
+use crate::part::channel;
+use crate::part::context;
+use crate::part::counted;
+use crate::part::datalink;
+use crate::part::expiration;
+use crate::part::instance;
+use crate::part::paired;
+use crate::table::sequences;
+use crate::table::statuses;
+use crate::table::windows;
+use meaning::message::Control;
+use meaning::message::Data;
 use quantity::refusal::Refusal;
-use text::{put, put_bytes};
+use text::put;
+use text::put_bytes;
 
 // The three tables, one behind another.
 fn tables(out: &mut [u8], at: usize, message: Control) -> usize
@@ -51,5 +61,11 @@ pub fn data(out: &mut [u8], at: usize, message: Data, packet: &[u8]) -> usize
 pub fn refused(out: &mut [u8], at: usize, refusal: Refusal) -> usize
     ensures { λ r. ⌜ Says (now (out .entry)) at (refusedTexts refusal) r (now (out .exit)) ⌝ }
 {
-    paired(out, at, b"refused ", refusal.number as u64, refusal.place as u64)
+    paired(
+        out,
+        at,
+        b"refused ",
+        refusal.number as u64,
+        refusal.place as u64,
+    )
 }

@@ -28,7 +28,7 @@ same-length c = search needs
 
 returns : tie.Need-returns
 unfolding controlTexts
-returns c = 
+returns c =
     says-then (says-one (c .before .before .before .before .before .before .before .before .before .before .before .before .before .before .before .before .before .before .put .ensures))
     (says-then (c .before .before .before .before .before .before .before .before .before .before .before .before .before .before .datalink .ensures) (says-then (c .before .before .before .before .before .before .before .before .before .before .instance .ensures) (says-then (c .before .before .before .before .before .before .context .ensures) (c .before .before .tables .ensures))))
 

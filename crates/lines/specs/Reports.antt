@@ -1,0 +1,45 @@
+-- What is found of a whole input, in whatever pieces it comes.
+use mathlib.Core.Path.{_≡_}
+use mathlib.Core.Bool.{true, cond}
+use mathlib.Core.List.{List, [], _∷_, _++_, map}
+use Prim.Native.Nat.{ℕ}
+use lib.Dec.{ltb, eqb}
+use lib.ListN.{length}
+use Rattle.bytes.specs.Bytes.{slice}
+use Rattle.lines.specs.declared.Input.{Input}
+use Rattle.lines.specs.declared.Found.the-variants.{More, End, Line, Over}
+use Rattle.lines.specs.Unread.{nextOf, keptOf, Filled}
+
+-- a byte before the first of some lines
+abbrev pub longer : ℕ → List (List ℕ) → List (List ℕ)
+longer byte [] = (byte ∷ []) ∷ []
+longer byte (line ∷ lines) = (byte ∷ line) ∷ lines
+
+-- the lines of an input: each ends at a newline (10); a last one without it counts if it isn't empty
+unfoldable pub linesOf : List ℕ → List (List ℕ)
+linesOf [] = []
+linesOf (byte ∷ bytes) = cond (eqb byte 10) ([] ∷ linesOf bytes) (longer byte (linesOf bytes))
+
+-- what is reported of a line: its bytes, where it has room with its newline in a buffer of so many bytes
+pub data Report : Type 0 where
+  whole : List ℕ → Report
+  dropped : Report
+
+abbrev pub reportOf : ℕ → List ℕ → Report
+reportOf size line = cond (ltb (length line) size) (whole line) dropped
+
+abbrev pub reportsOf : ℕ → List ℕ → List Report
+reportsOf size bytes = map (reportOf size) (linesOf bytes)
+
+-- the turns of a program: by the buffer, the input and the bytes that are still to come, what it reports
+pub data Turns : List ℕ → Input → List ℕ → List Report → Type 0 where
+  ends : {buffer : List ℕ} {input : Input} {coming : List ℕ} → nextOf buffer input ≡ End → Turns buffer input coming []
+  line : {buffer : List ℕ} {input rest : Input} {from to : ℕ} {coming : List ℕ} {reports : List Report}
+      → nextOf buffer input ≡ Line from to rest → Turns buffer rest coming reports → Turns buffer input coming (whole (slice from to buffer) ∷ reports)
+  over : {buffer : List ℕ} {input rest : Input} {coming : List ℕ} {reports : List Report}
+      → nextOf buffer input ≡ Over rest → Turns buffer rest coming reports → Turns buffer input coming (dropped ∷ reports)
+  -- the bytes that were read come first of those to come, and where none were read, none are
+  more : {buffer buffer′ : List ℕ} {input r : Input} {coming coming′ : List ℕ} {reports : List Report}
+      → nextOf buffer input ≡ More → Filled buffer input r buffer′ → length buffer′ ≡ length buffer
+      → coming ≡ slice (length (keptOf buffer input)) (r .have) buffer′ ++ coming′ → (r .ended ≡ true → coming′ ≡ [])
+      → Turns buffer′ r coming′ reports → Turns buffer input coming reports
