@@ -16,7 +16,7 @@ vacant-is test e h none = e
 vacant-is test e h (some content) = h content
 
 module _ {A : Type 0} where
-  getD-tabulate : (size : ℕ) (f : ℕ → A) (i : ℕ) (default : A) → i < size → getD (tabulate size f) i default ≡ f i
+  pub getD-tabulate : (size : ℕ) (f : ℕ → A) (i : ℕ) (default : A) → i < size → getD (tabulate size f) i default ≡ f i
   unfolding tabulate
   getD-tabulate zero f i default h = absurd (omega arith)
   getD-tabulate (suc size) f zero default h = refl

@@ -2,7 +2,7 @@
 -- "for each line sequence, window and distance, or `bad`".
 use mathlib.Core.Bool.{cond}
 use mathlib.Core.List.{List, [], _∷_, _++_}
-use Prim.Native.Nat.{ℕ}
+use Prim.Native.Nat.{ℕ, _*_}
 use lib.Dec.{ltb}
 use lib.ListN.{length}
 use Rattle.quantity.specs.declared.count.FlowSequence.{FlowSequence}
@@ -20,15 +20,20 @@ use Rattle.counting.specs.declared.Read.the-variants.{Bad, Numbers}
 abbrev pub MOST : ℕ
 MOST = 4294967295
 
--- the longest row: two numbers of 10 digits, each with a space, and a distance of 10 digits with its sign
+-- the longest part of a row: ten digits, and a space or a sign
+abbrev pub PART : ℕ
+PART = 11
+
+-- the longest row
 abbrev pub ROW : ℕ
-ROW = 33
+ROW = 3 * PART
 
 -- what two words and what stands behind them stand for
 unfoldable pub pairOf : Number → Number → List ℕ → Read
 pairOf number.Bad window rest = Bad
 pairOf (number.Value sequence) number.Bad rest = Bad
-pairOf (number.Value sequence) (number.Value window) rest = cond (ltb 0 (length rest)) Bad (Numbers (record { 0 = sequence }) (record { 0 = window }))
+pairOf (number.Value sequence) (number.Value window) rest =
+    cond (ltb 0 (length rest)) Bad (Numbers (record { 0 = sequence }) (record { 0 = window }))
 
 unfoldable pub readOf : List ℕ → Read
 readOf line = pairOf (parseOf MOST (headOf line)) (parseOf MOST (wordOf (tailOf line))) (beyondOf (tailOf line))
@@ -41,10 +46,11 @@ spaced n = decimalText n ++ (32 ∷ [])
 unfoldable pub rowOf : FlowSequence → FlowWindow → List ℕ
 rowOf sequence window = spaced (sequence .0) ++ spaced (window .0) ++ signedText (distanceOf sequence window)
 
--- `bad`, or the row
+-- the letters of `bad`
 abbrev pub bad : List ℕ
 bad = 98 ∷ (97 ∷ (100 ∷ []))
 
+-- `bad`, or the row
 abbrev pub textOf : Read → List ℕ
 textOf Bad = bad
 textOf (Numbers sequence window) = rowOf sequence window

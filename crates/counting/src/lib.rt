@@ -3,7 +3,7 @@ ghost use mathlib.Core.Path.{_≡_};
 ghost use Prim.Native.Nat.{_+_, _≤_};
 ghost use lib.ListN.{length};
 ghost use Rattle.text.specs.Laying.{Lays, Wrote};
-ghost use Rattle.counting.specs.Answer.{ROW, spaced, rowOf, readOf, answerOf};
+ghost use Rattle.counting.specs.Answer.{PART, ROW, spaced, rowOf, readOf, answerOf};
 use quantity::count::FlowSequence;
 use quantity::count::FlowWindow;
 use quantity::count::distance;
@@ -11,6 +11,9 @@ use text::Number;
 
 // The largest number of 32 bits.
 const MOST: u64 = 4294967295;
+
+// Room for an answer, of at most 33 bytes, and for what ends its line.
+pub const ANSWER: usize = 40;
 
 // What a line stands for.
 pub enum Read {
@@ -37,7 +40,7 @@ fn read_line(line: &[u8]) -> Read
 
 // Lays a number and a space.
 fn put_spaced(out: &mut [u8], at: usize, value: u32) -> usize
-    requires { ⌜ at + 11 ≤ length (now out) ⌝ }
+    requires { ⌜ at + PART ≤ length (now out) ⌝ }
     ensures { λ r. ⌜ Lays (now (out .entry)) at (spaced value) r (now (out .exit)) ⌝ }
 {
     let end = text::put_number(out, at, value as u64);
@@ -54,6 +57,7 @@ fn put_row(out: &mut [u8], sequence: FlowSequence, window: FlowWindow) -> usize
     text::put_signed(out, second, distance(sequence, window))
 }
 
+// The answer, laid into an output of any length that has room for it.
 fn answer_into(line: &[u8], out: &mut [u8]) -> usize
     requires { ⌜ ROW ≤ length (now out) ⌝ }
     ensures { λ r. ⌜ Wrote (now (out .entry)) (answerOf (now (line .entry))) r (now (out .exit)) ⌝ }
@@ -65,7 +69,7 @@ fn answer_into(line: &[u8], out: &mut [u8]) -> usize
 }
 
 // The answer to a line, laid at the start of an output. Gives its length.
-pub fn answer(line: &[u8], out: &mut [u8; 40]) -> usize
+pub fn answer(line: &[u8], out: &mut [u8; ANSWER]) -> usize
     ensures { λ r. ⌜ Wrote (now (out .entry)) (answerOf (now (line .entry))) r (now (out .exit)) ⌝ }
 {
     answer_into(line, out)

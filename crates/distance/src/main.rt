@@ -2,12 +2,13 @@
 use libc::STDOUT_FILENO;
 use lines::Found;
 
-// How many bytes are held at once. A longer line is no two numbers: it is answered as an empty one is.
+// How many bytes are held at once. A line that has no room is no two numbers (`long-bad` of counting's laws), and is
+// answered as an empty line is.
 const ROOM: usize = 65536;
 
 // Prints the answer to a line.
 fn say(line: &[u8]) {
-    let mut out = [0u8; 40];
+    let mut out = [0u8; counting::ANSWER];
     let n = counting::answer(line, &mut out);
     let end = text::put(&mut out, n, b"\n");
     io::write_all(STDOUT_FILENO, &out[0..end]);

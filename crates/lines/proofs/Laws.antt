@@ -1,6 +1,6 @@
 -- What is unread, moved and read. Assumes nothing.
 use mathlib.Core.Path.{_≡_, refl, sym, ap, _∙_}
-use mathlib.Core.Bool.{Bool, true, false, cond, _&&_, _||_}
+use mathlib.Core.Bool.{Bool, true, false, true≢false, cond, _&&_, _||_}
 use mathlib.Core.List.{List, [], _∷_}
 use Prim.Native.Nat.{ℕ, zero, suc, _+_, _-_, _≤_, _<_}
 use native.Mathlib.Numerals.{add-one}
@@ -31,7 +31,8 @@ tidy-is size input e =
 -- ---- what stands next
 
 module _ (input : Input) where
-  pub last-is : (b : Bool) → (input .over || ltb (input .at) (input .have)) ≡ b → cond b (lineOf input (input .have) (input .have)) End ≡ lastOf input
+  pub last-is : (b : Bool) → (input .over || ltb (input .at) (input .have)) ≡ b
+      → cond b (lineOf input (input .have) (input .have)) End ≡ lastOf input
   unfolding lastOf
   last-is b e = rw e
 
@@ -99,7 +100,8 @@ move-on {buffer} {from} {n} {i} {buffer′} k room h = record {
         ∙ sym (far buffer)
         ∙ sym (getD-drop from buffer i 0)
 
-pub move-end : {buffer : List ℕ} {from n i : ℕ} {buffer′ : List ℕ} → Moves buffer from n i buffer′ → n ≤ i → buffer′ ≡ paste buffer 0 (drop from buffer) n
+pub move-end : {buffer : List ℕ} {from n i : ℕ} {buffer′ : List ℕ} → Moves buffer from n i buffer′ → n ≤ i
+    → buffer′ ≡ paste buffer 0 (drop from buffer) n
 move-end {buffer} {from} {n} {i} k h = let e : i ≡ n = omega (arith, k .within) in k .bytes ∙ ap (paste buffer 0 (drop from buffer)) e
 
 -- ---- reading more
@@ -109,8 +111,10 @@ same-end kept zero = sym (eq-eqb (kept + 0) kept (omega arith))
 same-end kept (suc got) = ne-eqb (suc got) 0 (omega arith) ∙ sym (ne-eqb (kept + suc got) kept (omega arith))
 
 -- what a read leaves in the part behind the bytes that are kept
-pub behind-is : (buffer : List ℕ) (kept got : ℕ) (dropped : Bool) (part : List ℕ) → kept ≤ length buffer → length part ≡ length (midOf kept (length buffer - kept) buffer) → got ≤ length part
-    → Behind buffer kept dropped (record { at = 0; have = kept + got; over = dropped; ended = eqb got 0 }) (putMid kept (length buffer - kept) buffer part)
+pub behind-is : (buffer : List ℕ) (kept got : ℕ) (dropped : Bool) (part : List ℕ) → kept ≤ length buffer
+    → length part ≡ length (midOf kept (length buffer - kept) buffer) → got ≤ length part
+    → Behind buffer kept dropped (record { at = 0; have = kept + got; over = dropped; ended = eqb got 0 })
+    (putMid kept (length buffer - kept) buffer part)
 behind-is buffer kept got dropped part h e l =
     let room : length (midOf kept (length buffer - kept) buffer) ≡ length buffer - kept = mid-len kept (length buffer) buffer (omega arith) in
     record {
@@ -133,9 +137,10 @@ slice-is from to l h g =
 
 module _ (buffer : List ℕ) (input : Input) where
   -- what is kept stands at the start of a buffer, and more is read behind it
-  filled-is : {buffer₁ : List ℕ} {n : ℕ} {dropped : Bool} {r : Input} {buffer₂ : List ℕ} → length buffer₁ ≡ length buffer → n ≤ length buffer₁ → keptOf buffer input ≡ take n buffer₁
-      → (tidyOf (length buffer) input && lostOf (length buffer) input) ≡ dropped → Behind buffer₁ n dropped r buffer₂ → Filled buffer input r buffer₂
-  filled-is {buffer₁} {n} {dropped} {r} {buffer₂} size h kept lost k =
+  filled-is : {buffer₁ : List ℕ} {n : ℕ} {dropped : Bool} {r : Input} {buffer₂ : List ℕ} → length buffer₁ ≡ length buffer
+      → n ≤ length buffer₁ → keptOf buffer input ≡ take n buffer₁ → (tidyOf (length buffer) input && lostOf (length buffer) input) ≡ dropped
+      → (tidyOf (length buffer) input ≡ false → (r .have ≡ 0) × (buffer₂ ≡ buffer)) → Behind buffer₁ n dropped r buffer₂ → Filled buffer input r buffer₂
+  filled-is {buffer₁} {n} {dropped} {r} {buffer₂} size h kept lost untidy k =
       let count : length (keptOf buffer input) ≡ n = ap length kept ∙ length-take-le n buffer₁ h in
       record {
         start = k .start;
@@ -144,18 +149,21 @@ module _ (buffer : List ℕ) (input : Input) where
         most = omega (arith, k .most);
         over = k .over ∙ sym lost;
         ended = rw count (k .ended);
+        untidy = untidy;
       }
 
   pub filled-none : tidyOf (length buffer) input ≡ false → Filled buffer input (record { at = 0; have = 0; over = false; ended = true }) buffer
   unfolding keptOf
   filled-none t =
-      let k : Behind buffer 0 false (record { at = 0; have = 0; over = false; ended = true }) buffer = record { start = refl; stays = refl; least = omega arith; most = omega arith; over = refl; ended = refl } in
-      filled-is refl (omega arith) (rw t) (rw t) k
+      let none : Behind buffer 0 false (record { at = 0; have = 0; over = false; ended = true }) buffer =
+      record { start = refl; stays = refl; least = omega arith; most = omega arith; over = refl; ended = refl } in
+      filled-is refl (omega arith) (rw t) (rw t) (λ e. (refl, refl)) none
 
   module _ (t : tidyOf (length buffer) input ≡ true) where
-    pub filled-lost : {r : Input} {buffer₂ : List ℕ} → lostOf (length buffer) input ≡ true → Behind buffer 0 true r buffer₂ → Filled buffer input r buffer₂
+    pub filled-lost : {r : Input} {buffer₂ : List ℕ} → lostOf (length buffer) input ≡ true → Behind buffer 0 true r buffer₂
+        → Filled buffer input r buffer₂
     unfolding keptOf
-    filled-lost lost k = filled-is refl (omega arith) (rw (t, lost)) (rw (t, lost)) k
+    filled-lost lost k = filled-is refl (omega arith) (rw (t, lost)) (rw (t, lost)) (λ e. absurd (true≢false (sym t ∙ e))) k
 
     pub filled-kept : {buffer₁ : List ℕ} {r : Input} {buffer₂ : List ℕ} → lostOf (length buffer) input ≡ false
         → buffer₁ ≡ paste buffer 0 (drop (input .at) buffer) (input .have - input .at)
@@ -167,8 +175,11 @@ module _ (buffer : List ℕ) (input : Input) where
         let fits : n ≤ length (drop (input .at) buffer) = simp length-drop (omega arith) in
         let size : length buffer₁ ≡ length buffer = ap length moved ∙ length-paste buffer 0 (drop (input .at) buffer) n (omega arith) fits in
         let z : n ≡ 0 + n = omega arith in
-        let front : take n buffer₁ ≡ take n (drop (input .at) buffer) = rw moved (ap (λ (m : ℕ). take m (paste buffer 0 (drop (input .at) buffer) n)) z ∙ take-paste buffer 0 (drop (input .at) buffer) n (omega arith) fits) in
-        filled-is size (omega arith) (rw (t, lost) (slice-is (input .at) (input .have) buffer (within .0) (within .1) ∙ sym front)) (rw (t, lost)) k
+        let rest : List ℕ = drop (input .at) buffer in
+        let pasted = ap (λ (m : ℕ). take m (paste buffer 0 rest n)) z ∙ take-paste buffer 0 rest n (omega arith) fits in
+        let front : take n buffer₁ ≡ take n rest = rw moved pasted in
+        let bytes = slice-is (input .at) (input .have) buffer (within .0) (within .1) ∙ sym front in
+        filled-is size (omega arith) (rw (t, lost) bytes) (rw (t, lost)) (λ e. absurd (true≢false (sym t ∙ e))) k
 
 -- ---- the ways to find what stands next
 
@@ -223,7 +234,8 @@ module _ (buffer : List ℕ) (input : Input) (t : tidyOf (length buffer) input �
       line : Bool → ℕ → ℕ → Found
       line v end at = cond v (Over (restOf input at)) (Line (input .at) end (restOf input at))
 
-      go : (b : Bool) → ltb to (input .have) ≡ b → (e : Bool) → input .ended ≡ e → (v : Bool) → input .over ≡ v → (l : Bool) → ltb (input .at) (input .have) ≡ l
+      go : (b : Bool) → ltb to (input .have) ≡ b → (e : Bool) → input .ended ≡ e → (v : Bool) → input .over ≡ v
+          → (l : Bool) → ltb (input .at) (input .have) ≡ l
           → Next buffer input (cond b (line v to (to + 1)) (cond e (cond (v || l) (line v (input .have) (input .have)) End) More))
       go true q e qe true qv l ql = a-dropped (there q) qv refl
       go true q e qe false qv l ql = a-line (there q) qv refl
@@ -237,7 +249,8 @@ pub clash : {A : Type 0} → _≡_ {A = ℕ} 0 1 → A
 clash z = absurd (omega arith)
 
 -- what a caller goes by: a line that is found lies within the buffer
-pub next-inside : (buffer : List ℕ) (input : Input) {from to : ℕ} {rest : Input} → nextOf buffer input ≡ Line from to rest → (from ≤ to) × (to ≤ length buffer)
+pub next-inside : (buffer : List ℕ) (input : Input) {from to : ℕ} {rest : Input} → nextOf buffer input ≡ Line from to rest
+    → (from ≤ to) × (to ≤ length buffer)
 next-inside buffer input {from} {to} {rest} e = go (tidyOf (length buffer) input) refl
   where
     inside : tidyOf (length buffer) input ≡ true → Next buffer input (nextOf buffer input) → (from ≤ to) × (to ≤ length buffer)

@@ -30,8 +30,11 @@ lines-first byte [] = go (eqb byte 10)
     go false = refl
 lines-first byte (next ∷ bytes) = go (eqb byte 10) (lines-first next bytes)
   where
-    go : (b : Bool) → linesOf (next ∷ bytes) ≡ firstLine (next ∷ bytes) ∷ linesOf (behindLine (next ∷ bytes))
-        → cond b ([] ∷ linesOf (next ∷ bytes)) (longer byte (linesOf (next ∷ bytes))) ≡ cond b [] (byte ∷ firstLine (next ∷ bytes)) ∷ linesOf (cond b (next ∷ bytes) (behindLine (next ∷ bytes)))
+    all : List ℕ
+    all = next ∷ bytes
+
+    go : (b : Bool) → linesOf all ≡ firstLine all ∷ linesOf (behindLine all)
+        → cond b ([] ∷ linesOf all) (longer byte (linesOf all)) ≡ cond b [] (byte ∷ firstLine all) ∷ linesOf (cond b all (behindLine all))
     go true e = refl
     go false e = ap (longer byte) e
 
@@ -41,14 +44,15 @@ record Cut (bytes coming first behind : List ℕ) : Type 0 where
   rest : behindLine (bytes ++ coming) ≡ behind
 
 module _ (coming : List ℕ) where
-  cut-at : (bytes : List ℕ) → indexOf 10 bytes < length bytes → Cut bytes coming (take (indexOf 10 bytes) bytes) (drop (suc (indexOf 10 bytes)) bytes ++ coming)
+  cut-at : (bytes : List ℕ) → indexOf 10 bytes < length bytes
+      → Cut bytes coming (take (indexOf 10 bytes) bytes) (drop (suc (indexOf 10 bytes)) bytes ++ coming)
   unfolding firstLine behindLine indexOf indexAfter
   cut-at [] h = absurd (omega arith)
   cut-at (byte ∷ bytes) h = go (eqb byte 10) refl h (λ g. cut-at bytes g)
     where
       go : (b : Bool) → eqb byte 10 ≡ b → indexAfter b (indexOf 10 bytes) < suc (length bytes)
           → (indexOf 10 bytes < length bytes → Cut bytes coming (take (indexOf 10 bytes) bytes) (drop (suc (indexOf 10 bytes)) bytes ++ coming))
-          → Cut (byte ∷ bytes) coming (take (indexAfter b (indexOf 10 bytes)) (byte ∷ bytes)) (drop (suc (indexAfter b (indexOf 10 bytes))) (byte ∷ bytes) ++ coming)
+          → let n = indexAfter b (indexOf 10 bytes) in Cut (byte ∷ bytes) coming (take n (byte ∷ bytes)) (drop (suc n) (byte ∷ bytes) ++ coming)
       go true q h′ f = record { line = rw q; rest = rw q }
       go false q h′ f = let k = f (omega arith) in record { line = rw q (ap (λ (l : List ℕ). byte ∷ l) (k .line)); rest = rw q (k .rest) }
 
@@ -69,7 +73,8 @@ abbrev pub meant : ℕ → Bool → List ℕ → List Report
 meant size false bytes = reportsOf size bytes
 meant size true bytes = dropped ∷ reportsOf size (behindLine bytes)
 
-reports-first : (size : ℕ) (bytes : List ℕ) → 0 < length bytes → reportsOf size bytes ≡ reportOf size (firstLine bytes) ∷ reportsOf size (behindLine bytes)
+reports-first : (size : ℕ) (bytes : List ℕ) → 0 < length bytes
+    → reportsOf size bytes ≡ reportOf size (firstLine bytes) ∷ reportsOf size (behindLine bytes)
 reports-first size [] h = absurd (omega arith)
 reports-first size (byte ∷ bytes) h = ap (map (reportOf size)) (lines-first byte bytes)
 
@@ -81,9 +86,11 @@ module _ (size : ℕ) (bytes coming : List ℕ) where
       let cut = cut-at coming bytes h in
       let n = indexOf 10 bytes in
       let short : length (take n bytes) < size = rw (length-take-le n bytes (omega arith)) (omega arith) in
-      reports-first size (bytes ++ coming) (simp length-append (omega arith)) ∙ rw (cut .line, cut .rest, lt-ltb (length (take n bytes)) size short)
+      reports-first size (bytes ++ coming) (simp length-append (omega arith))
+      ∙ rw (cut .line, cut .rest, lt-ltb (length (take n bytes)) size short)
 
-  pub meant-over : indexOf 10 bytes < length bytes → meant size true (bytes ++ coming) ≡ dropped ∷ reportsOf size (drop (suc (indexOf 10 bytes)) bytes ++ coming)
+  pub meant-over : indexOf 10 bytes < length bytes
+      → meant size true (bytes ++ coming) ≡ dropped ∷ reportsOf size (drop (suc (indexOf 10 bytes)) bytes ++ coming)
   meant-over h = ap (λ (l : List ℕ). dropped ∷ reportsOf size l) (cut-at coming bytes h .rest)
 
   -- without one, a line that was dropped goes on, and one that fills the buffer is dropped
@@ -94,11 +101,14 @@ module _ (size : ℕ) (bytes coming : List ℕ) where
   meant-full h full o =
       let cut = none-at coming bytes h in
       let long : size ≤ length (bytes ++ firstLine coming) = simp length-append (omega arith) in
-      reports-first size (bytes ++ coming) (simp length-append (omega arith)) ∙ rw (cut .line, cut .rest, le-ltb (length (bytes ++ firstLine coming)) size long)
+      reports-first size (bytes ++ coming) (simp length-append (omega arith))
+      ∙ rw (cut .line, cut .rest, le-ltb (length (bytes ++ firstLine coming)) size long)
 
 -- at the end of the input, what is unread is the last line
-pub meant-last : (size : ℕ) (bytes : List ℕ) → indexOf 10 bytes ≡ length bytes → 0 < length bytes → length bytes < size → meant size false (bytes ++ []) ≡ whole bytes ∷ []
+pub meant-last : (size : ℕ) (bytes : List ℕ) → indexOf 10 bytes ≡ length bytes → 0 < length bytes → length bytes < size
+    → meant size false (bytes ++ []) ≡ whole bytes ∷ []
 unfolding firstLine behindLine linesOf
 meant-last size bytes h o short =
     let cut = none-at [] bytes h in
-    reports-first size (bytes ++ []) (simp length-append (omega arith)) ∙ rw (cut .line, cut .rest, append-nil bytes, lt-ltb (length bytes) size short)
+    reports-first size (bytes ++ []) (simp length-append (omega arith))
+    ∙ rw (cut .line, cut .rest, append-nil bytes, lt-ltb (length bytes) size short)

@@ -13,7 +13,8 @@ use Rattle.lines.specs.declared.Input.{Input}
 use Rattle.lines.specs.declared.Found.the-variants.{More, End, Line, Over}
 use Rattle.lines.specs.Unread.{startOf, tidyOf, restOf, nextOf, lostOf, keptOf, Filled}
 use Rattle.lines.specs.Reports.{linesOf, Report, whole, dropped, reportsOf, Turns, ends, line, over, more}
-use Rattle.lines.proofs.Laws.{both, tidy-is, slice-is, unread, stop, unread-length, Next, a-line, a-dropped, last-line, last-dropped, unended, nothing, next-cases, clash}
+use Rattle.lines.proofs.Laws.{both, clash, tidy-is, slice-is, unread, stop, unread-length, next-cases}
+use Rattle.lines.proofs.Laws.{Next, a-line, a-dropped, last-line, last-dropped, unended, nothing}
 use Rattle.lines.proofs.Split.{behindLine, meant, meant-line, meant-over, meant-on, meant-full, meant-last}
 
 -- ---- what is unread, and what is dropped
@@ -94,20 +95,25 @@ module _ {buffer : List ℕ} {input : Input} {coming : List ℕ} (o : 0 < length
     line-bytes : slice (input .at) (input .at + stop buffer input) buffer ≡ take (stop buffer input) (unread buffer input)
     line-bytes = slice-take (input .at) (input .have) (stop buffer input) buffer (within .0) (within .1) (omega (arith, size))
 
-    behind : unread buffer (restOf input (input .at + stop buffer input + 1)) ++ coming ≡ drop (suc (stop buffer input)) (unread buffer input) ++ coming
+    rest-behind : reportsOf (length buffer) (unread buffer (restOf input (input .at + stop buffer input + 1)) ++ coming)
+        ≡ reportsOf (length buffer) (drop (suc (stop buffer input)) (unread buffer input) ++ coming)
     unfolding slice
-    behind =
+    rest-behind =
         let n = stop buffer input in
         let e : input .at + n + 1 ≡ input .at + suc n = omega arith in
-        ap (λ (l : List ℕ). l ++ coming) (ap (λ (m : ℕ). drop m (take (input .have) buffer)) e ∙ sym (drop-drop (suc n) (input .at) (take (input .have) buffer)))
+        let filled : List ℕ = take (input .have) buffer in
+        ap (λ (l : List ℕ). reportsOf (length buffer) (l ++ coming)) (ap (λ (m : ℕ). drop m filled) e ∙ sym (drop-drop (suc n) (input .at) filled))
 
   -- at the end
   module _ (g : input .ended ≡ true) where
     sane-end : Sane buffer (restOf input (input .have)) coming
     sane-end = sane-rest (input .have) (omega arith) (omega arith)
 
-    none-left : unread buffer (restOf input (input .have)) ++ coming ≡ []
-    none-left = rw (k .done g, no-bytes (unread buffer (restOf input (input .have))) (unread-length buffer (restOf input (input .have)) (sane-end .tidy) ∙ omega arith))
+    none-left : reportsOf (length buffer) (unread buffer (restOf input (input .have)) ++ coming) ≡ []
+    unfolding linesOf
+    none-left =
+        let last : Input = restOf input (input .have) in
+        rw (k .done g, no-bytes (unread buffer last) (unread-length buffer last (sane-end .tidy) ∙ omega arith))
 
   end-turn : nextOf buffer input ≡ End → Right buffer input coming []
   unfolding linesOf
@@ -121,17 +127,126 @@ module _ {buffer : List ℕ} {input : Input} {coming : List ℕ} (o : 0 < length
       go (last-dropped h g v p) = clash (cc)
       go (unended h g p) = clash (cc)
 
-  line-turn : {from to : ℕ} {rest : Input} → nextOf buffer input ≡ Line from to rest → Turn buffer input coming buffer rest coming (whole (slice from to buffer) ∷ [])
+  line-turn : {from to : ℕ} {rest : Input} → nextOf buffer input ≡ Line from to rest
+      → Turn buffer input coming buffer rest coming (whole (slice from to buffer) ∷ [])
   unfolding linesOf
   line-turn {from} {to} {rest} e = go (next-cases buffer input (k .tidy))
     where
-      first : List ℕ → List Report → List Report
-      first bytes reports = whole bytes ∷ reports
-
       go : Next buffer input (nextOf buffer input) → Turn buffer input coming buffer rest coming (whole (slice from to buffer) ∷ [])
-      go (a-line h v p) = ?
-      go (last-line h g v l p) = ?
+      go (a-line h v p) =
+          let start : from ≡ input .at = cc in
+          let end : to ≡ input .at + stop buffer input = cc in
+          let left : rest ≡ restOf input (input .at + stop buffer input + 1) = cc in
+          let own : Report = whole (take (stop buffer input) (unread buffer input)) in
+          let meant′ = meant-line (length buffer) (unread buffer input) coming h (omega (arith, size, within)) in
+          rw (left, start, end, line-bytes h)
+          (record { sane = sane-behind h; right = λ reports t. rw v (ap (λ (r : List Report). own ∷ r) (t ∙ rest-behind h) ∙ sym meant′) })
+      go (last-line h g v l p) =
+          let start : from ≡ input .at = cc in
+          let end : to ≡ input .have = cc in
+          let left : rest ≡ restOf input (input .have) = cc in
+          let own : Report = whole (unread buffer input) in
+          let meant′ = meant-last (length buffer) (unread buffer input) h (omega (arith, size)) (k .short g v) in
+          rw (left, start, end)
+          (record { sane = sane-end g; right = λ reports t. rw v (ap (λ (r : List Report). own ∷ r) (t ∙ none-left g) ∙ sym (rw (k .done g) meant′)) })
       go (a-dropped h v p) = clash (cc)
       go (last-dropped h g v p) = clash (cc)
       go (unended h g p) = clash (cc)
       go (nothing g v l p) = clash (cc)
+
+  over-turn : {rest : Input} → nextOf buffer input ≡ Over rest → Turn buffer input coming buffer rest coming (dropped ∷ [])
+  unfolding linesOf behindLine
+  over-turn {rest} e = go (next-cases buffer input (k .tidy))
+    where
+      go : Next buffer input (nextOf buffer input) → Turn buffer input coming buffer rest coming (dropped ∷ [])
+      go (a-dropped h v p) =
+          let left : rest ≡ restOf input (input .at + stop buffer input + 1) = cc in
+          let meant′ = meant-over (length buffer) (unread buffer input) coming h in
+          rw left
+          (record { sane = sane-behind h; right = λ reports t. rw v (ap (λ (r : List Report). dropped ∷ r) (t ∙ rest-behind h) ∙ sym meant′) })
+      go (last-dropped h g v p) =
+          let left : rest ≡ restOf input (input .have) = cc in
+          let meant′ = meant-on (length buffer) (unread buffer input) coming h ∙ ap (meant (length buffer) true) (k .done g) in
+          rw left
+          (record { sane = sane-end g; right = λ reports t. rw v (ap (λ (r : List Report). dropped ∷ r) (t ∙ none-left g) ∙ sym meant′) })
+      go (a-line h v p) = clash (cc)
+      go (last-line h g v l p) = clash (cc)
+      go (unended h g p) = clash (cc)
+      go (nothing g v l p) = clash (cc)
+
+  more-turn : {r : Input} {buffer′ coming′ : List ℕ} → nextOf buffer input ≡ More → Filled buffer input r buffer′
+      → length buffer′ ≡ length buffer → coming ≡ slice (length (keptOf buffer input)) (r .have) buffer′ ++ coming′ → (r .ended ≡ true → coming′ ≡ [])
+      → Turn buffer input coming buffer′ r coming′ []
+  unfolding keptOf slice
+  more-turn {r} {buffer′} {coming′} e f same c d = go (next-cases buffer input (k .tidy))
+    where
+      kept : List ℕ
+      kept = keptOf buffer input
+
+      -- what is unread now, and what comes, is what was kept, and what came
+      all : unread buffer′ r ++ coming′ ≡ kept ++ coming
+      all =
+          let filled : unread buffer′ r ≡ take (r .have) buffer′ = rw (f .start) in
+          let front : take (length kept) (take (r .have) buffer′) ≡ kept = take-take (length kept) (r .have) buffer′ (f .least) ∙ f .kept in
+          let got : List ℕ = drop (length kept) (take (r .have) buffer′) in
+          let parts = sym (take-append-drop (length kept) (take (r .have) buffer′)) ∙ ap (λ (l : List ℕ). l ++ got) front in
+          ap (λ (l : List ℕ). l ++ coming′) (filled ∙ parts)
+          ∙ append-assoc kept got coming′
+          ∙ ap (λ (l : List ℕ). kept ++ l) (sym c)
+
+      tidied : tidyOf (length buffer′) r ≡ true
+      tidied = tidy-made (length buffer′) r (omega (arith, f .start)) (omega (arith, f .most))
+
+      drops : (v : Bool) → input .over ≡ v → stop buffer input ≡ length (unread buffer input) → lostOf (length buffer) input ≡ true
+          → meant (length buffer) v (unread buffer input ++ coming) ≡ meant (length buffer) true coming
+      drops true p h q = meant-on (length buffer) (unread buffer input) coming h
+      drops false p h q =
+          let full = lost-full (length buffer) input q p in
+          meant-full (length buffer) (unread buffer input) coming h (omega (arith, size)) o
+
+      turn : stop buffer input ≡ length (unread buffer input) → (b : Bool) → lostOf (length buffer) input ≡ b
+          → Turn buffer input coming buffer′ r coming′ []
+      turn h false q =
+          let n = lost-not (length buffer) input o (within .1) q in
+          let over′ : r .over ≡ false = f .over ∙ rw (k .tidy, q) in
+          let bytes : kept ≡ unread buffer input = rw (k .tidy, q) in
+          let full : r .ended ≡ true → r .have ≡ length kept = λ g. eqb-true (r .have) (length kept) (sym (f .ended) ∙ g) in
+          let left = unread-length buffer′ r tidied in
+          let same-bytes = all ∙ ap (λ (l : List ℕ). l ++ coming) bytes in
+          record {
+            sane = record { tidy = tidied; done = d; short = λ g l. omega (arith, full g, ap length bytes, size) };
+            right = λ reports t. t ∙ rw (same, over′, n .0) (ap (reportsOf (length buffer)) same-bytes);
+          }
+      turn h true q =
+          let over′ : r .over ≡ true = f .over ∙ rw (k .tidy, q) in
+          let bytes : kept ≡ [] = rw (k .tidy, q) in
+          let same-bytes = all ∙ ap (λ (l : List ℕ). l ++ coming) bytes in
+          record {
+            sane = record { tidy = tidied; done = d; short = λ g l. absurd (true≢false (sym over′ ∙ l)) };
+            right = λ reports t. t ∙ rw (same, over′) (ap (meant (length buffer) true) same-bytes) ∙ sym (drops (input .over) refl h q);
+          }
+
+      go : Next buffer input (nextOf buffer input) → Turn buffer input coming buffer′ r coming′ []
+      go (unended h g p) = turn h (lostOf (length buffer) input) refl
+      go (a-line h v p) = clash (cc)
+      go (a-dropped h v p) = clash (cc)
+      go (last-line h g v l p) = clash (cc)
+      go (last-dropped h g v p) = clash (cc)
+      go (nothing g v l p) = clash (cc)
+
+-- ---- all turns
+
+right-turns : {buffer : List ℕ} {input : Input} {coming : List ℕ} {reports : List Report} → 0 < length buffer → Sane buffer input coming
+    → Turns buffer input coming reports → Right buffer input coming reports
+right-turns o k (ends e) = end-turn o k e
+right-turns o k (line e t) = let s = line-turn o k e in s .right _ (right-turns o (s .sane) t)
+right-turns o k (over e t) = let s = over-turn o k e in s .right _ (right-turns o (s .sane) t)
+right-turns o k (more e f same c d t) = let s = more-turn o k e f same c d in s .right _ (right-turns (omega arith) (s .sane) t)
+
+-- from the start on, every line of the input is reported, once and in order
+pub every-line : (buffer coming : List ℕ) (reports : List Report) → 0 < length buffer → Turns buffer startOf coming reports
+    → reports ≡ reportsOf (length buffer) coming
+unfolding slice
+every-line buffer coming reports o t =
+    let t′ : tidyOf (length buffer) startOf ≡ true = tidy-made (length buffer) startOf (omega arith) (omega arith) in
+    right-turns o (record { tidy = t′; done = λ e. absurd (false≢true e); short = λ e. absurd (false≢true e) }) t

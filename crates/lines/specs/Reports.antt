@@ -35,7 +35,8 @@ reportsOf size bytes = map (reportOf size) (linesOf bytes)
 pub data Turns : List ℕ → Input → List ℕ → List Report → Type 0 where
   ends : {buffer : List ℕ} {input : Input} {coming : List ℕ} → nextOf buffer input ≡ End → Turns buffer input coming []
   line : {buffer : List ℕ} {input rest : Input} {from to : ℕ} {coming : List ℕ} {reports : List Report}
-      → nextOf buffer input ≡ Line from to rest → Turns buffer rest coming reports → Turns buffer input coming (whole (slice from to buffer) ∷ reports)
+      → nextOf buffer input ≡ Line from to rest → Turns buffer rest coming reports
+      → Turns buffer input coming (whole (slice from to buffer) ∷ reports)
   over : {buffer : List ℕ} {input rest : Input} {coming : List ℕ} {reports : List Report}
       → nextOf buffer input ≡ Over rest → Turns buffer rest coming reports → Turns buffer input coming (dropped ∷ reports)
   -- the bytes that were read come first of those to come, and where none were read, none are

@@ -58,7 +58,7 @@ pub record Behind (buffer : List ℕ) (kept : ℕ) (dropped : Bool) (r : Input) 
   pub over : r .over ≡ dropped
   pub ended : r .ended ≡ eqb (r .have) kept
 
--- what is kept stands at the start, and what was read behind it
+-- what is kept stands at the start, and what was read behind it; of an input that doesn't lie within the buffer nothing is kept or read
 pub record Filled (buffer : List ℕ) (input : Input) (r : Input) (buffer′ : List ℕ) : Type 0 where
   pub start : r .at ≡ 0
   pub kept : take (length (keptOf buffer input)) buffer′ ≡ keptOf buffer input
@@ -66,3 +66,4 @@ pub record Filled (buffer : List ℕ) (input : Input) (r : Input) (buffer′ : L
   pub most : r .have ≤ length buffer
   pub over : r .over ≡ (tidyOf (length buffer) input && lostOf (length buffer) input)
   pub ended : r .ended ≡ eqb (r .have) (length (keptOf buffer input))
+  pub untidy : tidyOf (length buffer) input ≡ false → (r .have ≡ 0) × (buffer′ ≡ buffer)

@@ -1,5 +1,5 @@
 -- Texts laid one behind another, in parts. Assumes nothing.
-use mathlib.Core.Path.{_≡_, refl, _∙_}
+use mathlib.Core.Path.{_≡_, refl, sym, _∙_}
 use mathlib.Core.List.{List, [], _∷_, _++_}
 use Prim.Native.Nat.{ℕ, suc, min, _+_, _-_, _≤_, _<_}
 use native.Mathlib.Nat.{min-le-right}
@@ -20,6 +20,10 @@ says-none out at = record { cursor = refl; bytes = refl }
 pub says-one : {out : List ℕ} {at : ℕ} {text : List ℕ} {r : ℕ} {out′ : List ℕ} → Lays out at text r out′ → Says out at (text ∷ []) r out′
 unfolding said cursorOf
 says-one k = record { cursor = k .cursor; bytes = k .bytes }
+
+-- any two outcomes coincide
+pub says-coincide : {out : List ℕ} {at : ℕ} {texts : List (List ℕ)} {r r′ : ℕ} {out′ out″ : List ℕ} → Says out at texts r out′ → Says out at texts r′ out″ → (r ≡ r′) × (out′ ≡ out″)
+says-coincide k l = (k .cursor ∙ sym (l .cursor), k .bytes ∙ sym (l .bytes))
 
 said-then : (xs ys : List (List ℕ)) (out : List ℕ) (at : ℕ) → said out at (xs ++ ys) ≡ said (said out at xs) (cursorOf out at xs) ys
 unfolding said cursorOf

@@ -1,4 +1,4 @@
--- Every row of the starred examples is right. Assumes nothing.
+-- Every row of the starred examples on counting is right. Assumes nothing.
 use Rattle.quantity.specs.Distance.{distanceOf, fitsOf}
 use Rattle.quantity.specs.Examples.{AllRight, table}
 

@@ -62,6 +62,10 @@ pub stands-on : (c : ℕ) (w : FlowWindow) (n : ByteCount) (z : ℤ) → Stands 
 stands-on c w n (pos k) h f = record { least = record { le = omega (arith, leb→le, le→leb) }; most = record { lt = omega (arith, leb→le, le→leb) }; bits = h .bits }
 stands-on c w n (negsuc k) h f = absurd f
 
+-- "The count that never wraps starts as the configured first sequence"
+pub sequence-start : (s : FlowSequence) → s .0 < 2 ^ 32 → sequenceAt (s .0) ≡ s
+sequence-start s h = ap {B = FlowSequence} (λ (k : ℕ). record { 0 = k }) (omega arith)
+
 -- the sequence of the count's sum
 pub advance-is : (c : ℕ) (n : ByteCount) → advanceOf (sequenceAt c) n ≡ sequenceAt (c + n .0)
 advance-is c n = ap {B = FlowSequence} (λ (k : ℕ). record { 0 = k }) (omega arith)

@@ -1,4 +1,4 @@
--- Document 01, "Examples": the starred ones on counting, as rows of one table.
+-- Document 01, "Examples": the starred ones on counting, as the first rows of the one table of all (in `account`).
 use mathlib.Core.Path.{_≡_}
 use mathlib.Core.List.{List, [], _∷_}
 use mathlib.Core.Bool.{Bool, true, false}

@@ -19,7 +19,7 @@ use Rattle.reader.specs.Judging.{next, judge, readWith, versionOf, flagOf, flag
 use Rattle.reader.specs.Sorts.{Sort, faultOf, channelOf, stepOf, rulesOf}
 use Rattle.reader.specs.Stated.{datalinkFrom}
 use Rattle.reader.specs.Readings.{packetIn}
-use Rattle.writer.specs.Written.{datalinkThen}
+use Rattle.laying.specs.Parts.{datalinkThen}
 
 -- the longest option but Packet Data: a frame, and a Link Instance or a Context
 abbrev pub LONGEST-OPTION : ℕ

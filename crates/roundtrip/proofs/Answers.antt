@@ -16,6 +16,11 @@ use Rattle.writer.specs.declared.answer.WriteAnswer.{WriteAnswer}
 use Rattle.writer.specs.Written.{Outcome}
 use Rattle.roundtrip.specs.Answers.{Room, refusedBy, Exact}
 
+-- any two outcomes of a writer coincide
+pub outcome-one : {allowed : Bool} {message out : List ℕ} {answer answer′ : WriteAnswer} {out′ out″ : List ℕ} → Outcome allowed message out answer out′ → Outcome allowed message out answer′ out″
+    → (answer ≡ answer′) × (out′ ≡ out″)
+outcome-one o p = (o .answers ∙ sym (p .answers), o .bytes-are ∙ sym (p .bytes-are))
+
 -- no answer is two
 apart : {count : ByteCount} {refusal : Refusal} → WriteAnswer.Wrote count ≡ WriteAnswer.Refused refusal → ⊥
 apart e = let z : _≡_ {A = ℕ} 0 1 = cc in omega arith

@@ -31,8 +31,9 @@ use Rattle.reader.specs.Judging.{judge}
 use Rattle.reader.specs.Sorts.{channelOf, finishOf}
 use Rattle.reader.specs.Stated.{statusFrom, sequenceFrom, windowFrom, controlStated}
 use Rattle.reader.specs.Readings.{blankControl, controlSort, controlAccepted, readControl, noStatus, controlFree, controlState, statusAbsent, sequenceAbsent, windowAbsent}
-use Rattle.writer.specs.Allowed.{may, fitsLength, datalinkAllowed, instanceAllowed, contextAllowed, statusAllowed, statusesAllowed, primaryAllowed, sequenceAllowed, sequencesAllowed, windowAllowed, windowsAllowed, controlAllowed, stands}
-use Rattle.writer.specs.Written.{datalinkThen, instanceThen, contextThen, statusThen, sequenceThen, windowThen, statusesThen, sequencesThen, windowsThen, controlOptions, controlWritten, CONTROL-HEADER}
+use Rattle.allowed.specs.Allowed.{may, fitsLength, datalinkAllowed, instanceAllowed, contextAllowed, statusAllowed, statusesAllowed, primaryAllowed, sequenceAllowed, sequencesAllowed, windowAllowed, windowsAllowed, controlAllowed, stands}
+use Rattle.laying.specs.Parts.{datalinkThen, instanceThen, contextThen, statusThen, sequenceThen, windowThen, statusesThen, sequencesThen, windowsThen}
+use Rattle.writer.specs.Written.{controlOptions, controlWritten, CONTROL-HEADER}
 use Rattle.roundtrip.specs.Values.{SequenceWord, WindowWord, ControlValue}
 use Rattle.roundtrip.proofs.Adding.{Adds, adds-none, adds-option, adds-both, adds-datalink, read-back}
 use Rattle.roundtrip.proofs.Tables.{tabulate-same, each-place, Cell, nothing, stated, Column, adds-column}

@@ -25,8 +25,9 @@ use Rattle.reader.specs.Judging.{judge}
 use Rattle.reader.specs.Sorts.{finishOf}
 use Rattle.reader.specs.Stated.{dataStated}
 use Rattle.reader.specs.Readings.{Gathered, pairs, blankData, dataFree, dataState, dataAccepted, dataSort, readData, packetIn, packetOf}
-use Rattle.writer.specs.Allowed.{may, datalinkAllowed, countedAllowed, channelAllowed, expirationAllowed, dataAllowed}
-use Rattle.writer.specs.Written.{datalinkThen, countedThen, channelThen, expirationThen, dataOptions, dataWritten, DATA-HEADER}
+use Rattle.allowed.specs.Allowed.{may, datalinkAllowed, countedAllowed, channelAllowed, expirationAllowed, dataAllowed}
+use Rattle.laying.specs.Parts.{datalinkThen, countedThen, channelThen, expirationThen}
+use Rattle.writer.specs.Written.{dataOptions, dataWritten, DATA-HEADER}
 use Rattle.roundtrip.specs.Values.{CountedWord, ExpirationWord, DataValue}
 use Rattle.roundtrip.proofs.Adding.{Reads, Adds, adds-none, adds-option, adds-both, adds-datalink, reads-option, split-written, read-back}
 

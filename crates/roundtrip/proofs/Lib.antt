@@ -5,3 +5,8 @@ pub mod Control
 pub mod Data
 pub mod Answers
 pub mod Returned
+pub mod Held
+pub mod Shorter
+pub mod HeldControl
+pub mod HeldData
+pub mod Writable

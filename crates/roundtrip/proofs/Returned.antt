@@ -21,7 +21,7 @@ use Rattle.meaning.specs.declared.message.Data.{Data}
 use Rattle.reader.specs.declared.answer.Verdict.{Verdict}
 use Rattle.reader.specs.Readings.{controlAccepted, readControl, readData, packetOf}
 use Rattle.writer.specs.declared.answer.WriteAnswer.{WriteAnswer}
-use Rattle.writer.specs.Allowed.{controlAllowed, dataAllowed}
+use Rattle.allowed.specs.Allowed.{controlAllowed, dataAllowed}
 use Rattle.writer.specs.Written.{controlWritten, dataWritten, Outcome}
 use Rattle.roundtrip.specs.Values.{ControlValue, DataValue}
 use Rattle.roundtrip.specs.Answers.{Room, refusedBy, Sent, Exact}

@@ -18,8 +18,8 @@ use Rattle.meaning.specs.declared.message.Control.{Control}
 use Rattle.meaning.specs.Kinds.{among, known, lengthListed, valueListed, oneForEach, naming, PACKET-DATA}
 use Rattle.reader.specs.Stated.{tabulate}
 use Rattle.reader.specs.Readings.{controlSort, controlFree, controlState}
-use Rattle.writer.specs.Allowed.{may}
-use Rattle.writer.specs.Written.{tableThen}
+use Rattle.allowed.specs.Allowed.{may}
+use Rattle.laying.specs.Parts.{tableThen}
 use Rattle.roundtrip.proofs.Adding.{Adds, adds-none, adds-option, adds-both}
 
 -- ---- places

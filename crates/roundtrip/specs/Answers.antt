@@ -8,7 +8,6 @@ use lib.ListN.{length}
 use Rattle.quantity.specs.declared.count.ByteCount.{ByteCount}
 use Rattle.quantity.specs.declared.refusal.Refusal.{Refusal}
 use Rattle.quantity.specs.Limits.{LONGEST-DATAGRAM}
-use Rattle.quantity.specs.Refusals.{NO-ROOM, MEANING}
 use Rattle.wire.specs.Options.{over}
 use Rattle.writer.specs.declared.answer.WriteAnswer.{WriteAnswer}
 
@@ -33,8 +32,8 @@ pub record Exact (allowed : Bool) (message out : List ℕ) (answer : WriteAnswer
   pub written : allowed ≡ true → Room message out → (answer ≡ WriteAnswer.Wrote (record { 0 = length message })) × (out′ ≡ over message out)
   pub sent : (count : ByteCount) → answer ≡ WriteAnswer.Wrote count → Sent allowed message out count out′
   -- number 20 exactly where the meaning isn't allowed
-  pub disallowed : (answer ≡ refusedBy MEANING) ↔ (allowed ≡ false)
+  pub disallowed : (answer ≡ refusedBy 20) ↔ (allowed ≡ false)
   -- number 18 exactly where it is allowed and there is no room
-  pub no-room : (answer ≡ refusedBy NO-ROOM) ↔ ((allowed ≡ true) × (Room message out → ⊥))
+  pub no-room : (answer ≡ refusedBy 18) ↔ ((allowed ≡ true) × (Room message out → ⊥))
   -- a refusal leaves every byte
   pub stays : (refusal : Refusal) → answer ≡ WriteAnswer.Refused refusal → out′ ≡ out

@@ -1,6 +1,6 @@
 -- A queue and a store that hold packets: what the crates above cite. Assumes nothing.
 use mathlib.Core.Bool.{Bool, true, false, _&&_, _||_}
-use mathlib.Core.Path.{_≡_, refl, ap}
+use mathlib.Core.Path.{_≡_, refl, sym, ap, ap₂, _∙_}
 use mathlib.Core.List.{List, [], _∷_, _++_, map, tail, append-assoc, append-nil}
 use Prim.Native.Nat.{ℕ, zero, suc, _+_, _-_, _<_, _≤_}
 use native.Mathlib.Nat.{zero-add, suc-add}
@@ -60,6 +60,14 @@ module _ (size : ℕ) (ps : List Packet) (q : Queue) (s : List ℕ) (h : Holds s
   holds-well f =
       rw (le-leb (q .count) MOST-WAITING (omega (arith, holds-count, f .few)))
       (rw (h .queue-is, waiting-of ps, f .sizes, total-of ps) (le-leb (length (joined ps)) size (f .room)))
+
+-- ---- any two outcomes coincide
+pub holds-one : {size : ℕ} {ps : List Packet} {q q′ : Queue} {s s′ : List ℕ} → Holds size ps q s → Holds size ps q′ s′ → (q ≡ q′) × (s ≡ s′)
+holds-one h k = (h .queue-is ∙ sym (k .queue-is), h .store-is ∙ sym (k .store-is))
+
+pub offering-one : {q : Queue} {s : List ℕ} {ps : List Packet} {p : Packet} {r r′ : Offered} {s′ s″ : List ℕ} → Offering q s ps p r s′ → Offering q s ps p r′ s″ → (r ≡ r′) × (s′ ≡ s″)
+offering-one h k =
+    (ap₂ (λ (taken : Bool) (queue : Queue). record { taken = taken; queue = queue }) (h .taken-is ∙ sym (k .taken-is)) (h .queue-is ∙ sym (k .queue-is)), h .store-is ∙ sym (k .store-is))
 
 -- ---- what the test of a queue tells
 module _ (q : Queue) (size : ℕ) (e : wellFormed q size ≡ true) where

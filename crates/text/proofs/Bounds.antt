@@ -13,6 +13,10 @@ use Rattle.text.specs.declared.Number.{Number}
 use Rattle.text.specs.declared.Number.the-variants.{Bad, Value}
 use Rattle.text.specs.Numbers.{within, digitOf, stepOf, andThen, followOf, bySize, plainOf, parseOf}
 
+-- two answers that can't be one
+pub clash : {A : Type 0} → _≡_ {A = ℕ} 0 1 → A
+clash z = absurd (omega arith)
+
 -- a test that lets a number through was passed
 passed : (t : Bool) (n : Number) {read : ℕ} → cond t n Bad ≡ Value read → (t ≡ true) × (n ≡ Value read)
 passed true n e = (refl, e)
@@ -42,7 +46,8 @@ record Followed (base most value : ℕ) (digits : List ℕ) (read : ℕ) : Type 
   bound : read ≤ most
   grows : value * base ^ length digits ≤ read
 
-followed : (base most value : ℕ) (digits : List ℕ) (read : ℕ) → value ≤ most → followOf base most value digits ≡ Value read → Followed base most value digits read
+followed : (base most value : ℕ) (digits : List ℕ) (read : ℕ) → value ≤ most → followOf base most value digits ≡ Value read
+    → Followed base most value digits read
 unfolding followOf
 followed base most value [] read h e =
     let same : value ≡ read = cc in
@@ -50,14 +55,17 @@ followed base most value [] read h e =
     record { bound = omega arith; grows = omega arith }
 followed base most value (byte ∷ digits) read h e = go (stepOf base most value byte) refl (λ longer. followed base most longer digits read) e
   where
-    go : (n : Number) → stepOf base most value byte ≡ n → ((longer : ℕ) → longer ≤ most → followOf base most longer digits ≡ Value read → Followed base most longer digits read)
+    go : (n : Number) → stepOf base most value byte ≡ n
+        → ((longer : ℕ) → longer ≤ most → followOf base most longer digits ≡ Value read → Followed base most longer digits read)
         → andThen n (λ longer. followOf base most longer digits) ≡ Value read → Followed base most value (byte ∷ digits) read
-    go Bad q f p = let z : _≡_ {A = ℕ} 0 1 = cc in absurd (omega arith)
+    go Bad q f p = clash (cc)
     go (Value longer) q f p =
         let k = stepped base most value byte q in
         let rest = f longer (k .bound) p in
-        let e′ : value * base ^ suc (length digits) ≡ value * base * base ^ length digits = ap (λ (n : ℕ). value * n) (pow-succ' base (length digits)) ∙ sym (mul-assoc value base (base ^ length digits)) in
-        let l : value * base * base ^ length digits ≤ longer * base ^ length digits = mul-le-mul-right (base ^ length digits) (omega (arith, k .same)) in
+        let zeros : ℕ = base ^ length digits in
+        let one : base ^ suc (length digits) ≡ base * zeros = pow-succ' base (length digits) in
+        let e′ : value * base ^ suc (length digits) ≡ value * base * zeros = ap (λ (n : ℕ). value * n) one ∙ sym (mul-assoc value base zeros) in
+        let l : value * base * zeros ≤ longer * zeros = mul-le-mul-right zeros (omega (arith, k .same)) in
         record { bound = rest .bound; grows = omega (arith, rest .grows) }
 
 pub follow-most : (base most : ℕ) (digits : List ℕ) {read : ℕ} → followOf base most 0 digits ≡ Value read → read ≤ most
@@ -102,8 +110,9 @@ parse-short most j (a ∷ (b ∷ word)) {read} o h e = go (stepOf 10 most 0 a) r
         omega (arith, f .bound, f .grows)
 
     go : (n : Number) → stepOf 10 most 0 a ≡ n → andThen n (λ longer. followOf 10 most longer digits) ≡ Value read → suc (length digits) ≤ j
-    go Bad q p = let z : _≡_ {A = ℕ} 0 1 = cc in absurd (omega arith)
+    go Bad q p = clash (cc)
     go (Value first) q p =
         let s = stepped 10 most 0 a q in
         let more : 0 < first = omega (arith, s .same, digit-more a (eqb-false a 48 (not-true (eqb a 48) (k .0)))) in
-        elim (decLe j (length digits)) [ yes g ↦ absurd (short first more (followed 10 most first digits read (s .bound) p) g) | no g ↦ omega arith ]
+        let rest = followed 10 most first digits read (s .bound) p in
+        elim (decLe j (length digits)) [ yes g ↦ absurd (short first more rest g) | no g ↦ omega arith ]

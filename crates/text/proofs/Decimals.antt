@@ -54,7 +54,11 @@ written (suc k) n h = elim (decLe 10 n) [ yes g ↦ many g (written k (n / 10)) 
     many g rest =
         let p : 10 ^ suc (suc k) ≡ 10 ^ suc k * 10 = pow-suc 10 (suc k) in
         let w = rest (omega arith) in
-        record { count = suc (w .count); fewest = longer n (w .count) g (w .fewest); same = rw (le-ltb n 10 g) (ap (λ (l : List ℕ). l ++ (glyph (n % 10) ∷ [])) (w .same)) }
+        record {
+          count = suc (w .count);
+          fewest = longer n (w .count) g (w .fewest);
+          same = rw (le-ltb n 10 g) (ap (λ (l : List ℕ). l ++ (glyph (n % 10) ∷ [])) (w .same));
+        }
 
 pub decimal-written : (n : ℕ) → n < 10 ^ 20 → Written n (decimalText n)
 unfolding decimalText
@@ -64,8 +68,9 @@ decimal-written n h = written 19 n h
 pub decimal-is : (n k : ℕ) → n < 10 ^ 20 → Fewest 10 1 n k → digits 10 k n ≡ decimalText n
 decimal-is n k h f =
     let w = decimal-written n h in
-    let one : k ≡ w .count = le-antisymm (fewest-most 10 1 n k (w .count) (omega arith) f (w .fewest .1) (w .fewest .0)) (fewest-most 10 1 n (w .count) k (omega arith) (w .fewest) (f .1) (f .0)) in
-    ap (λ (m : ℕ). digits 10 m n) one ∙ sym (w .same)
+    let most = fewest-most 10 1 n k (w .count) (omega arith) f (w .fewest .1) (w .fewest .0) in
+    let least = fewest-most 10 1 n (w .count) k (omega arith) (w .fewest) (f .1) (f .0) in
+    ap (λ (m : ℕ). digits 10 m n) (le-antisymm most least) ∙ sym (w .same)
 
 -- a number below 10^j takes at most j digits
 pub decimal-most : (n j : ℕ) → 0 < j → j ≤ 20 → n < 10 ^ j → length (decimalText n) ≤ j

@@ -14,18 +14,18 @@ use Rattle.io.specs.Digits.{digits, Fewest}
 use Rattle.text.specs.declared.Number.{Number}
 use Rattle.text.specs.declared.Number.the-variants.{Bad, Value}
 use Rattle.text.specs.declared.Hexed.the-variants as hexed
-use Rattle.text.specs.Numbers.{followOf, bySize}
+use Rattle.text.specs.Numbers.{bySize}
 use Rattle.text.specs.Laying.{laid, Lays}
 use Rattle.text.specs.Strings.{byteOf, before, pairAt, pairsOf, readableOf, hexedOf, unhexed, pairsText, bytesText}
 use Rattle.text.proofs.Decimals.{fewest-most}
-use Rattle.text.proofs.Bounds.{follow-most}
+use Rattle.text.proofs.Bounds.{clash, follow-most}
 use Rattle.text.proofs.Reading.{next}
 use Rattle.text.proofs.Writing.{laid-in, lays-none, lays-as, lays-empty, lays-on}
 
 -- ---- reading
 
 -- the code's part of two digits
-pub pair-is : (word : List ℕ) (i : ℕ) (r : Number) → r ≡ followOf 16 255 0 (take (i * 2 + 2 - i * 2) (drop (i * 2) word)) → r ≡ pairAt word i
+pub pair-is : (word : List ℕ) (i : ℕ) (r : Number) → r ≡ byteOf (take (i * 2 + 2 - i * 2) (drop (i * 2) word)) → r ≡ pairAt word i
 unfolding pairAt
 pair-is word i r e = let two : i * 2 + 2 - i * 2 ≡ 2 = omega arith in rw two at e
 
@@ -55,7 +55,9 @@ module _ {word : List ℕ} {i : ℕ} (k : Paired word i) where
     two : drop (i * 2) word ≡ getD word (i * 2) 0 ∷ (getD word (i * 2 + 1) 0 ∷ drop ((i + 1) * 2) word)
     two =
         let e : i * 2 + 1 + 1 ≡ (i + 1) * 2 = omega arith in
-        next word (i * 2) (omega arith) ∙ ap (λ (l : List ℕ). getD word (i * 2) 0 ∷ l) (next word (i * 2 + 1) (omega arith) ∙ ap (λ (n : ℕ). getD word (i * 2 + 1) 0 ∷ drop n word) e)
+        next word (i * 2) (omega arith)
+        ∙ ap (λ (l : List ℕ). getD word (i * 2) 0 ∷ l) (next word (i * 2 + 1) (omega arith))
+        ∙ ap (λ (n : ℕ). getD word (i * 2) 0 ∷ (getD word (i * 2 + 1) 0 ∷ drop n word)) e
 
     pub paired-bad : pairAt word i ≡ Bad → length (pairsOf word) ≡ i
     unfolding pairsOf pairAt
@@ -67,13 +69,17 @@ module _ {word : List ℕ} {i : ℕ} (k : Paired word i) where
       found = k .rest ∙ rw two (rw (rw two at e))
 
       pub paired-byte : getD (pairsOf word) i 0 ≡ byte
-      paired-byte = let z : i ≡ i + 0 = omega arith in ap (λ (n : ℕ). getD (pairsOf word) n 0) z ∙ sym (getD-drop i (pairsOf word) 0 0) ∙ ap (λ (l : List ℕ). getD l 0 0) found
+      paired-byte =
+          let z : i ≡ i + 0 = omega arith in
+          ap (λ (n : ℕ). getD (pairsOf word) n 0) z ∙ sym (getD-drop i (pairsOf word) 0 0) ∙ ap (λ (l : List ℕ). getD l 0 0) found
 
       pub paired-more : i < length (pairsOf word)
       paired-more = omega (arith, simp length-drop at (ap length found))
 
       pub paired-on : Paired word (i + 1)
-      paired-on = record { within = omega arith; count = omega (arith, paired-more); rest = sym (drop-drop 1 i (pairsOf word)) ∙ ap (drop 1) found }
+      paired-on =
+          let rest′ = sym (drop-drop 1 i (pairsOf word)) ∙ ap (drop 1) found in
+          record { within = omega arith; count = omega (arith, paired-more); rest = rest′ }
 
       pub paired-small : byte < 256
       unfolding pairAt
@@ -89,13 +95,16 @@ pub unpair-none : (word out : List ℕ) → Unpairs word out 0 out
 unpair-none word out = record { paired = paired-none word; bytes = paste-zero out 0 (pairsOf word); size = refl }
 
 module _ {word out : List ℕ} {i : ℕ} {out′ : List ℕ} (k : Unpairs word out i out′) where
-  pub unpair-on : {byte : ℕ} → i < length word / 2 → length word / 2 ≤ length out → pairAt word i ≡ Value byte → Unpairs word out (i + 1) (set out′ i byte)
+  pub unpair-on : {byte : ℕ} → i < length word / 2 → length word / 2 ≤ length out → pairAt word i ≡ Value byte
+      → Unpairs word out (i + 1) (set out′ i byte)
   unpair-on {byte} h room e = record {
     paired = paired-on (k .paired) h e;
     bytes =
         let z : i ≡ 0 + i = omega arith in
-        let first : set out′ i byte ≡ set (paste out 0 (pairsOf word) i) (0 + i) (getD (pairsOf word) i 0) = rw (k .bytes, sym (paired-byte (k .paired) h e)) (ap (λ (n : ℕ). set (paste out 0 (pairsOf word) i) n (getD (pairsOf word) i 0)) z) in
-        first ∙ rw (add-one i) (paste-suc out 0 (pairsOf word) i 0 (omega arith) (paired-more (k .paired) h e));
+        let all = pairsOf word in
+        let more = paired-more (k .paired) h e in
+        let turn : set (paste out 0 all i) (0 + i) (getD all i 0) ≡ paste out 0 all (i + 1) = rw (add-one i) (paste-suc out 0 all i 0 (omega arith) more) in
+        rw (k .bytes, sym (paired-byte (k .paired) h e)) (ap (λ (n : ℕ). set (paste out 0 all i) n (getD all i 0)) z ∙ turn);
     size = simp length-set (k .size);
   }
 
@@ -121,20 +130,24 @@ readable-count : (word : List ℕ) → readableOf word ≡ true → length (pair
 unfolding readableOf bySize pairsOf
 readable-count [] e = refl
 readable-count (a ∷ []) e = refl
-readable-count (a ∷ (b ∷ word)) e = omega (arith, eqb-true (length (pairsOf (a ∷ (b ∷ word))) * 2) (length (a ∷ (b ∷ word))) e)
+readable-count (a ∷ (b ∷ word)) e =
+    let all = a ∷ (b ∷ word) in
+    omega (arith, eqb-true (length (pairsOf all) * 2) (length all) e)
 
 module _ (word out : List ℕ) where
   pub unhex-bad : readableOf word ≡ false → (hexed.Bad ≡ hexedOf (length out) word) × (out ≡ unhexed out word)
   unfolding hexedOf unhexed
   unhex-bad e = (rw e, rw e)
 
-  pub unhex-long : readableOf word ≡ true → length out < length word / 2 → (hexed.Bad ≡ hexedOf (length out) word) × (out ≡ unhexed out word)
+  pub unhex-long : readableOf word ≡ true → length out < length word / 2
+      → (hexed.Bad ≡ hexedOf (length out) word) × (out ≡ unhexed out word)
   unfolding hexedOf unhexed
   unhex-long e h =
       let none : Lays out 0 (pairsOf word) 0 out = lays-none out 0 (pairsOf word) (omega (arith, readable-count word e)) in
       (rw (e, lt-leb (length word / 2) (length out) h), rw e (none .bytes))
 
-  pub unhex-good : (out′ : List ℕ) → readableOf word ≡ true → length word / 2 ≤ length out → out′ ≡ laid out 0 (pairsOf word) → (hexed.Long (length word / 2) ≡ hexedOf (length out) word) × (out′ ≡ unhexed out word)
+  pub unhex-good : (out′ : List ℕ) → readableOf word ≡ true → length word / 2 ≤ length out → out′ ≡ laid out 0 (pairsOf word)
+      → (hexed.Long (length word / 2) ≡ hexedOf (length out) word) × (out′ ≡ unhexed out word)
   unfolding hexedOf unhexed
   unhex-good out′ e h k = (rw (e, le-leb (length word / 2) (length out) h), rw e k)
 
@@ -143,16 +156,19 @@ pub unhex-inside : (size : ℕ) (word : List ℕ) {n : ℕ} → hexedOf size wor
 unfolding hexedOf
 unhex-inside size word {n} e = go (readableOf word) (leb (length word / 2) size) refl e
   where
-    go : (t u : Bool) → leb (length word / 2) size ≡ u → cond t (cond u (hexed.Long (length word / 2)) hexed.Bad) hexed.Bad ≡ hexed.Long n → n ≤ size
+    go : (t u : Bool) → leb (length word / 2) size ≡ u → cond t (cond u (hexed.Long (length word / 2)) hexed.Bad) hexed.Bad ≡ hexed.Long n
+        → n ≤ size
     go true true q p = let same : length word / 2 ≡ n = cc in omega (arith, leb-true (length word / 2) size q)
-    go true false q p = let z : _≡_ {A = ℕ} 0 1 = cc in absurd (omega arith)
-    go false u q p = let z : _≡_ {A = ℕ} 0 1 = cc in absurd (omega arith)
+    go true false q p = clash (cc)
+    go false u q p = clash (cc)
 
 -- ---- writing
 
 -- what `io::hex` writes of a byte at a width of 2
 pub byte-is : (byte k : ℕ) → byte < 256 → Fewest 16 2 byte k → digits 16 k byte ≡ digits 16 2 byte
-byte-is byte k h f = ap (λ (n : ℕ). digits 16 n byte) (le-antisymm (fewest-most 16 2 byte k 2 (omega arith) f h (omega arith)) (f .0))
+byte-is byte k h f =
+    let most = fewest-most 16 2 byte k 2 (omega arith) f h (omega arith) in
+    ap (λ (n : ℕ). digits 16 n byte) (le-antisymm most (f .0))
 
 pub pairs-length : (bytes : List ℕ) → length (pairsText bytes) ≡ length bytes * 2
 unfolding pairsText
@@ -164,9 +180,12 @@ unfolding pairsText
 pairs-append [] y = refl
 pairs-append (byte ∷ x) y = rw (pairs-append x y) (sym (append-assoc (digits 16 2 byte) (pairsText x) (pairsText y)))
 
-pairs-last : (bytes : List ℕ) (i : ℕ) → i < length bytes → pairsText (take i bytes) ++ digits 16 2 (getD bytes i 0) ≡ pairsText (take (i + 1) bytes)
+pairs-last : (bytes : List ℕ) (i : ℕ) → i < length bytes
+    → pairsText (take i bytes) ++ digits 16 2 (getD bytes i 0) ≡ pairsText (take (i + 1) bytes)
 unfolding pairsText
-pairs-last bytes i h = sym (rw (add-one i, take-suc bytes i 0 h, pairs-append) (ap (λ (l : List ℕ). pairsText (take i bytes) ++ l) (append-nil (digits 16 2 (getD bytes i 0)))))
+pairs-last bytes i h =
+    let last = append-nil (digits 16 2 (getD bytes i 0)) in
+    sym (rw (add-one i, take-suc bytes i 0 h, pairs-append) (ap (λ (l : List ℕ). pairsText (take i bytes) ++ l) last))
 
 -- so many bytes are laid
 pub record Pairs (out : List ℕ) (at : ℕ) (bytes : List ℕ) (i r : ℕ) (out′ : List ℕ) : Type 0 where
@@ -178,9 +197,11 @@ unfolding pairsText
 pairs-none out at bytes h = record { within = omega arith; laid = lays-empty out at h }
 
 module _ {out : List ℕ} {at : ℕ} {bytes : List ℕ} {i r : ℕ} {out′ : List ℕ} (k : Pairs out at bytes i r out′) where
-  pub pairs-on : {r′ : ℕ} {out″ : List ℕ} → i < length bytes → at + length bytes * 2 ≤ length out → Lays out′ r (digits 16 2 (getD bytes i 0)) r′ out″ → Pairs out at bytes (i + 1) r′ out″
+  pub pairs-on : {r′ : ℕ} {out″ : List ℕ} → i < length bytes → at + length bytes * 2 ≤ length out
+      → Lays out′ r (digits 16 2 (getD bytes i 0)) r′ out″ → Pairs out at bytes (i + 1) r′ out″
   pairs-on h room k′ =
-      let e : length (pairsText (take i bytes)) ≡ i * 2 = pairs-length (take i bytes) ∙ ap (λ (n : ℕ). n * 2) (length-take-le i bytes (k .within)) in
+      let count = length-take-le i bytes (k .within) in
+      let e : length (pairsText (take i bytes)) ≡ i * 2 = pairs-length (take i bytes) ∙ ap (λ (n : ℕ). n * 2) count in
       let fits : at + length (pairsText (take i bytes)) + 2 ≤ length out = omega arith in
       record { within = omega arith; laid = lays-as (pairs-last bytes i h) (lays-on (k .laid) k′ fits) }
 

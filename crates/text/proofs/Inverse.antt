@@ -16,6 +16,7 @@ use Rattle.text.specs.declared.Hexed.the-variants as hexed
 use Rattle.text.specs.Laying.{laid, decimalText, signedText}
 use Rattle.text.specs.Numbers.{digitOf, stepOf, andThen, followOf, plainOf, parseOf}
 use Rattle.text.specs.Strings.{before, pairsOf, readableOf, hexedOf, unhexed, pairsText, bytesText}
+use Rattle.text.proofs.Bounds.{clash}
 use Rattle.text.proofs.Decimals.{length-digits, decimal-written}
 use Rattle.text.proofs.Hexadecimal.{pairs-length, unhex-good}
 use Rattle.text.proofs.Reading.{digit-decimal, digit-letter, step-on, size-one, size-more}
@@ -32,7 +33,8 @@ digit-glyph d h = elim (decLe 10 d) [ yes g ↦ letter g | no g ↦ decimal (ome
     letter : 10 ≤ d → d ≡ digitOf (glyph d)
     letter g = let e : d ≡ 87 + d - 97 + 10 = omega arith in rw (le-ltb d 10 g) (e ∙ digit-letter (87 + d) (omega arith) (omega arith))
 
-follow-last : (base most value : ℕ) (x : List ℕ) (byte read : ℕ) → followOf base most value x ≡ Value read → followOf base most value (x ++ (byte ∷ [])) ≡ stepOf base most read byte
+follow-last : (base most value : ℕ) (x : List ℕ) (byte read : ℕ) → followOf base most value x ≡ Value read
+    → followOf base most value (x ++ (byte ∷ [])) ≡ stepOf base most read byte
 unfolding followOf
 follow-last base most value [] byte read e = let same : value ≡ read = cc in rw same (end (stepOf base most read byte))
   where
@@ -41,9 +43,11 @@ follow-last base most value [] byte read e = let same : value ≡ read = cc in r
     end (Value longer) = refl
 follow-last base most value (a ∷ x) byte read e = go (stepOf base most value a) (λ longer. follow-last base most longer x byte read) e
   where
-    go : (n : Number) → ((longer : ℕ) → followOf base most longer x ≡ Value read → followOf base most longer (x ++ (byte ∷ [])) ≡ stepOf base most read byte)
-        → andThen n (λ longer. followOf base most longer x) ≡ Value read → andThen n (λ longer. followOf base most longer (x ++ (byte ∷ []))) ≡ stepOf base most read byte
-    go Bad f p = let z : _≡_ {A = ℕ} 0 1 = cc in absurd (omega arith)
+    go : (n : Number)
+        → ((longer : ℕ) → followOf base most longer x ≡ Value read → followOf base most longer (x ++ (byte ∷ [])) ≡ stepOf base most read byte)
+        → andThen n (λ longer. followOf base most longer x) ≡ Value read
+        → andThen n (λ longer. followOf base most longer (x ++ (byte ∷ []))) ≡ stepOf base most read byte
+    go Bad f p = clash (cc)
     go (Value longer) f p = f longer p
 
 -- k digits in a base up to 16 behind a number
@@ -66,13 +70,15 @@ follow-digits base most (suc k) n value o h l m =
     let small : n / base < base ^ k = div-lt-iff-lt-mul {x = n} {y = base ^ k} o .1 (rw p at l) in
     let grows : front * 1 ≤ front * base = mul-le-mul-left front o in
     let room : front * base + n % base ≤ most = omega arith in
-    follow-last base most value (digits base k (n / base)) (glyph (n % base)) front (follow-digits base most k (n / base) value o h small (omega arith))
+    let read = follow-digits base most k (n / base) value o h small (omega arith) in
+    follow-last base most value (digits base k (n / base)) (glyph (n % base)) front read
     ∙ sym (step-on base most front (glyph (n % base)) (n % base) (digit-glyph (n % base) (omega arith)) r room)
     ∙ ap Value (sym whole)
 
 -- digits alone
 digits-back : (base most k n : ℕ) → 0 < base → base ≤ 16 → n < base ^ k → n ≤ most → followOf base most 0 (digits base k n) ≡ Value n
-digits-back base most k n o h l m = let e : 0 * base ^ k + n ≡ n = omega arith in follow-digits base most k n 0 o h l (omega arith) ∙ ap Value e
+digits-back base most k n o h l m =
+    let e : 0 * base ^ k + n ≡ n = omega arith in follow-digits base most k n 0 o h l (omega arith) ∙ ap Value e
 
 -- ---- numbers in decimal
 
@@ -85,7 +91,8 @@ lead zero n h l e =
 lead (suc j) n h l e =
     let p : 10 ^ suc j ≡ 10 ^ j * 10 = pow-suc 10 j in
     let q : 10 ^ suc (suc j) ≡ 10 ^ suc j * 10 = pow-suc 10 (suc j) in
-    let first = List·getD-append (digits 10 (suc j) (n / 10)) (glyph (n % 10) ∷ []) 0 0 (omega (arith, length-digits 10 (suc j) (n / 10))) in
+    let some : 0 < length (digits 10 (suc j) (n / 10)) = omega (arith, length-digits 10 (suc j) (n / 10)) in
+    let first = List·getD-append (digits 10 (suc j) (n / 10)) (glyph (n % 10) ∷ []) 0 0 some in
     lead j (n / 10) (omega arith) (omega arith) (sym first ∙ e)
 
 plain-digits : (k n : ℕ) → Fewest 10 1 n k → plainOf (digits 10 k n) ≡ true
@@ -103,19 +110,26 @@ pub decimal-back : (most n : ℕ) → n ≤ most → n < 10 ^ 20 → parseOf mos
 unfolding parseOf
 decimal-back most n m h =
     let w = decimal-written n h in
-    rw (w .same, plain-digits (w .count) n (w .fewest)) (digits-back 10 most (w .count) n (omega arith) (omega arith) (w .fewest .1) m)
+    let read = digits-back 10 most (w .count) n (omega arith) (omega arith) (w .fewest .1) m in
+    rw (w .same, plain-digits (w .count) n (w .fewest)) read
 
 -- ---- byte strings
 
-pairs-back : (bytes : List ℕ) → ((i : ℕ) → i < length bytes → getD bytes i 0 < 256) → pairsOf (pairsText bytes) ≡ bytes
+-- each is a byte
+abbrev pub Bytes : List ℕ → Type 0
+Bytes bytes = (i : ℕ) → i < length bytes → getD bytes i 0 < 256
+
+pairs-back : (bytes : List ℕ) → Bytes bytes → pairsOf (pairsText bytes) ≡ bytes
 unfolding pairsOf pairsText
 pairs-back [] h = refl
 pairs-back (byte ∷ bytes) h =
     let small : byte < 256 = h 0 (omega arith) in
-    ap (λ (n : Number). before n (pairsOf (pairsText bytes))) (digits-back 16 255 2 byte (omega arith) (omega arith) small (omega arith))
+    let first = digits-back 16 255 2 byte (omega arith) (omega arith) small (omega arith) in
+    ap (λ (n : Number). before n (pairsOf (pairsText bytes))) first
     ∙ ap (λ (l : List ℕ). byte ∷ l) (pairs-back bytes (λ i g. h (suc i) (omega arith)))
 
-readable-back : (bytes : List ℕ) → ((i : ℕ) → i < length bytes → getD bytes i 0 < 256) → (readableOf (bytesText bytes) ≡ true) × (pairsOf (bytesText bytes) ≡ bytes) × (length (bytesText bytes) / 2 ≡ length bytes)
+readable-back : (bytes : List ℕ) → Bytes bytes
+    → (readableOf (bytesText bytes) ≡ true) × (pairsOf (bytesText bytes) ≡ bytes) × (length (bytesText bytes) / 2 ≡ length bytes)
 unfolding readableOf bytesText pairsOf
 readable-back [] h = (sym (size-one _ _ _ (45 ∷ []) refl), refl, refl)
 readable-back (byte ∷ bytes) h =
@@ -125,13 +139,14 @@ readable-back (byte ∷ bytes) h =
     (sym (size-more _ _ _ (pairsText all) (omega arith)) ∙ eq-eqb _ _ same, pairs-back all h, omega arith)
 
 -- what `put_bytes` lays is read as the byte string, where it has room
-pub bytes-back : (bytes out : List ℕ) → ((i : ℕ) → i < length bytes → getD bytes i 0 < 256) → length bytes ≤ length out
+pub bytes-back : (bytes out : List ℕ) → Bytes bytes → length bytes ≤ length out
     → (hexedOf (length out) (bytesText bytes) ≡ hexed.Long (length bytes)) × (unhexed out (bytesText bytes) ≡ bytes ++ drop (length bytes) out)
 bytes-back bytes out h room =
     let k = readable-back bytes h in
     let good = unhex-good (bytesText bytes) out (laid out 0 bytes) (k .0) (omega (arith, k .2)) (ap (laid out 0) (sym (k .1))) in
     let e : 0 + length bytes ≡ length bytes = omega arith in
-    (sym (good .0) ∙ ap hexed.Long (k .2), sym (good .1) ∙ laid-in out 0 bytes (omega arith) ∙ ap (λ (n : ℕ). bytes ++ drop n out) e)
+    let front = laid-in out 0 bytes (omega arith) ∙ ap (λ (n : ℕ). bytes ++ drop n out) e in
+    (sym (good .0) ∙ ap hexed.Long (k .2), sym (good .1) ∙ front)
 
 -- ---- whole numbers
 
@@ -147,8 +162,7 @@ unfolding parseOf followOf stepOf digitOf
 no-sign n text h e =
     let p : parseOf (10 ^ 20) (decimalText n) ≡ Value n = decimal-back (10 ^ 20) n (omega arith) h in
     let q : parseOf (10 ^ 20) (45 ∷ text) ≡ Bad = either (plainOf (45 ∷ text)) in
-    let z : _≡_ {A = ℕ} 0 1 = cc in
-    omega arith
+    clash (cc)
   where
     either : (b : Bool) → cond b Bad Bad ≡ Bad
     either true = refl

@@ -1,6 +1,6 @@
 -- Digits read one by one. Assumes nothing.
-use mathlib.Core.Bool.{Bool, true, false, cond, _&&_, and-false}
-use mathlib.Core.Path.{_≡_, refl, sym, ap, _∙_}
+use mathlib.Core.Bool.{true, false, and-false}
+use mathlib.Core.Path.{_≡_, refl}
 use mathlib.Core.List.{List, [], _∷_}
 use Prim.Native.Nat.{ℕ, _+_, _-_, _*_, _/_, _≤_, _<_}
 use native.Mathlib.Decide.{decLe}
@@ -8,12 +8,10 @@ use native.Mathlib.Nat.{le-div-iff-mul-le, div-lt-iff-lt-mul}
 use native.Mathlib.Numerals.{add-one}
 use native.Mathlib.Omega.{arith}
 use borrow.Author.Tests.{lt-ltb, le-ltb, le-leb, lt-leb}
-use lib.Dec.{ltb, leb}
 use lib.ListN.{length, getD, drop, drop-of-length-le}
 use lib.Seq.{drop-cons}
-use Rattle.text.specs.declared.Number.{Number}
 use Rattle.text.specs.declared.Number.the-variants.{Bad, Value}
-use Rattle.text.specs.Numbers.{within, digitOf, stepOf, andThen, followOf, bySize, plainOf, parseOf}
+use Rattle.text.specs.Numbers.{within, digitOf, stepOf, followOf, bySize}
 
 -- ---- a digit
 
@@ -21,7 +19,8 @@ within-yes : (from to byte : ℕ) → from ≤ byte → byte ≤ to → within f
 within-yes from to byte h g = simp (le-leb from byte h, le-leb byte to g)
 
 within-no : (from to byte : ℕ) → (from ≤ byte → to < byte) → within from to byte ≡ false
-within-no from to byte h = elim (decLe from byte) [ yes g ↦ simp (lt-leb byte to (h g), and-false) | no g ↦ simp (lt-leb from byte (omega arith)) ]
+within-no from to byte h =
+    elim (decLe from byte) [ yes g ↦ simp (lt-leb byte to (h g), and-false) | no g ↦ simp (lt-leb from byte (omega arith)) ]
 
 pub digit-decimal : (byte : ℕ) → 48 ≤ byte → byte ≤ 57 → byte - 48 ≡ digitOf byte
 unfolding digitOf
@@ -46,7 +45,8 @@ module _ (base most value byte : ℕ) where
   unfolding stepOf
   step-over h = rw (lt-leb (value * base + digitOf byte) most h, and-false)
 
-  pub step-on : (d : ℕ) → d ≡ digitOf byte → d < base → value * base + d ≤ most → Value (value * base + d) ≡ stepOf base most value byte
+  pub step-on : (d : ℕ) → d ≡ digitOf byte → d < base → value * base + d ≤ most
+      → Value (value * base + d) ≡ stepOf base most value byte
   unfolding stepOf
   step-on d e h g =
       let h′ : digitOf byte < base = rw e at h in
@@ -72,7 +72,8 @@ pub record Follows (base most : ℕ) (digits : List ℕ) (value i : ℕ) : Type 
   pub same : followOf base most value (drop i digits) ≡ followOf base most 0 digits
 
 module _ {base most : ℕ} {digits : List ℕ} {value i : ℕ} (k : Follows base most digits value i) where
-  pub follow-on : {longer : ℕ} → i < length digits → stepOf base most value (getD digits i 0) ≡ Value longer → Follows base most digits longer (i + 1)
+  pub follow-on : {longer : ℕ} → i < length digits → stepOf base most value (getD digits i 0) ≡ Value longer
+      → Follows base most digits longer (i + 1)
   unfolding followOf
   follow-on h e = record { within = omega arith; same = rw (next digits i h, e) at (k .same) }
 

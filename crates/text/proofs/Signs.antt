@@ -20,7 +20,8 @@ sign-is (pos n) f = rw (toZ-ofZ w64 (pos n) f) (leb·zero n)
 sign-is (negsuc n) f = rw (toZ-ofZ w64 (negsuc n) f)
 
 -- a number that isn't negative is cast as it is
-pub positive : (z : ℤ) → SFits w64 z → nonNeg z ≡ true → T (nonNeg (toZ w64 (ofZ w64 z))) × Fits w64 (natAbs (toZ w64 (ofZ w64 z)))
+pub positive : (z : ℤ) → SFits w64 z → nonNeg z ≡ true
+    → T (nonNeg (toZ w64 (ofZ w64 z))) × Fits w64 (natAbs (toZ w64 (ofZ w64 z)))
 positive (pos n) f h = rw (toZ-pos w64 n (f .sfits)) (tt, record { fits = omega (arith, f .sfits) })
 positive (negsuc n) f h = absurd (false≢true h)
 
@@ -33,14 +34,13 @@ pub record Negative (z : ℤ) : Type 0 where
 
 pub negative : (z : ℤ) → SFits w64 z → nonNeg z ≡ false → Negative z
 negative (pos n) f h = absurd (true≢false h)
-negative (negsuc n) f h = record { less = n; size = refl; small = f .sfits; turned = ap (toZ w64) bits ∙ toZ-pos w64 n (f .sfits) }
-  where
-    bits : 2 ^ 64 - 1 - ofZ w64 (negsuc n) ≡ n
-    bits = omega (arith, f .sfits)
+negative (negsuc n) f h =
+    let bits : 2 ^ 64 - 1 - ofZ w64 (negsuc n) ≡ n = omega (arith, f .sfits) in
+    record { less = n; size = refl; small = f .sfits; turned = ap (toZ w64) bits ∙ toZ-pos w64 n (f .sfits) }
 
 -- the text of each, from the code's test and its size
-pub signed-is : (z : ℤ) (size : ℕ) (b : Bool) → SFits w64 z → size ≡ natAbs (toZ w64 (ofZ w64 z)) → leZ (pos 0) (toZ w64 (ofZ w64 z)) ≡ b
-    → cond b (decimalText size) (45 ∷ decimalText size) ≡ signedText z
+pub signed-is : (z : ℤ) (size : ℕ) (b : Bool) → SFits w64 z → size ≡ natAbs (toZ w64 (ofZ w64 z))
+    → leZ (pos 0) (toZ w64 (ofZ w64 z)) ≡ b → cond b (decimalText size) (45 ∷ decimalText size) ≡ signedText z
 unfolding signedText
 signed-is z size b f e h = rw (sym (sign-is z f) ∙ h, sym (e ∙ ap natAbs (toZ-ofZ w64 z f)))
 

@@ -24,13 +24,19 @@ module _ (out : List ℕ) (at : ℕ) (text : List ℕ) (room : at + length text 
 
 pub lays-none : (out : List ℕ) (at : ℕ) (text : List ℕ) → length out < at + length text → Lays out at text at out
 unfolding laid behind
-lays-none out at text h = record { cursor = rw (lt-leb (at + length text) (length out) h); bytes = rw (lt-leb (at + length text) (length out) h) }
+lays-none out at text h =
+    let none = lt-leb (at + length text) (length out) h in
+    record { cursor = rw none; bytes = rw none }
 
 pub lays-empty : (out : List ℕ) (at : ℕ) → at ≤ length out → Lays out at [] at out
 lays-empty out at h =
     let room : at + 0 ≤ length out = omega arith in
     let e : at ≡ at + 0 = omega arith in
-    record { cursor = e ∙ sym (behind-in out at [] room); bytes = sym (laid-in out at [] room ∙ ap (λ (n : ℕ). take at out ++ [] ++ drop n out) (sym e) ∙ rw (append-nil (take at out)) (take-append-drop at out)) }
+    let same : take at out ++ [] ++ drop at out ≡ out = rw (append-nil (take at out)) (take-append-drop at out) in
+    record {
+      cursor = e ∙ sym (behind-in out at [] room);
+      bytes = sym (laid-in out at [] room ∙ ap (λ (n : ℕ). take at out ++ [] ++ drop n out) (sym e) ∙ same);
+    }
 
 -- what `bytes::copy` leaves in the part of an output from the cursor on
 pub lays-copy : (out : List ℕ) (at : ℕ) (text : List ℕ) (n : ℕ) (part : List ℕ) → at + length text ≤ length out → n ≡ length text
@@ -60,7 +66,8 @@ lays-as e k = rw e at k
 
 pub lays-size : {out : List ℕ} {at : ℕ} {text : List ℕ} {r : ℕ} {out′ : List ℕ} → Lays out at text r out′ → length out′ ≡ length out
 unfolding laid
-lays-size {out} {at} {text} {r} {out′} k = elim (decLe (at + length text) (length out)) [ yes room ↦ inside room | no room ↦ outside (omega arith) ]
+lays-size {out} {at} {text} {r} {out′} k =
+    elim (decLe (at + length text) (length out)) [ yes room ↦ inside room | no room ↦ outside (omega arith) ]
   where
     inside : at + length text ≤ length out → length out′ ≡ length out
     inside room =
@@ -71,9 +78,11 @@ lays-size {out} {at} {text} {r} {out′} k = elim (decLe (at + length text) (len
     outside room = ap length (k .bytes) ∙ rw (lt-leb (at + length text) (length out) room)
 
 -- the cursor stays within the output
-pub lays-inside : {out : List ℕ} {at : ℕ} {text : List ℕ} {r : ℕ} {out′ : List ℕ} → at ≤ length out → Lays out at text r out′ → r ≤ length out′
+pub lays-inside : {out : List ℕ} {at : ℕ} {text : List ℕ} {r : ℕ} {out′ : List ℕ} → at ≤ length out → Lays out at text r out′
+    → r ≤ length out′
 unfolding behind
-lays-inside {out} {at} {text} {r} {out′} h k = elim (decLe (at + length text) (length out)) [ yes room ↦ inside room | no room ↦ outside (omega arith) ]
+lays-inside {out} {at} {text} {r} {out′} h k =
+    elim (decLe (at + length text) (length out)) [ yes room ↦ inside room | no room ↦ outside (omega arith) ]
   where
     inside : at + length text ≤ length out → r ≤ length out′
     inside room = omega (arith, k .cursor ∙ behind-in out at text room, lays-size k)
@@ -82,7 +91,8 @@ lays-inside {out} {at} {text} {r} {out′} h k = elim (decLe (at + length text) 
     outside room = let e : r ≡ at = k .cursor ∙ rw (lt-leb (at + length text) (length out) room) in omega (arith, lays-size k)
 
 -- with room, before the cursor stands what stood before the text, and the text
-module _ {out : List ℕ} {at : ℕ} {text : List ℕ} {r : ℕ} {out′ : List ℕ} (room : at + length text ≤ length out) (k : Lays out at text r out′) where
+module _ {out : List ℕ} {at : ℕ} {text : List ℕ} {r : ℕ} {out′ : List ℕ} (room : at + length text ≤ length out)
+    (k : Lays out at text r out′) where
   pub lays-cursor : r ≡ at + length text
   lays-cursor = k .cursor ∙ behind-in out at text room
 
@@ -96,7 +106,11 @@ module _ {out : List ℕ} {at : ℕ} {text : List ℕ} {r : ℕ} {out′ : List 
 pub lays-on : {out : List ℕ} {at : ℕ} {x : List ℕ} {a : ℕ} {out′ y : List ℕ} {b : ℕ} {out″ : List ℕ}
     → Lays out at x a out′ → Lays out′ a y b out″ → at + length x + length y ≤ length out → Lays out at (x ++ y) b out″
 lays-on {out} {at} {x} {a} {out′} {y} {b} {out″} k k′ h = record {
-  cursor = k′ .cursor ∙ behind-in out′ a y (omega (arith, size, cursor)) ∙ simp length-append (omega (arith, cursor)) ∙ sym (behind-in out at (x ++ y) room);
+  cursor =
+      k′ .cursor
+      ∙ behind-in out′ a y (omega (arith, size, cursor))
+      ∙ simp length-append (omega (arith, cursor))
+      ∙ sym (behind-in out at (x ++ y) room);
   bytes =
       k′ .bytes
       ∙ laid-in out′ a y (omega (arith, size, cursor))
@@ -148,3 +162,10 @@ wrote-size k = ap length (k .bytes) ∙ simp (length-append, length-drop) (omega
 
 pub wrote-inside : {out text : List ℕ} {r : ℕ} {out′ : List ℕ} → Wrote out text r out′ → r ≤ length out′
 wrote-inside k = omega (arith, k .room, k .count, wrote-size k)
+
+-- any two outcomes that a contract allows coincide
+pub lays-one : {out : List ℕ} {at : ℕ} {text : List ℕ} {r r′ : ℕ} {out′ out″ : List ℕ} → Lays out at text r out′ → Lays out at text r′ out″ → (r ≡ r′) × (out′ ≡ out″)
+lays-one k l = (k .cursor ∙ sym (l .cursor), k .bytes ∙ sym (l .bytes))
+
+pub wrote-one : {out text : List ℕ} {r r′ : ℕ} {out′ out″ : List ℕ} → Wrote out text r out′ → Wrote out text r′ out″ → (r ≡ r′) × (out′ ≡ out″)
+wrote-one k l = (k .count ∙ sym (l .count), k .bytes ∙ sym (l .bytes))

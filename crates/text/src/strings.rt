@@ -14,6 +14,7 @@ const HEXADECIMAL: u64 = 16;
 
 const MOST_BYTE: u64 = 255;
 
+// Stands for the empty byte string.
 const EMPTY: u8 = b'-';
 
 // The byte that a pair of digits stands for, by the pair's index.
@@ -26,7 +27,7 @@ fn pair(word: &[u8], i: usize) -> Number
     follow(&word[from..to], HEXADECIMAL, MOST_BYTE)
 }
 
-// How many pairs stand for a byte, up to the first that doesn't.
+// How many pairs of a word stand for a byte, up to the first that doesn't.
 fn pairs(word: &[u8]) -> usize
     ensures { λ r. ⌜ r ≡ length (pairsOf (now (word .entry))) ⌝ }
 {
@@ -41,20 +42,7 @@ fn pairs(word: &[u8]) -> usize
     n
 }
 
-// Whether a word stands for a byte string.
-fn readable(word: &[u8]) -> bool
-    ensures { λ r. ⌜ r ≡ readableOf (now (word .entry)) ⌝ }
-{
-    if word.len() == 0 {
-        return false;
-    }
-    if word.len() == 1 {
-        return word[0] == EMPTY;
-    }
-    pairs(word) * 2 == word.len()
-}
-
-// Lays those bytes at the start of an output.
+// Lays the bytes of those pairs at the start of an output.
 fn unpair(word: &[u8], out: &mut [u8])
     requires { ⌜ length (now word) / 2 ≤ length (now out) ⌝ }
     ensures { λ _. ⌜ now (out .exit) ≡ laid (now (out .entry)) 0 (pairsOf (now (word .entry))) ⌝ }
@@ -68,6 +56,19 @@ fn unpair(word: &[u8], out: &mut [u8])
         out[i] = byte as u8;
         i += 1;
     }
+}
+
+// Whether a word stands for a byte string.
+fn readable(word: &[u8]) -> bool
+    ensures { λ r. ⌜ r ≡ readableOf (now (word .entry)) ⌝ }
+{
+    if word.len() == 0 {
+        return false;
+    }
+    if word.len() == 1 {
+        return word[0] == EMPTY;
+    }
+    pairs(word) * 2 == word.len()
 }
 
 // The byte string that a word stands for, laid at the start of an output. A refused word leaves the output as it was.

@@ -85,6 +85,10 @@ unfolding numberFrom
 number-below [] n w h o = let e : w + 0 ≡ w = omega arith in rw e h
 number-below (x ∷ xs) n w h o = let e : w + suc (length xs) ≡ (w + 1) + length xs = omega arith in rw e (number-below xs (n * 256 + x) (w + 1) (more w h (o .0)) (o .1))
 
+-- a number fits the bytes that spell it
+pub big-endian-below : (xs : List ℕ) → Octets xs → bigEndian xs < 256 ^ length xs
+big-endian-below xs o = let e : 0 + length xs ≡ length xs = omega arith in rw e at (number-below xs 0 0 (lit< tt) o)
+
 -- bytes of one length that spell one number are the same
 number-one : (xs ys : List ℕ) (n m : ℕ) → length xs ≡ length ys → Octets xs → Octets ys → numberFrom n xs ≡ numberFrom m ys → (n ≡ m) × (xs ≡ ys)
 unfolding numberFrom
@@ -102,7 +106,4 @@ number-one (x ∷ xs) (y ∷ ys) n m l o p e =
 pub back-and-there : (xs : List ℕ) → Octets xs → bytesOf (length xs) (bigEndian xs) ≡ xs
 back-and-there xs o =
     number-one (bytesOf (length xs) (bigEndian xs)) xs 0 0 (length-bytes (length xs) (bigEndian xs)) (octets-bytes (length xs) (bigEndian xs)) o
-    (there-and-back (length xs) (bigEndian xs) below) .1
-  where
-    below : bigEndian xs < 256 ^ length xs
-    below = let e : 0 + length xs ≡ length xs = omega arith in rw e at (number-below xs 0 0 (lit< tt) o)
+    (there-and-back (length xs) (bigEndian xs) (big-endian-below xs o)) .1

@@ -200,6 +200,10 @@ option-length kind content = simp length-append (rw (length-bytes 2 (length cont
 pub laid-same : (text entry exit : List ℕ) (n : ℕ) → length text ≤ length entry → Laid text entry exit n → length exit ≡ length entry
 laid-same text entry exit n h k = ap length (k .bytes-are) ∙ simp (length-append, length-drop) (omega arith)
 
+-- any two outcomes coincide
+pub laid-one : {text entry exit exit′ : List ℕ} {n n′ : ℕ} → Laid text entry exit n → Laid text entry exit′ n′ → (exit ≡ exit′) × (n ≡ n′)
+laid-one k l = (k .bytes-are ∙ sym (l .bytes-are), k .count-is ∙ sym (l .count-is))
+
 -- the frame at the first three places, and the content copied into the rest behind them
 abbrev framed : List ℕ → ℕ → ℕ → List ℕ
 framed out kind size = set (set (set out 0 kind) 1 (size / 256)) 2 (size % 256)

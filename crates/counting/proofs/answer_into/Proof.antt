@@ -28,7 +28,8 @@ same-length c = search needs
 returns : tie.Need-returns
 returns c =
     let told = c .before .before .before .before .before in
-    answer-as _ (sym (told .before .before .read-line .ensures) ∙ told .enum-told .given .1) (lays-wrote (omega arith) (c .before .before .put .ensures))
+    let read = sym (told .before .before .read-line .ensures) ∙ told .enum-told .given .1 in
+    answer-as _ read (lays-wrote (omega arith) (c .before .before .put .ensures))
 
 put-row-requires : tie.Need-put-row-requires
 put-row-requires c κs = search needs
@@ -39,7 +40,8 @@ same-length-2 c = search needs
 returns-2 : tie.Need-returns-2
 returns-2 c =
     let told = c .before .before .before .before in
-    answer-as _ (sym (told .before .before .before .read-line .ensures) ∙ told .before .sequence .given .1) (c .before .before .put-row .ensures)
+    let read = sym (told .before .before .before .read-line .ensures) ∙ told .before .sequence .given .1 in
+    answer-as _ read (c .before .before .put-row .ensures)
 
 pub answer-into-spec : {M : Type 1} → statement M
 answer-into-spec =

@@ -14,7 +14,9 @@ put-spaced-requires : tie.Need-put-spaced-requires
 put-spaced-requires c κs = search needs
 
 put-spaced-requires-2 : tie.Need-put-spaced-requires-2
-put-spaced-requires-2 c κs = room-left (c .before .before .before .before .before .before .pre) (omega arith) (c .before .before .before .put-spaced .ensures)
+put-spaced-requires-2 c κs =
+    let first = c .before .before .before in
+    room-left (first .before .before .before .pre) (omega arith) (first .put-spaced .ensures)
 
 distance-requires : tie.Need-distance-requires
 distance-requires c κs = search needs
@@ -32,7 +34,8 @@ returns c =
     let first = second .before .before .before .before in
     let start = first .before .before .before in
     let distance = toZ-ofZ w64 _ (record { sfits = number .distance .ok }) ∙ number .distance .ensures in
-    row-wrote _ _ (omega (arith, start)) (omega (arith, start)) (start .pre) (first .put-spaced .ensures) (second .put-spaced2 .ensures) (lays-as (ap signedText distance) (c .before .before .put-signed .ensures))
+    let third = lays-as (ap signedText distance) (c .before .before .put-signed .ensures) in
+    row-wrote _ _ (omega (arith, start)) (omega (arith, start)) (start .pre) (first .put-spaced .ensures) (second .put-spaced2 .ensures) third
 
 pub put-row-spec : {M : Type 1} → statement M
 put-row-spec =

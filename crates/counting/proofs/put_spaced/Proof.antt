@@ -24,7 +24,8 @@ unfolding spaced
 returns c =
     let number = c .before .before .before .before .before .before .before in
     let start = number .before .before .before in
-    lays-on (number .put-number .ensures) (c .before .before .put .ensures) (omega (arith, decimal-most (start .args .value) 10 (omega arith) (omega arith) (omega arith)))
+    let short = decimal-most (start .args .value) 10 (omega arith) (omega arith) (omega arith) in
+    lays-on (number .put-number .ensures) (c .before .before .put .ensures) (omega arith)
 
 pub put-spaced-spec : {M : Type 1} → statement M
 put-spaced-spec =

@@ -1,6 +1,8 @@
 -- `read_line` meets its contract, at each way out. Assumes nothing.
 use native.Mathlib.Omega.{arith}
 use mathlib.Core.Path.{_≡_, ap, _∙_}
+use mathlib.Core.List.{List}
+use Prim.Native.Nat.{ℕ}
 use denote.Ref.{now}
 use Rattle.text.specs.declared.Number.the-variants.{Value}
 use Rattle.text.specs.Numbers.{parseOf}
@@ -12,17 +14,29 @@ use borrow.Author.Needs.{needs}
 use Rattle.counting.proofs.read_line.Statement.{statement}
 use Rattle.counting.proofs.read_line.Tie as tie
 
--- the first number, the second, and what stands behind them
-first : (c : tie.After-known-told) → parseOf MOST (headOf (c .before .before .before .before .before .before .before .args .line .now)) ≡ Value (c .before .sequence .given .0 .0)
-first c = let parse = c .before .before .before in parsed _ (parse .parse .ensures) (parse .before .head .ensures) (c .before .sequence .given .1)
+abbrev line : tie.After-tail → List ℕ
+line c = c .before .before .args .line .now
 
-second : (c : tie.After-known-told2) → parseOf MOST (wordOf (tailOf (c .before .before .before .before .before .before .before .before .before .before .before .before .args .line .now))) ≡ Value (c .before .window .given .0 .0)
+-- the first number, the second word and number, and what stands behind them
+first : (c : tie.After-known-told) → parseOf MOST (headOf (line (c .before .before .before .before .before))) ≡ Value (c .before .sequence .given .0 .0)
+first c =
+    let parse = c .before .before .before in
+    parsed _ (parse .parse .ensures) (parse .before .head .ensures) (c .before .sequence .given .1)
+
+word-is : (c : tie.After-word) → now (c .word .result) ≡ wordOf (tailOf (line (c .before .before .before .before .before .before)))
+word-is c = c .word .ensures ∙ ap wordOf (c .before .before .before .before .before .before .tail .ensures)
+
+second : (c : tie.After-known-told2)
+    → parseOf MOST (wordOf (tailOf (line (c .before .before .before .before .before .before .before .before .before .before)))) ≡ Value (c .before .window .given .0 .0)
 second c =
     let parse = c .before .before .before in
-    parsed _ (parse .parse2 .ensures) (parse .before .word .ensures ∙ ap wordOf (parse .before .before .before .before .before .before .before .tail .ensures)) (c .before .window .given .1)
+    parsed _ (parse .parse2 .ensures) (word-is (parse .before)) (c .before .window .given .1)
 
-behind : (c : tie.After-beyond) → now (c .beyond .result) ≡ beyondOf (tailOf (c .before .before .before .before .before .before .before .before .before .before .before .before .before .args .line .now))
-behind c = c .beyond .ensures ∙ ap beyondOf (c .before .before .before .before .before .before .before .before .before .before .before .tail .ensures)
+behind : (c : tie.After-beyond)
+    → now (c .beyond .result) ≡ beyondOf (tailOf (line (c .before .before .before .before .before .before .before .before .before .before .before)))
+behind c =
+    let tail = c .before .before .before .before .before .before .before .before .before .before .before in
+    c .beyond .ensures ∙ ap beyondOf (tail .tail .ensures)
 
 tail-requires : tie.Need-tail-requires
 tail-requires c κs = search needs
@@ -57,13 +71,15 @@ enum-told-2 c = search needs
 returns-2 : tie.Need-returns-2
 returns-2 c =
     let words = c .before .before .before in
-    read-bad-2 _ (first (words .before)) (parsed _ (c .before .before .parse2 .ensures) (words .word .ensures ∙ ap wordOf (words .before .before .before .before .before .before .tail .ensures)) (c .enum-told2 .given .1))
+    read-bad-2 _ (first (words .before)) (parsed _ (c .before .before .parse2 .ensures) (word-is words) (c .enum-told2 .given .1))
 
 beyond-requires : tie.Need-beyond-requires
 beyond-requires c κs = search needs
 
 returns-3 : tie.Need-returns-3
-returns-3 c = let told = c .before .before in read-more _ (first (told .before .before .before .before .before)) (second told) _ (behind (c .before)) (omega arith)
+returns-3 c =
+    let told = c .before .before in
+    read-more _ (first (told .before .before .before .before .before)) (second told) _ (behind (c .before)) (omega arith)
 
 cast-t12 : tie.Need-cast-t12
 cast-t12 c = record { fits = omega (arith, parse-most _ _ (first (c .before .before .before .before .before .before .before))) }
@@ -72,7 +88,9 @@ cast-t14 : tie.Need-cast-t14
 cast-t14 c = record { fits = omega (arith, parse-most _ _ (second (c .before .before))) }
 
 returns-4 : tie.Need-returns-4
-returns-4 c = let told = c .before .before in read-numbers _ (first (told .before .before .before .before .before)) (second told) _ (behind (c .before)) (omega arith)
+returns-4 c =
+    let told = c .before .before in
+    read-numbers _ (first (told .before .before .before .before .before)) (second told) _ (behind (c .before)) (omega arith)
 
 pub read-line-spec : {M : Type 1} → statement M
 read-line-spec =

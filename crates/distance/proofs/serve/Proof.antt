@@ -13,7 +13,8 @@ Inv-loop buffer₀ input₀ turns₀ t8 buffer input turns = length buffer ≡ l
 abbrev μ-loop : tie.MeasureT-loop
 μ-loop buffer₀ input₀ turns₀ t8 buffer input turns = turns
 
-inside : (c : tie.After-known-told Inv-loop μ-loop) → let line = c .before .from .given .0 in (line .0 ≤ line .1 .0) × (line .1 .0 ≤ length (c .before .before .before .before .before .before .loop .buffer))
+inside : (c : tie.After-known-told Inv-loop μ-loop) → let line = c .before .from .given .0 in
+    (line .0 ≤ line .1 .0) × (line .1 .0 ≤ length (c .before .before .before .before .before .before .loop .buffer))
 inside c = next-inside _ _ (sym (c .before .before .before .next .ensures) ∙ c .before .from .given .1)
 
 start-requires : tie.Need-start-requires Inv-loop μ-loop

@@ -29,7 +29,10 @@ same-length : tie.Need-same-length
 same-length c = search needs
 
 returns-2 : tie.Need-returns-2
-returns-2 c = let test = c .before .before .before .before in filled-lost _ _ (tidied (test .before .before)) (sym (test .before .lost .ensures) ∙ test .if2 .taken) (c .before .before .read-behind .ensures)
+returns-2 c =
+    let test = c .before .before .before .before in
+    let lost = sym (test .before .lost .ensures) ∙ test .if2 .taken in
+    filled-lost _ _ (tidied (test .before .before)) lost (c .before .before .read-behind .ensures)
 
 sub-n : tie.Need-sub-n
 sub-n c = let k = tidy-is _ _ (tidied (c .before .before .before)) in omega arith
@@ -38,7 +41,9 @@ move-down-requires : tie.Need-move-down-requires
 move-down-requires c κs = let k = tidy-is _ _ (tidied (c .before .before .before .before)) in omega arith
 
 read-behind-requires-2 : tie.Need-read-behind-requires-2
-read-behind-requires-2 c κs = let k = tidy-is _ _ (tidied (c .before .before .before .before .before .before .before .before)) in omega arith
+read-behind-requires-2 c κs =
+    let k = tidy-is _ _ (tidied (c .before .before .before .before .before .before .before .before)) in
+    omega arith
 
 same-length-2 : tie.Need-same-length-2
 same-length-2 c = search needs
@@ -47,7 +52,8 @@ returns-3 : tie.Need-returns-3
 returns-3 c =
     let moved = c .before .before .before .before .before .before in
     let test = moved .before .before .before in
-    filled-kept _ _ (tidied (test .before .before)) (sym (test .before .lost .ensures) ∙ test .if2 .left) (moved .move-down .ensures) (c .before .before .read-behind2 .ensures)
+    let kept = sym (test .before .lost .ensures) ∙ test .if2 .left in
+    filled-kept _ _ (tidied (test .before .before)) kept (moved .move-down .ensures) (c .before .before .read-behind2 .ensures)
 
 pub fill-spec : {M : Type 1} → statement M
 fill-spec =

@@ -29,16 +29,22 @@ line-requires : tie.Need-line-requires
 line-requires c κs = search needs
 
 returns-2 : tie.Need-returns-2
-returns-2 c = let at = c .before .before .before in c .line .ensures ∙ next-line _ _ (tidied at) (c .before .before .find .ensures .0) (omega arith)
+returns-2 c =
+    let at = c .before .before .before in
+    c .line .ensures ∙ next-line _ _ (tidied at) (c .before .before .find .ensures .0) (omega arith)
 
 last-requires : tie.Need-last-requires
 last-requires c κs = search needs
 
 returns-3 : tie.Need-returns-3
-returns-3 c = let at = c .before .before .before .before in c .last .ensures ∙ next-last _ _ (tidied at) (c .before .before .before .find .ensures .0) (omega arith) (c .before .if3 .taken)
+returns-3 c =
+    let at = c .before .before .before .before in
+    c .last .ensures ∙ next-last _ _ (tidied at) (c .before .before .before .find .ensures .0) (omega arith) (c .before .if3 .taken)
 
 returns-4 : tie.Need-returns-4
-returns-4 c = let at = c .before .before .before in next-more _ _ (tidied at) (c .before .before .find .ensures .0) (omega arith) (c .if3 .left)
+returns-4 c =
+    let at = c .before .before .before in
+    next-more _ _ (tidied at) (c .before .before .find .ensures .0) (omega arith) (c .if3 .left)
 
 pub next-spec : {M : Type 1} → statement M
 next-spec =

@@ -27,7 +27,9 @@ same-length : tie.Need-same-length
 same-length c = search needs
 
 returns : tie.Need-returns
-returns c = let read = c .before .before .before .before .before .before .read in behind-is _ _ _ _ (read .last .1 .0) (omega arith) (read .kept .1 .0) (c .before .before .count .ensures .0 .0)
+returns c =
+    let read = c .before .before .before .before .before .before .read in
+    behind-is _ _ _ _ (read .last .1 .0) (omega arith) (read .kept .1 .0) (c .before .before .count .ensures .0 .0)
 
 pub read-behind-spec : {M : Type 1} → statement M
 read-behind-spec =

@@ -18,7 +18,8 @@ same-length c = search needs
 returns : tie.Need-returns
 returns c =
     let test = c .before .before .before .before in
-    lays-as (signed-is _ _ true (test .before .before .before .fits .value) (test .before .magnitude .ensures) (test .if1 .taken)) (c .before .before .put-number .ensures)
+    let start = test .before .before .before in
+    lays-as (signed-is _ _ true (start .fits .value) (test .before .magnitude .ensures) (test .if1 .taken)) (c .before .before .put-number .ensures)
 
 put-negative-requires : tie.Need-put-negative-requires
 put-negative-requires c κs = search needs
@@ -29,7 +30,8 @@ same-length-2 c = search needs
 returns-2 : tie.Need-returns-2
 returns-2 c =
     let test = c .before .before .before .before in
-    lays-as (signed-is _ _ false (test .before .before .before .fits .value) (test .before .magnitude .ensures) (test .if1 .left)) (c .before .before .put-negative .ensures)
+    let start = test .before .before .before in
+    lays-as (signed-is _ _ false (start .fits .value) (test .before .magnitude .ensures) (test .if1 .left)) (c .before .before .put-negative .ensures)
 
 pub put-signed-spec : {M : Type 1} → statement M
 put-signed-spec =

@@ -30,7 +30,9 @@ enum-told : tie.Need-enum-told Inv-loop μ-loop
 enum-told c = search needs
 
 returns : tie.Need-returns Inv-loop μ-loop
-returns c = let at = c .before .before .before .before .before in follow-bad (at .loop .inv) (omega arith) (sym (c .before .before .step .ensures) ∙ c .enum-told .given .1)
+returns c =
+    let at = c .before .before .before .before .before in
+    follow-bad (at .loop .inv) (omega arith) (sym (c .before .before .step .ensures) ∙ c .enum-told .given .1)
 
 add-i : tie.Need-add-i Inv-loop μ-loop
 add-i c = search needs
@@ -39,7 +41,9 @@ loop-less : tie.Need-loop-less Inv-loop μ-loop
 loop-less c = search needs
 
 loop-again : tie.Need-loop-again Inv-loop μ-loop
-loop-again c = let at = c .before .before .before .before .before .before in follow-on (at .loop .inv) (omega arith) (sym (c .before .before .before .step .ensures) ∙ c .before .longer .given .1)
+loop-again c =
+    let at = c .before .before .before .before .before .before in
+    follow-on (at .loop .inv) (omega arith) (sym (c .before .before .before .step .ensures) ∙ c .before .longer .given .1)
 
 returns-2 : tie.Need-returns-2 Inv-loop μ-loop
 returns-2 c = follow-end (c .before .loop .inv) (omega arith)

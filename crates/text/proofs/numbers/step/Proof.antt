@@ -18,13 +18,19 @@ div-if3 : tie.Need-div-if3
 div-if3 c = search needs
 
 returns-3 : tie.Need-returns-3
-returns-3 c = let k = bound-passed _ _ _ _ (c .before .before .before .before .pre) (omega arith) (c .if3 .taken) in step-over _ _ _ _ (omega arith)
+returns-3 c =
+    let k = bound-passed _ _ _ _ (c .before .before .before .before .pre) (omega arith) (c .if3 .taken) in
+    step-over _ _ _ _ (omega arith)
 
 mul-t7 : tie.Need-mul-t7
-mul-t7 c = let k = bound-kept _ _ _ _ (c .before .before .before .before .pre) (omega arith) (c .if3 .left) in omega arith
+mul-t7 c =
+    let k = bound-kept _ _ _ _ (c .before .before .before .before .pre) (omega arith) (c .if3 .left) in
+    omega arith
 
 add-t8 : tie.Need-add-t8
-add-t8 c = let k = bound-kept _ _ _ _ (c .before .before .before .before .pre) (omega arith) (c .if3 .left) in omega arith
+add-t8 c =
+    let k = bound-kept _ _ _ _ (c .before .before .before .before .pre) (omega arith) (c .if3 .left) in
+    omega arith
 
 returns-4 : tie.Need-returns-4
 returns-4 c = step-on _ _ _ _ _ (c .before .before .before .digit .ensures) (omega arith)

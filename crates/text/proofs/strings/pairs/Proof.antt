@@ -27,7 +27,9 @@ enum-told-2 : tie.Need-enum-told-2 Inv-loop μ-loop
 enum-told-2 c = search needs
 
 returns : tie.Need-returns Inv-loop μ-loop
-returns c = let at = c .before .before .before .before in sym (paired-bad (at .loop .inv) (omega arith) (sym (c .before .before .pair .ensures) ∙ c .enum-told2 .given .1))
+returns c =
+    let at = c .before .before .before .before in
+    sym (paired-bad (at .loop .inv) (omega arith) (sym (c .before .before .pair .ensures) ∙ c .enum-told2 .given .1))
 
 add-i : tie.Need-add-i Inv-loop μ-loop
 add-i c = omega arith
@@ -36,7 +38,9 @@ loop-less : tie.Need-loop-less Inv-loop μ-loop
 loop-less c = omega arith
 
 loop-again : tie.Need-loop-again Inv-loop μ-loop
-loop-again c = let at = c .before .before .before .before in paired-on (at .loop .inv) (omega arith) (sym (c .before .before .pair .ensures) ∙ c .enum-told .given .1)
+loop-again c =
+    let at = c .before .before .before .before in
+    paired-on (at .loop .inv) (omega arith) (sym (c .before .before .pair .ensures) ∙ c .enum-told .given .1)
 
 returns-2 : tie.Need-returns-2 Inv-loop μ-loop
 returns-2 c = let end = paired-end (c .before .loop .inv) (omega arith) in omega arith

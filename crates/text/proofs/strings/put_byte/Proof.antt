@@ -23,7 +23,9 @@ same-length : tie.Need-same-length
 same-length c = search needs
 
 returns : tie.Need-returns
-returns c = let written = c .before .before .before .before .before .hex .ensures .1 in lays-as (written .1 ∙ byte-is _ _ (omega arith) (written .0)) (c .before .before .put .ensures)
+returns c =
+    let written = c .before .before .before .before .before .hex .ensures .1 in
+    lays-as (written .1 ∙ byte-is _ _ (omega arith) (written .0)) (c .before .before .put .ensures)
 
 pub put-byte-spec : {M : Type 1} → statement M
 put-byte-spec =

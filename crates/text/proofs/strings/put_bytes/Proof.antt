@@ -25,7 +25,9 @@ sub-if3 : tie.Need-sub-if3
 sub-if3 c = search needs
 
 returns-3 : tie.Need-returns-3
-returns-3 c = lays-as (text-pairs _ (omega arith)) (lays-none _ _ _ (omega (arith, pairs-length (c .before .before .before .before .before .args .bytes .now))))
+returns-3 c =
+    let start = c .before .before .before .before .before in
+    lays-as (text-pairs _ (omega arith)) (lays-none _ _ _ (omega (arith, pairs-length (start .args .bytes .now))))
 
 put-pairs-requires : tie.Need-put-pairs-requires
 put-pairs-requires c κs = search needs

@@ -30,7 +30,9 @@ loop-less : tie.Need-loop-less Inv-loop μ-loop
 loop-less c = omega arith
 
 loop-again : tie.Need-loop-again Inv-loop μ-loop
-loop-again c = let at = c .before .before .before .before .before .before in pairs-on (at .loop .inv) (omega arith) (at .before .before .before .pre) (c .before .before .put-byte .ensures)
+loop-again c =
+    let at = c .before .before .before .before .before .before in
+    pairs-on (at .loop .inv) (omega arith) (at .before .before .before .pre) (c .before .before .put-byte .ensures)
 
 same-length : tie.Need-same-length Inv-loop μ-loop
 same-length c = lays-size (c .before .loop .inv .laid)

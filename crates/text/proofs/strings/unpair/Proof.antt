@@ -30,10 +30,14 @@ same-length : tie.Need-same-length Inv-loop μ-loop
 same-length c = c .before .before .before .before .loop .inv .size
 
 returns : tie.Need-returns Inv-loop μ-loop
-returns c = let k = c .before .before .before .before .loop .inv in unpair-end k (omega arith) (paired-bad (k .paired) (omega arith) (sym (c .before .before .pair .ensures) ∙ c .enum-told .given .1))
+returns c =
+    let k = c .before .before .before .before .loop .inv in
+    unpair-end k (omega arith) (paired-bad (k .paired) (omega arith) (sym (c .before .before .pair .ensures) ∙ c .enum-told .given .1))
 
 cast-out : tie.Need-cast-out Inv-loop μ-loop
-cast-out c = let k = c .before .before .before .before .before .loop .inv in record { fits = paired-small (k .paired) (omega arith) (sym (c .before .before .before .pair .ensures) ∙ c .before .byte .given .1) }
+cast-out c =
+    let k = c .before .before .before .before .before .loop .inv in
+    record { fits = paired-small (k .paired) (omega arith) (sym (c .before .before .before .pair .ensures) ∙ c .before .byte .given .1) }
 
 slice-write-out : tie.Need-slice-write-out Inv-loop μ-loop
 slice-write-out c = omega arith
@@ -45,7 +49,9 @@ loop-less : tie.Need-loop-less Inv-loop μ-loop
 loop-less c = omega arith
 
 loop-again : tie.Need-loop-again Inv-loop μ-loop
-loop-again c = let k = c .before .before .before .before .before .loop .inv in unpair-on k (omega arith) (omega arith) (sym (c .before .before .before .pair .ensures) ∙ c .before .byte .given .1)
+loop-again c =
+    let k = c .before .before .before .before .before .loop .inv in
+    unpair-on k (omega arith) (omega arith) (sym (c .before .before .before .pair .ensures) ∙ c .before .byte .given .1)
 
 same-length-2 : tie.Need-same-length-2 Inv-loop μ-loop
 same-length-2 c = c .before .loop .inv .size

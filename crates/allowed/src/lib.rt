@@ -1,0 +1,4 @@
+// Number 20: whether a meaning may be written.
+pub mod control;
+pub mod data;
+pub mod part;

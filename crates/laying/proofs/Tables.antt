@@ -1,0 +1,144 @@
+-- The laws of a table's options, for any table. Assumes nothing.
+use Prim.Native.Nat.{ℕ, suc, _+_, _*_, _≤_, _<_}
+use mathlib.Core.Path.{_≡_, ap, _∙_}
+use mathlib.Core.List.{List, [], _∷_}
+use native.Mathlib.Omega.{arith}
+use native.Mathlib.Numerals.{add-one}
+use lib.ListN.{length, getD, drop, drop-of-length-le}
+use lib.Seq.{drop-cons}
+use Rattle.quantity.specs.Limits.{CHANNEL-IDS}
+use Rattle.meaning.proofs.Tables.{noStatus, noSequence, noWindow, Full}
+use Rattle.wire.specs.Options.{Options, done, bytes, Laid}
+use Rattle.meaning.specs.declared.message.Status.{Status}
+use Rattle.meaning.specs.declared.message.Sequence.{Sequence}
+use Rattle.meaning.specs.declared.message.Window.{Window}
+use Rattle.meaning.specs.declared.message.StatusCell.{StatusCell}
+use Rattle.meaning.specs.declared.message.SequenceCell.{SequenceCell}
+use Rattle.meaning.specs.declared.message.WindowCell.{WindowCell}
+use Rattle.laying.specs.declared.option.Stated.{Stated}
+use Rattle.laying.specs.Laying.{sizeOf, LONGEST-OPTION, statedThen, States}
+use Rattle.laying.specs.Parts.{statusThen, sequenceThen, windowThen, tableThen, statusesThen, sequencesThen, windowsThen}
+use Rattle.laying.proofs.Laying.{Standing, Lending, Prefixing, prefixing-nothing, prefixing-option, prefixing-both, prefixing-size, lending-stated, standing-end}
+
+abbrev pub statusAt : ℕ → StatusCell → Options → Options
+statusAt channel cell = statusThen channel (cell .status)
+
+abbrev pub sequenceAt : ℕ → SequenceCell → Options → Options
+sequenceAt channel cell = sequenceThen channel (cell .sequence)
+
+abbrev pub windowAt : ℕ → WindowCell → Options → Options
+windowAt channel cell = windowThen channel (cell .window)
+
+-- from one channel to the next
+table-step : {A : Type 0} (put : ℕ → A → Options → Options) (cells : List A) (none : A) (channel : ℕ) → channel < length cells
+    → tableThen put channel (drop channel cells) done ≡ put channel (getD cells channel none) (tableThen put (channel + 1) (drop (channel + 1) cells) done)
+unfolding tableThen
+table-step put cells none channel h = rw (add-one, drop-cons cells channel none)
+
+table-end : {A : Type 0} (put : ℕ → A → Options → Options) (cells : List A) (channel : ℕ) → length cells ≤ channel
+    → tableThen put channel (drop channel cells) done ≡ done
+unfolding tableThen
+table-end put cells channel h = rw (drop-of-length-le cells h)
+
+-- a channel's option is the next to be laid
+pub table-turn : {A : Type 0} (put : ℕ → A → Options → Options) (cells : List A) (none : A) (channel : ℕ) {stated : Stated} {text entry out : List ℕ} {at : ℕ}
+    → channel < length cells
+    → States stated (put channel (getD cells channel none))
+    → Standing text entry at (tableThen put channel (drop channel cells) done) out
+    → Lending text entry at (statedThen stated) (tableThen put (channel + 1) (drop (channel + 1) cells) done) out
+table-turn put cells none channel h e s = lending-stated e (rw (← table-step put cells none channel h) s)
+
+-- every channel's option is laid
+pub table-laid : {A : Type 0} (put : ℕ → A → Options → Options) (cells : List A) (channel : ℕ) {text entry out : List ℕ} {at : ℕ}
+    → length cells ≤ channel → Standing text entry at (tableThen put channel (drop channel cells) done) out → Laid text entry out at
+table-laid put cells channel h s = standing-end (rw (table-end put cells channel h) at s)
+
+-- ---- a table before what follows
+
+table-prefixing : {A : Type 0} (put : ℕ → A → Options → Options) → ((channel : ℕ) (cell : A) → Prefixing (put channel cell))
+    → (channel : ℕ) (cells : List A) → Prefixing (tableThen put channel cells)
+unfolding tableThen
+table-prefixing put p channel [] = prefixing-nothing
+table-prefixing put p channel (cell ∷ cells) = prefixing-both (p channel cell) (table-prefixing put p (suc channel) cells)
+
+status-prefixing : (channel : ℕ) (cell : StatusCell) → Prefixing (statusAt channel cell)
+status-prefixing channel cell = go (cell .status)
+  where
+    go : (status : Status) → Prefixing (statusThen channel status)
+    go Status.Absent = prefixing-nothing
+    go (Status.Given s) = prefixing-option _ _
+
+sequence-prefixing : (channel : ℕ) (cell : SequenceCell) → Prefixing (sequenceAt channel cell)
+sequence-prefixing channel cell = go (cell .sequence)
+  where
+    go : (sequence : Sequence) → Prefixing (sequenceThen channel sequence)
+    go Sequence.Absent = prefixing-nothing
+    go (Sequence.Given s) = prefixing-option _ _
+
+window-prefixing : (channel : ℕ) (cell : WindowCell) → Prefixing (windowAt channel cell)
+window-prefixing channel cell = go (cell .window)
+  where
+    go : (window : Window) → Prefixing (windowThen channel window)
+    go Window.Absent = prefixing-nothing
+    go Window.Empty = prefixing-option _ _
+    go (Window.Given w) = prefixing-option _ _
+
+pub statuses-prefixing : (cells : List StatusCell) → Prefixing (statusesThen cells)
+statuses-prefixing = table-prefixing statusAt status-prefixing 0
+
+pub sequences-prefixing : (cells : List SequenceCell) → Prefixing (sequencesThen cells)
+sequences-prefixing = table-prefixing sequenceAt sequence-prefixing 0
+
+pub windows-prefixing : (cells : List WindowCell) → Prefixing (windowsThen cells)
+windows-prefixing = table-prefixing windowAt window-prefixing 0
+
+-- ---- the tables' length, channel by channel
+
+abbrev pub lengthFrom : {A : Type 0} → (ℕ → A → Options → Options) → ℕ → List A → ℕ
+lengthFrom put channel cells = length (bytes (tableThen put channel (drop channel cells) done))
+
+length-step : {A : Type 0} {put : ℕ → A → Options → Options} → ((channel : ℕ) (cell : A) → Prefixing (put channel cell))
+    → (cells : List A) (none : A) (channel : ℕ) → channel < length cells
+    → lengthFrom put channel cells ≡ sizeOf (put channel (getD cells channel none)) + lengthFrom put (channel + 1) cells
+length-step {put = put} p cells none channel h =
+    ap (λ (o : Options). length (bytes o)) (table-step put cells none channel h)
+    ∙ prefixing-size (p channel (getD cells channel none)) (tableThen put (channel + 1) (drop (channel + 1) cells) done)
+
+length-end : {A : Type 0} (put : ℕ → A → Options → Options) (cells : List A) (channel : ℕ) → length cells ≤ channel → lengthFrom put channel cells ≡ 0
+unfolding bytes
+length-end put cells channel h = ap (λ (o : Options). length (bytes o)) (table-end put cells channel h)
+
+module _ (statuses : List StatusCell) (sequences : List SequenceCell) (windows : List WindowCell) where
+  abbrev pub tablesSize : ℕ
+  tablesSize = sizeOf (statusesThen statuses) + (sizeOf (sequencesThen sequences) + sizeOf (windowsThen windows))
+
+  abbrev pub placeSize : ℕ → ℕ
+  placeSize channel =
+      sizeOf (statusAt channel (getD statuses channel noStatus))
+      + (sizeOf (sequenceAt channel (getD sequences channel noSequence)) + sizeOf (windowAt channel (getD windows channel noWindow)))
+
+  -- so many bytes are counted, and with the channels from here on they are the whole
+  pub record Counting (channel size : ℕ) : Type 0 where
+    pub full : Full statuses sequences windows
+    pub inside : channel ≤ CHANNEL-IDS
+    pub few : size ≤ 3 * LONGEST-OPTION * channel
+    pub whole : size + (lengthFrom statusAt channel statuses + (lengthFrom sequenceAt channel sequences + lengthFrom windowAt channel windows)) ≡ tablesSize
+
+  pub counting-start : Full statuses sequences windows → Counting 0 0
+  counting-start full = record { full = full; inside = omega arith; few = omega arith; whole = omega arith }
+
+  pub counting-turn : (channel size r : ℕ) → channel < CHANNEL-IDS → (r ≡ placeSize channel) × (r ≤ 3 * LONGEST-OPTION) → Counting channel size → Counting (channel + 1) (size + r)
+  counting-turn channel size r h e s =
+      let full = s .full in
+      let a = length-step status-prefixing statuses noStatus channel (omega arith) in
+      let b = length-step sequence-prefixing sequences noSequence channel (omega arith) in
+      let d = length-step window-prefixing windows noWindow channel (omega arith) in
+      record { full = full; inside = omega arith; few = omega (arith, s .few); whole = omega (arith, s .whole) }
+
+  pub counting-end : (channel size : ℕ) → CHANNEL-IDS ≤ channel → Counting channel size → (size ≡ tablesSize) × (size ≤ 3 * LONGEST-OPTION * CHANNEL-IDS)
+  counting-end channel size h s =
+      let full = s .full in
+      let a = length-end statusAt statuses channel (omega arith) in
+      let b = length-end sequenceAt sequences channel (omega arith) in
+      let d = length-end windowAt windows channel (omega arith) in
+      (omega (arith, s .whole), omega (arith, s .few, s .inside))

@@ -1,0 +1,3 @@
+// Laying a message's parts down, each in the rest of an output behind the one before.
+pub mod option;
+pub mod table;

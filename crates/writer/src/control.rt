@@ -1,0 +1,76 @@
+// Writing a control message.
+ghost use mathlib.Core.Path.{_≡_};
+ghost use Prim.Native.Nat.{_≤_};
+ghost use lib.ListN.{length};
+ghost use Rattle.wire.specs.Options.{Laid};
+ghost use Rattle.laying.specs.Laying.{ShortNames};
+ghost use Rattle.allowed.specs.Allowed.{controlAllowed};
+ghost use Rattle.writer.specs.Written.{controlWritten, Outcome};
+use crate::answer;
+use crate::answer::WriteAnswer;
+use laying::option;
+use laying::table;
+use meaning::message::Control;
+use meaning::message::End;
+use quantity::count::ByteCount;
+use quantity::refusal;
+
+// Version 1, the control plane.
+const HEADER: u8 = 16;
+
+// The message's length: nothing is written before it is known to fit.
+fn size(message: Control) -> usize
+    requires { ⌜ ShortNames message ⌝ }
+    ensures { λ r. ⌜ r ≡ length (controlWritten message) ⌝ }
+{
+    let datalink = message.datalink;
+    let instance = message.instance;
+    let context = message.context;
+    let statuses = message.statuses;
+    let sequences = message.sequences;
+    let windows = message.windows;
+    1
+        + option::size(option::datalink(datalink))
+        + option::size(option::instance(instance))
+        + option::size(option::context(context))
+        + table::size(statuses, sequences, windows)
+}
+
+// Each part is written into the rest of the output behind the one before.
+fn lay(message: Control, out: &mut [u8]) -> usize
+    requires { ⌜ ShortNames message ⌝ }
+    requires { ⌜ length (controlWritten message) ≤ length (now out) ⌝ }
+    ensures { λ r. ⌜ Laid (controlWritten message) (now (out .entry)) (now (out .exit)) r ⌝ }
+{
+    let datalink = message.datalink;
+    let instance = message.instance;
+    let context = message.context;
+    let statuses = message.statuses;
+    let sequences = message.sequences;
+    let windows = message.windows;
+    let stated_datalink = option::datalink(datalink);
+    let stated_instance = option::instance(instance);
+    let stated_context = option::context(context);
+    out[0] = HEADER;
+    let mut at: usize = 1;
+    at = at + option::lay(&mut out[at..], stated_datalink);
+    at = at + option::lay(&mut out[at..], stated_instance);
+    at = at + option::lay(&mut out[at..], stated_context);
+    at = at + table::lay_statuses(&mut out[at..], statuses);
+    at = at + table::lay_sequences(&mut out[at..], sequences);
+    at = at + table::lay_windows(&mut out[at..], windows);
+    at
+}
+
+// 20 and 18 are judged before a byte is touched.
+pub fn write(end: End, message: Control, out: &mut [u8]) -> WriteAnswer
+    ensures { λ r. ⌜ Outcome (controlAllowed end message) (controlWritten message) (now (out .entry)) r (now (out .exit)) ⌝ }
+{
+    if !allowed::control::may_write(end, message) {
+        return answer::refused(refusal::MEANING);
+    }
+    if answer::no_room(size(message), out.len()) {
+        return answer::refused(refusal::NO_ROOM);
+    }
+    WriteAnswer::Wrote(ByteCount(lay(message, out)))
+}
