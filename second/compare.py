@@ -10,8 +10,8 @@ import sys
 
 SECOND = pathlib.Path(__file__).resolve().parent
 ROOT = SECOND.parent
-# For each proved program: the generator of its random input, and how many lines it writes before the first answer.
-PROGRAMS = {"distance": ("distances.py", 1)}
+# For each proved program: the generator of its random input with its words, and the lines written before the first answer.
+PROGRAMS = {"distance": (["distances.py"], 1), "session": (["scripts.py", "messages"], 0)}
 
 
 def run_second(program, text):
@@ -51,7 +51,8 @@ def compare_stored():
 
 def compare_random(program, seed, count):
     """Both implementations on one random script."""
-    command = [sys.executable, SECOND / PROGRAMS[program][0], seed, count]
+    generator, *words = PROGRAMS[program][0]
+    command = [sys.executable, SECOND / generator, seed, count, *words]
     text = subprocess.run(command, capture_output=True, check=True).stdout
     difference = first_difference(program, text, run_proved(program, text), run_second(program, text))
     print(f"{program}, seed {seed}, {count} lines: {difference or 'no difference'}")

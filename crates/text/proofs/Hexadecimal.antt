@@ -9,7 +9,7 @@ use native.Mathlib.Omega.{arith}
 use borrow.Author.Tests.{le-leb, lt-leb, leb-true, eqb-true}
 use lib.Dec.{leb}
 use lib.ListN.{length, getD, take, drop, set, length-drop, length-set}
-use lib.Seq.{getD-drop, drop-drop, paste, paste-zero, paste-suc, take-suc, take-all, take-length, length-take-le}
+use lib.Seq.{getD-drop, drop-drop, paste, paste-zero, paste-suc, take-suc, take-all, take-at, take-length, length-take-le}
 use Rattle.io.specs.Digits.{digits, Fewest}
 use Rattle.text.specs.declared.Number.{Number}
 use Rattle.text.specs.declared.Number.the-variants.{Bad, Value}
@@ -161,6 +161,20 @@ unhex-inside size word {n} e = go (readableOf word) (leb (length word / 2) size)
     go true true q p = let same : length word / 2 ≡ n = cc in omega (arith, leb-true (length word / 2) size q)
     go true false q p = clash (cc)
     go false u q p = clash (cc)
+
+-- and stand at its start
+pub unhex-bytes : (out word : List ℕ) {n : ℕ} → hexedOf (length out) word ≡ hexed.Long n → take n (unhexed out word) ≡ pairsOf word
+unfolding hexedOf unhexed
+unhex-bytes out word {n} e = go (readableOf word) (leb (length word / 2) (length out)) refl refl e
+  where
+    go : (t u : Bool) → readableOf word ≡ t → leb (length word / 2) (length out) ≡ u → cond t (cond u (hexed.Long (length word / 2)) hexed.Bad) hexed.Bad ≡ hexed.Long n
+        → take n (cond t (laid out 0 (pairsOf word)) out) ≡ pairsOf word
+    go true true r q p =
+        let same : n ≡ length (pairsOf word) = (cc) ∙ sym (readable-count word r) in
+        let room : 0 + length (pairsOf word) ≤ length out = omega (arith, leb-true (length word / 2) (length out) q, readable-count word r) in
+        rw (laid-in out 0 (pairsOf word) room) (take-at (pairsOf word) (drop (0 + length (pairsOf word)) out) n (sym same))
+    go true false r q p = let z : _≡_ {A = ℕ} 0 1 = cc in absurd (omega arith)
+    go false u r q p = let z : _≡_ {A = ℕ} 0 1 = cc in absurd (omega arith)
 
 -- ---- writing
 

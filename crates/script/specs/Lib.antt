@@ -1,0 +1,4 @@
+pub mod Asked
+pub mod Readings
+pub mod Echoes
+pub mod Lines
