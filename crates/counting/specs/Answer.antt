@@ -35,6 +35,7 @@ pairOf (number.Value sequence) number.Bad rest = Bad
 pairOf (number.Value sequence) (number.Value window) rest =
     cond (ltb 0 (length rest)) Bad (Numbers (record { 0 = sequence }) (record { 0 = window }))
 
+-- what a line stands for
 unfoldable pub readOf : List ℕ → Read
 readOf line = pairOf (parseOf MOST (headOf line)) (parseOf MOST (wordOf (tailOf line))) (beyondOf (tailOf line))
 
@@ -55,5 +56,6 @@ abbrev pub textOf : Read → List ℕ
 textOf Bad = bad
 textOf (Numbers sequence window) = rowOf sequence window
 
+-- the answer to a line
 unfoldable pub answerOf : List ℕ → List ℕ
 answerOf line = textOf (readOf line)

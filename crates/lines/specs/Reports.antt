@@ -20,14 +20,16 @@ unfoldable pub linesOf : List ℕ → List (List ℕ)
 linesOf [] = []
 linesOf (byte ∷ bytes) = cond (eqb byte 10) ([] ∷ linesOf bytes) (longer byte (linesOf bytes))
 
--- what is reported of a line: its bytes, where it has room with its newline in a buffer of so many bytes
+-- what is reported of a line: its bytes, or that it was dropped
 pub data Report : Type 0 where
   whole : List ℕ → Report
   dropped : Report
 
+-- a line is dropped that has no room with its newline in a buffer of so many bytes
 abbrev pub reportOf : ℕ → List ℕ → Report
 reportOf size line = cond (ltb (length line) size) (whole line) dropped
 
+-- what is reported of an input
 abbrev pub reportsOf : ℕ → List ℕ → List Report
 reportsOf size bytes = map (reportOf size) (linesOf bytes)
 

@@ -32,12 +32,14 @@ lineOf input to at = cond (input .over) (Over (restOf input at)) (Line (input .a
 unfoldable pub lastOf : Input → Found
 lastOf input = cond (input .over || ltb (input .at) (input .have)) (lineOf input (input .have) (input .have)) End
 
--- by where the next newline stands, or what was read ends
+-- what is found by where the next newline (10) stands, or what was read ends
 unfoldable pub foundOf : Input → ℕ → Found
 foundOf input to = cond (ltb to (input .have)) (lineOf input to (to + 1)) (cond (input .ended) (lastOf input) More)
 
+-- what stands next; an input that doesn't lie within the buffer is at its end
 unfoldable pub nextOf : List ℕ → Input → Found
-nextOf buffer input = cond (tidyOf (length buffer) input) (foundOf input (input .at + indexOf 10 (slice (input .at) (input .have) buffer))) End
+nextOf buffer input =
+    cond (tidyOf (length buffer) input) (foundOf input (input .at + indexOf 10 (slice (input .at) (input .have) buffer))) End
 
 -- ---- reading more
 
@@ -47,7 +49,8 @@ lostOf size input = input .over || eqb (input .at) 0 && eqb (input .have) size
 
 -- the bytes that are kept
 unfoldable pub keptOf : List ℕ → Input → List ℕ
-keptOf buffer input = cond (tidyOf (length buffer) input && not (lostOf (length buffer) input)) (slice (input .at) (input .have) buffer) []
+keptOf buffer input =
+    cond (tidyOf (length buffer) input && not (lostOf (length buffer) input)) (slice (input .at) (input .have) buffer) []
 
 -- bytes at the start of a buffer stay, and more may stand behind them; where none do, the input is at its end
 pub record Behind (buffer : List ℕ) (kept : ℕ) (dropped : Bool) (r : Input) (buffer′ : List ℕ) : Type 0 where

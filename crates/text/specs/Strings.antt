@@ -37,9 +37,10 @@ readableOf word = bySize false (λ a. eqb a 45) (eqb (length (pairsOf word) * 2)
 
 -- the answer: how many bytes, where the word stands for some that have room in an output of so many
 unfoldable pub hexedOf : ℕ → List ℕ → Hexed
-hexedOf size word = cond (readableOf word) (cond (leb (length word / 2) size) (hexed.Long (length word / 2)) hexed.Bad) hexed.Bad
+hexedOf size word =
+    cond (readableOf word) (cond (leb (length word / 2) size) (hexed.Long (length word / 2)) hexed.Bad) hexed.Bad
 
--- the output: the bytes at its start
+-- the output: the bytes at its start, where the word stands for some that have room
 unfoldable pub unhexed : List ℕ → List ℕ → List ℕ
 unhexed out word = cond (readableOf word) (laid out 0 (pairsOf word)) out
 
@@ -48,7 +49,7 @@ unfoldable pub pairsText : List ℕ → List ℕ
 pairsText [] = []
 pairsText (byte ∷ bytes) = digits 16 2 byte ++ pairsText bytes
 
--- a byte string
+-- a byte string as text: `-` (45) is the empty one
 unfoldable pub bytesText : List ℕ → List ℕ
 bytesText [] = 45 ∷ []
 bytesText (byte ∷ bytes) = pairsText (byte ∷ bytes)
