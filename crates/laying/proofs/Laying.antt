@@ -107,7 +107,7 @@ prefixing-stated : (stated : Stated) → Prefixing (statedThen stated)
 prefixing-stated Stated.Nothing = prefixing-nothing
 prefixing-stated (Stated.Number kind size number) = prefixing-option kind (bytesOf size number)
 
-pub prefixing-states : {stated : Stated} {f : Options → Options} → States stated f → Prefixing f
+prefixing-states : {stated : Stated} {f : Options → Options} → States stated f → Prefixing f
 prefixing-states {stated} e = record { before = λ more. rw (← e .same more, ← e .same done) (prefixing-stated stated .before more) }
 
 pub states-size : {stated : Stated} {f : Options → Options} → States stated f → sizeOf (statedThen stated) ≡ sizeOf f
@@ -115,6 +115,10 @@ states-size e = ap (λ (o : Options). length (bytes o)) (e .same done)
 
 pub prefixing-size : {f : Options → Options} → Prefixing f → (more : Options) → length (bytes (f more)) ≡ sizeOf f + length (bytes more)
 prefixing-size {f} p more = ap length (p .before more) ∙ length-append (alone f) (bytes more)
+
+pub states-behind : {stated : Stated} {f : Options → Options} → States stated f → (more : Options)
+    → length (bytes (f more)) ≡ sizeOf (statedThen stated) + length (bytes more)
+states-behind {stated} {f} e more = omega (arith, prefixing-size (prefixing-states e) more, states-size e)
 
 -- the first `at` bytes of `out` are written; with `rest` laid behind them it becomes `text` laid over the output as it came
 pub record Standing (text entry : List ℕ) (at : ℕ) (rest : Options) (out : List ℕ) : Type 0 where

@@ -16,9 +16,9 @@ use Rattle.meaning.specs.declared.message.StatusCell.{StatusCell}
 use Rattle.meaning.specs.declared.message.SequenceCell.{SequenceCell}
 use Rattle.meaning.specs.declared.message.WindowCell.{WindowCell}
 use Rattle.laying.specs.declared.option.Stated.{Stated}
-use Rattle.laying.specs.Laying.{sizeOf, LONGEST-OPTION, statedThen, States}
+use Rattle.laying.specs.Laying.{alone, sizeOf, LONGEST-OPTION, statedThen, States}
 use Rattle.laying.specs.Parts.{statusThen, sequenceThen, windowThen, tableThen, statusesThen, sequencesThen, windowsThen}
-use Rattle.laying.proofs.Laying.{Standing, Lending, Prefixing, prefixing-nothing, prefixing-option, prefixing-both, prefixing-size, lending-stated, standing-end}
+use Rattle.laying.proofs.Laying.{Standing, Lending, Prefixing, prefixing-nothing, prefixing-option, prefixing-both, prefixing-size, lending-stated, standing-start, standing-end}
 
 abbrev pub statusAt : ℕ → StatusCell → Options → Options
 statusAt channel cell = statusThen channel (cell .status)
@@ -40,18 +40,31 @@ table-end : {A : Type 0} (put : ℕ → A → Options → Options) (cells : List
 unfolding tableThen
 table-end put cells channel h = rw (drop-of-length-le cells h)
 
--- a channel's option is the next to be laid
-pub table-turn : {A : Type 0} (put : ℕ → A → Options → Options) (cells : List A) (none : A) (channel : ℕ) {stated : Stated} {text entry out : List ℕ} {at : ℕ}
-    → channel < length cells
-    → States stated (put channel (getD cells channel none))
-    → Standing text entry at (tableThen put channel (drop channel cells) done) out
-    → Lending text entry at (statedThen stated) (tableThen put (channel + 1) (drop (channel + 1) cells) done) out
-table-turn put cells none channel h e s = lending-stated e (rw (← table-step put cells none channel h) s)
+-- the options of the channels from this one on are left to be laid
+pub record Going {A : Type 0} (put : ℕ → A → Options → Options) (cells : List A) (entry : List ℕ) (channel at : ℕ) (out : List ℕ) : Type 0 where
+  pub full : length cells ≡ CHANNEL-IDS
+  pub inside : channel ≤ CHANNEL-IDS
+  pub standing : Standing (alone (tableThen put 0 cells)) entry at (tableThen put channel (drop channel cells) done) out
 
--- every channel's option is laid
-pub table-laid : {A : Type 0} (put : ℕ → A → Options → Options) (cells : List A) (channel : ℕ) {text entry out : List ℕ} {at : ℕ}
-    → length cells ≤ channel → Standing text entry at (tableThen put channel (drop channel cells) done) out → Laid text entry out at
-table-laid put cells channel h s = standing-end (rw (table-end put cells channel h) at s)
+-- the rest of the output is lent to the writer of a channel's option
+abbrev pub Turn : {A : Type 0} → (ℕ → A → Options → Options) → List A → List ℕ → ℕ → ℕ → Stated → List ℕ → Type 0
+Turn put cells entry channel at stated out =
+    Lending (alone (tableThen put 0 cells)) entry at (statedThen stated) (tableThen put (channel + 1) (drop (channel + 1) cells) done) out
+
+module _ {A : Type 0} (put : ℕ → A → Options → Options) (cells : List A) (entry : List ℕ) where
+  pub going-start : length cells ≡ CHANNEL-IDS → sizeOf (tableThen put 0 cells) ≤ length entry → Going put cells entry 0 0 entry
+  going-start full h = record { full = full; inside = omega arith; standing = standing-start (tableThen put 0 cells done) entry h }
+
+  pub going-lent : (none : A) (channel at : ℕ) (stated : Stated) (out : List ℕ) → channel < CHANNEL-IDS → States stated (put channel (getD cells channel none))
+      → Going put cells entry channel at out → Turn put cells entry channel at stated out
+  going-lent none channel at stated out h e g = let full = g .full in lending-stated e (rw (← table-step put cells none channel (omega arith)) (g .standing))
+
+  pub going-turn : (channel at at′ : ℕ) (out out′ : List ℕ) → channel < CHANNEL-IDS → Going put cells entry channel at out
+      → Standing (alone (tableThen put 0 cells)) entry at′ (tableThen put (channel + 1) (drop (channel + 1) cells) done) out′ → Going put cells entry (channel + 1) at′ out′
+  going-turn channel at at′ out out′ h g s = record { full = g .full; inside = omega arith; standing = s }
+
+  pub going-end : (channel at : ℕ) (out : List ℕ) → CHANNEL-IDS ≤ channel → Going put cells entry channel at out → Laid (alone (tableThen put 0 cells)) entry out at
+  going-end channel at out h g = let full = g .full in standing-end (rw (table-end put cells channel (omega arith)) at (g .standing))
 
 -- ---- a table before what follows
 

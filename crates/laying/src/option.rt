@@ -74,7 +74,7 @@ pub fn status(channel: u8, status: Status) -> Stated
 }
 
 // A Channel ID and a number of 32 bits behind it.
-fn counted_flow(kind: u8, channel: u8, number: u32) -> Stated
+fn flow(kind: u8, channel: u8, number: u32) -> Stated
     ensures { λ r. ⌜ States r (option kind (channel ∷ bytesOf 4 number)) ⌝ }
 {
     Stated::Number(kind, 5, channel as u64 * WORD + number as u64)
@@ -85,7 +85,7 @@ pub fn sequence(channel: u8, sequence: Sequence) -> Stated
 {
     match sequence {
         Sequence::Absent => Stated::Nothing,
-        Sequence::Given(s) => counted_flow(kind::FLOW_SEQUENCE, channel, s.0),
+        Sequence::Given(s) => flow(kind::FLOW_SEQUENCE, channel, s.0),
     }
 }
 
@@ -95,7 +95,7 @@ pub fn window(channel: u8, window: Window) -> Stated
     match window {
         Window::Absent => Stated::Nothing,
         Window::Empty => Stated::Number(kind::FLOW_WINDOW, 1, channel as u64),
-        Window::Given(w) => counted_flow(kind::FLOW_WINDOW, channel, w.0),
+        Window::Given(w) => flow(kind::FLOW_WINDOW, channel, w.0),
     }
 }
 
@@ -104,7 +104,7 @@ pub fn counted(counted: Counted) -> Stated
 {
     match counted {
         Counted::Absent => Stated::Nothing,
-        Counted::Given(channel, s) => counted_flow(kind::FLOW_SEQUENCE, channel, s.0),
+        Counted::Given(channel, s) => flow(kind::FLOW_SEQUENCE, channel, s.0),
     }
 }
 

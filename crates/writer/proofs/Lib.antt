@@ -1,1 +1,4 @@
-pub mod Messages
+pub mod ControlMessage
+pub mod DataMessage
+pub mod Outcomes
+pub mod Short

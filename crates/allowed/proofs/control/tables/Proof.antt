@@ -3,6 +3,7 @@ use Prim.Native.Nat.{_-_}
 use mathlib.Core.Path.{sym}
 use borrow.Author.Needs.{needs}
 use native.Mathlib.Omega.{arith}
+use Rattle.quantity.specs.Limits.{CHANNEL-IDS}
 use Rattle.meaning.proofs.Tables.{length-mapped}
 use Rattle.allowed.proofs.Places.{Deciding, deciding-start, deciding-turn, deciding-refused, deciding-end}
 use Rattle.allowed.proofs.control.tables.Statement.{statement}
@@ -12,7 +13,7 @@ abbrev Inv-loop : tie.InvT-loop
 Inv-loop end statuses sequences windows channel₀ channel = Deciding end statuses sequences windows channel
 
 abbrev μ-loop : tie.MeasureT-loop
-μ-loop end statuses sequences windows channel₀ channel = 255 - channel
+μ-loop end statuses sequences windows channel₀ channel = CHANNEL-IDS - channel
 
 loop-holds : tie.Need-loop-holds Inv-loop μ-loop
 loop-holds c =

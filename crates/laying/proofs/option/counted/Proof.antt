@@ -10,15 +10,15 @@ enum-told c = search needs
 enum-known-counted : tie.Need-enum-known-counted
 enum-known-counted c = search needs
 
-counted-flow-requires : tie.Need-counted-flow-requires
-counted-flow-requires c κs = search needs
+flow-requires : tie.Need-flow-requires
+flow-requires c κs = search needs
 
 returns : tie.Need-returns
 returns c = rw (c .enum-told .given .1) states-nothing
 
 returns-2 : tie.Need-returns-2
-returns-2 c = rw (c .before .before .counted .given .1) (c .counted-flow .ensures)
+returns-2 c = rw (c .before .before .counted .given .1) (c .flow .ensures)
 
 pub counted-spec : {M : Type 1} → statement M
 counted-spec =
-    tie.close (tie.spec enum-told enum-known-counted counted-flow-requires returns returns-2)
+    tie.close (tie.spec enum-told enum-known-counted flow-requires returns returns-2)

@@ -3,17 +3,18 @@ use Prim.Native.Nat.{_+_, _≤_}
 use borrow.Author.Needs.{needs}
 use native.Mathlib.Omega.{arith}
 use lib.ListN.{length}
+use Rattle.quantity.specs.Limits.{LONGEST-NAME}
 use Rattle.wire.specs.Options.{bytes}
 use Rattle.wire.proofs.Numbers.{length-bytes}
 use Rattle.laying.proofs.Laying.{option-alone, number-size, laid-nothing, content-is, content-inside}
 use Rattle.laying.proofs.option.lay.Statement.{statement}
 use Rattle.laying.proofs.option.lay.Tie as tie
 
-short : (c : tie.After-known-told) → c .before .stated .given .0 .1 .0 ≤ 8
+short : (c : tie.After-known-told) → c .before .stated .given .0 .1 .0 ≤ LONGEST-NAME
 short c = rw (c .before .stated .given .1) at (c .before .before .before .before .pre .0)
 
 room : (c : tie.After-known-told) → 3 + c .before .stated .given .0 .1 .0 ≤ length (c .before .before .before .before .args .out .now)
-room c = let h = rw (c .before .stated .given .1, number-size) at (c .before .before .before .before .pre .1) in h
+room c = rw (c .before .stated .given .1, number-size) at (c .before .before .before .before .pre .1)
 
 enum-known-stated : tie.Need-enum-known-stated
 enum-known-stated c = search needs

@@ -14,8 +14,8 @@ enum-told-2 c = search needs
 enum-known-window : tie.Need-enum-known-window
 enum-known-window c = search needs
 
-counted-flow-requires : tie.Need-counted-flow-requires
-counted-flow-requires c κs = search needs
+flow-requires : tie.Need-flow-requires
+flow-requires c κs = search needs
 
 returns : tie.Need-returns
 returns c = rw (c .enum-told .given .1) states-nothing
@@ -24,7 +24,7 @@ returns-2 : tie.Need-returns-2
 returns-2 c = rw (c .enum-told2 .given .1) (states-byte _ _ (omega arith))
 
 returns-3 : tie.Need-returns-3
-returns-3 c = rw (c .before .before .window .given .1) (c .counted-flow .ensures)
+returns-3 c = rw (c .before .before .window .given .1) (c .flow .ensures)
 
 pub window-spec : {M : Type 1} → statement M
 window-spec =
@@ -33,7 +33,7 @@ window-spec =
     enum-told
     enum-told-2
     enum-known-window
-    counted-flow-requires
+    flow-requires
     returns
     returns-2
     returns-3)

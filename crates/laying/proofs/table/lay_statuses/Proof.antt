@@ -1,34 +1,25 @@
 -- `table::lay_statuses` meets its contract. The loop's invariant: the options of the channels from here on are left to be laid. Assumes nothing.
-use Prim.Native.Nat.{_+_, _-_, _≤_}
-use mathlib.Core.Path.{_≡_}
+use Prim.Native.Nat.{_-_}
 use borrow.Author.Needs.{needs}
 use native.Mathlib.Omega.{arith}
-use lib.ListN.{length, drop}
-use Rattle.wire.specs.Options.{done}
-use Rattle.meaning.specs.declared.message.Status.{Status}
-use Rattle.laying.specs.Laying.{alone, statedThen}
-use Rattle.laying.specs.Parts.{statusesThen, tableThen}
-use Rattle.laying.proofs.Laying.{Standing, Lending, standing-start}
-use Rattle.meaning.proofs.Tables.{length-mapped}
-use Rattle.laying.proofs.Tables.{statusAt, table-turn, table-laid}
+use Rattle.quantity.specs.Limits.{CHANNEL-IDS}
+use Rattle.meaning.proofs.Tables.{length-mapped, noStatus}
+use Rattle.laying.proofs.Tables.{statusAt, Going, Turn, going-start, going-lent, going-turn, going-end}
 use Rattle.laying.proofs.table.lay_statuses.Statement.{statement}
 use Rattle.laying.proofs.table.lay_statuses.Tie as tie
 
 abbrev Inv-loop : tie.InvT-loop
-Inv-loop out₀ cells at₀ channel₀ out at channel = (channel ≤ 255) × Standing (alone (statusesThen cells)) out₀ at (tableThen statusAt channel (drop channel cells) done) out
+Inv-loop out₀ cells at₀ channel₀ out at channel = Going statusAt cells out₀ channel at out
 
 abbrev μ-loop : tie.MeasureT-loop
-μ-loop out₀ cells at₀ channel₀ out at channel = 255 - channel
+μ-loop out₀ cells at₀ channel₀ out at channel = CHANNEL-IDS - channel
 
-full : (c : tie.Start Inv-loop μ-loop) → length (c .args .t2) ≡ 255
-full c = search (length-mapped, needs)
-
-lent : (c : tie.After-status Inv-loop μ-loop) → let loop = c .before .before .before .loop in let start = c .before .before .before .before .before in
-    Lending (alone (statusesThen (start .args .t2))) (start .args .out .now) (loop .at) (statedThen (c .status .result)) (tableThen statusAt (loop .channel + 1) (drop (loop .channel + 1) (start .args .t2)) done) (loop .out)
-lent c = table-turn statusAt _ (record { status = Status.Absent }) _ (omega (arith, full (c .before .before .before .before .before))) (c .status .ensures) (c .before .before .before .loop .inv .1)
+lent : (c : tie.After-status Inv-loop μ-loop) → let turn = c .before .before in let start = turn .before .before .before in
+    Turn statusAt (start .args .t2) (start .args .out .now) (turn .before .loop .channel) (turn .before .loop .at) (c .status .result) (turn .before .loop .out)
+lent c = let turn = c .before .before in going-lent statusAt _ _ noStatus _ _ _ _ (turn .loop-test .taken) (c .status .ensures) (turn .before .loop .inv)
 
 loop-holds : tie.Need-loop-holds Inv-loop μ-loop
-loop-holds c = (omega arith, standing-start _ _ (c .before .pre))
+loop-holds c = going-start statusAt _ _ (search (length-mapped, needs)) (c .before .pre)
 
 mul-cell : tie.Need-mul-cell Inv-loop μ-loop
 mul-cell c = search needs
@@ -64,13 +55,17 @@ loop-less : tie.Need-loop-less Inv-loop μ-loop
 loop-less c = omega arith
 
 loop-again : tie.Need-loop-again Inv-loop μ-loop
-loop-again c = (omega arith, lent (c .before .before .before .before) .back _ _ (c .before .before .lay .ensures))
+loop-again c =
+    let back = c .before .before in
+    let place = back .before .before in
+    let turn = place .before .before in
+    going-turn statusAt _ _ _ _ _ _ _ (turn .loop-test .taken) (turn .before .loop .inv) (lent place .back _ _ (back .lay .ensures))
 
 same-length : tie.Need-same-length Inv-loop μ-loop
-same-length c = c .before .loop .inv .1 .long
+same-length c = c .before .loop .inv .standing .long
 
 returns : tie.Need-returns Inv-loop μ-loop
-returns c = table-laid statusAt _ _ (omega (arith, full (c .before .before .before))) (c .before .loop .inv .1)
+returns c = going-end statusAt _ _ _ _ _ (c .loop-test .left) (c .before .loop .inv)
 
 pub lay-statuses-spec : {M : Type 1} → statement M
 lay-statuses-spec =

@@ -2,6 +2,7 @@
 use Prim.Native.Nat.{_-_}
 use borrow.Author.Needs.{needs}
 use native.Mathlib.Omega.{arith}
+use Rattle.quantity.specs.Limits.{CHANNEL-IDS}
 use Rattle.meaning.proofs.Tables.{length-mapped}
 use Rattle.laying.proofs.Tables.{Counting, counting-start, counting-turn, counting-end}
 use Rattle.laying.proofs.table.size.Statement.{statement}
@@ -11,7 +12,7 @@ abbrev Inv-loop : tie.InvT-loop
 Inv-loop statuses sequences windows size₀ channel₀ size channel = Counting statuses sequences windows channel size
 
 abbrev μ-loop : tie.MeasureT-loop
-μ-loop statuses sequences windows size₀ channel₀ size channel = 255 - channel
+μ-loop statuses sequences windows size₀ channel₀ size channel = CHANNEL-IDS - channel
 
 loop-holds : tie.Need-loop-holds Inv-loop μ-loop
 loop-holds c =

@@ -1,41 +1,57 @@
--- `control::lay` meets its contract: at each stage the rest of the output is lent to the next part's writer. Assumes nothing.
+-- `control::lay` meets its contract: at each stage the rest of the output is lent to the writer of the next part. Assumes nothing.
 use borrow.Author.Needs.{needs}
 use native.Mathlib.Omega.{arith}
 use lib.ListN.{length-set}
-use Rattle.wire.specs.Options.{Options, done}
+use Rattle.wire.specs.Options.{Options}
+use Rattle.meaning.specs.declared.message.Control.{Control}
 use Rattle.laying.specs.Laying.{statedThen}
 use Rattle.laying.specs.Parts.{statusesThen, sequencesThen, windowsThen}
-use Rattle.writer.specs.Written.{controlWritten}
 use Rattle.laying.proofs.Laying.{Stage, stage, stage-stated, standing-end}
-use Rattle.writer.proofs.Messages.{behindDatalink, behindInstance, behindContext, behindStatuses, behindSequences, control-header}
 use Rattle.laying.proofs.Tables.{statuses-prefixing, sequences-prefixing, windows-prefixing}
+use Rattle.writer.specs.Written.{controlWritten}
+use Rattle.writer.proofs.ControlMessage.{behindDatalink, behindInstance, behindContext, behindStatuses, behindSequences, behindWindows, control-header}
 use Rattle.writer.proofs.control.lay.Statement.{statement}
 use Rattle.writer.proofs.control.lay.Tie as tie
 
-abbrev On : tie.Start → (Options → Options) → Options → Type 0
-On start f more = Stage (controlWritten (start .args .message)) (start .args .out .now) f more
+-- the place where the parts begin to be laid, behind the header
+abbrev start : tie.After-context → tie.Start
+start c = c .before .before .before .before .before .before .before
 
-abbrev stage-datalink : (c : tie.After-context) → let start = c .before .before .before .before .before .before .before in
-    On start (statedThen (c .before .before .datalink .result)) (behindDatalink (start .args .message))
-stage-datalink c =
-    let start = c .before .before .before .before .before .before .before in
-    stage-stated (c .before .before .datalink .ensures) (control-header (start .args .message) (start .args .out .now) (start .pre .1))
+abbrev On : tie.After-context → (Options → Options) → (Control → Options) → Type 0
+On c f behind = Stage (controlWritten (start c .args .message)) (start c .args .out .now) f (behind (start c .args .message))
 
-abbrev stage-instance : (c : tie.After-slice-known2) → let calls = c .before .before .before .before in let start = calls .before .before .before .before .before .before .before in
-    On start (statedThen (calls .before .instance .result)) (behindInstance (start .args .message))
-stage-instance c = stage-stated (c .before .before .before .before .before .instance .ensures) (stage-datalink (c .before .before .before .before) .lent .back _ _ (c .before .before .lay .ensures))
+-- and that place, from behind each part
+abbrev from-2 : tie.After-slice-known2 → tie.After-context
+from-2 c = c .before .before .before .before
 
-abbrev stage-context : (c : tie.After-slice-known3) → let calls = c .before .before .before .before .before .before .before .before in let start = calls .before .before .before .before .before .before .before in
-    On start (statedThen (calls .context .result)) (behindContext (start .args .message))
-stage-context c = stage-stated (c .before .before .before .before .before .before .before .before .context .ensures) (stage-instance (c .before .before .before .before) .lent .back _ _ (c .before .before .lay2 .ensures))
+abbrev from-3 : tie.After-slice-known3 → tie.After-context
+from-3 c = from-2 (c .before .before .before .before)
 
-abbrev stage-statuses : (c : tie.After-slice-known4) → let start = c .before .before .before .before .before .before .before .before .before .before .before .before .before .before .before .before .before .before .before in On start (statusesThen (start .args .message .statuses)) (behindStatuses (start .args .message))
+abbrev from-4 : tie.After-slice-known4 → tie.After-context
+from-4 c = from-3 (c .before .before .before .before)
+
+abbrev from-5 : tie.After-slice-known5 → tie.After-context
+from-5 c = from-4 (c .before .before .before .before)
+
+abbrev from-6 : tie.After-slice-known6 → tie.After-context
+from-6 c = from-5 (c .before .before .before .before)
+
+abbrev stage-datalink : (c : tie.After-context) → On c (statedThen (c .before .before .datalink .result)) behindDatalink
+stage-datalink c = stage-stated (c .before .before .datalink .ensures) (control-header (start c .args .message) (start c .args .out .now) (start c .pre .1))
+
+abbrev stage-instance : (c : tie.After-slice-known2) → On (from-2 c) (statedThen (from-2 c .before .instance .result)) behindInstance
+stage-instance c = stage-stated (from-2 c .before .instance .ensures) (stage-datalink (c .before .before .before .before) .lent .back _ _ (c .before .before .lay .ensures))
+
+abbrev stage-context : (c : tie.After-slice-known3) → On (from-3 c) (statedThen (from-3 c .context .result)) behindContext
+stage-context c = stage-stated (from-3 c .context .ensures) (stage-instance (c .before .before .before .before) .lent .back _ _ (c .before .before .lay2 .ensures))
+
+abbrev stage-statuses : (c : tie.After-slice-known4) → On (from-4 c) (statusesThen (start (from-4 c) .args .message .statuses)) behindStatuses
 stage-statuses c = stage (statuses-prefixing _) (stage-context (c .before .before .before .before) .lent .back _ _ (c .before .before .lay3 .ensures))
 
-abbrev stage-sequences : (c : tie.After-slice-known5) → let start = c .before .before .before .before .before .before .before .before .before .before .before .before .before .before .before .before .before .before .before .before .before .before .before in On start (sequencesThen (start .args .message .sequences)) (behindSequences (start .args .message))
+abbrev stage-sequences : (c : tie.After-slice-known5) → On (from-5 c) (sequencesThen (start (from-5 c) .args .message .sequences)) behindSequences
 stage-sequences c = stage (sequences-prefixing _) (stage-statuses (c .before .before .before .before) .lent .back _ _ (c .before .before .lay-statuses .ensures))
 
-abbrev stage-windows : (c : tie.After-slice-known6) → let start = c .before .before .before .before .before .before .before .before .before .before .before .before .before .before .before .before .before .before .before .before .before .before .before .before .before .before .before in On start (windowsThen (start .args .message .windows)) done
+abbrev stage-windows : (c : tie.After-slice-known6) → On (from-6 c) (windowsThen (start (from-6 c) .args .message .windows)) behindWindows
 stage-windows c = stage (windows-prefixing _) (stage-sequences (c .before .before .before .before) .lent .back _ _ (c .before .before .lay-sequences .ensures))
 
 datalink-requires : tie.Need-datalink-requires
@@ -75,7 +91,7 @@ part-lay-end-2 : tie.Need-part-lay-end-2
 part-lay-end-2 c = search needs
 
 lay-requires-2 : tie.Need-lay-requires-2
-lay-requires-2 c κs = (c .before .before .before .before .before .before .instance .ensures .short, stage-instance (c .before) .lent .room)
+lay-requires-2 c κs = (from-2 (c .before) .before .instance .ensures .short, stage-instance (c .before) .lent .room)
 
 add-at-2 : tie.Need-add-at-2
 add-at-2 c = omega (arith, stage-instance (c .before .before .before .before) .lent .fits _ (c .before .before .lay2 .ensures .count-is))
@@ -90,7 +106,7 @@ part-lay-end-3 : tie.Need-part-lay-end-3
 part-lay-end-3 c = search needs
 
 lay-requires-3 : tie.Need-lay-requires-3
-lay-requires-3 c κs = (c .before .before .before .before .before .before .before .before .before .context .ensures .short, stage-context (c .before) .lent .room)
+lay-requires-3 c κs = (from-3 (c .before) .context .ensures .short, stage-context (c .before) .lent .room)
 
 add-at-3 : tie.Need-add-at-3
 add-at-3 c = omega (arith, stage-context (c .before .before .before .before) .lent .fits _ (c .before .before .lay3 .ensures .count-is))
@@ -138,7 +154,7 @@ lay-windows-requires : tie.Need-lay-windows-requires
 lay-windows-requires c κs = stage-windows (c .before) .lent .room
 
 add-at-6 : tie.Need-add-at-6
-add-at-6 c = omega (arith, stage-windows (c .before .before .before .before) .lent .fits _ (c .before .before .lay-windows .ensures .count-is), c .before .before .before .before .before .before .before .before .before .before .before .before .before .before .before .before .before .before .before .before .before .before .before .before .before .before .before .before .before .before .before .good .1 .0)
+add-at-6 c = omega (arith, stage-windows (c .before .before .before .before) .lent .fits _ (c .before .before .lay-windows .ensures .count-is), start (from-6 (c .before .before .before .before)) .good .1 .0)
 
 same-length : tie.Need-same-length
 same-length c = stage-windows (c .before .before .before .before) .lent .back _ _ (c .before .before .lay-windows .ensures) .long

@@ -1,7 +1,7 @@
 -- `control::size` meets its contract. Assumes nothing.
 use borrow.Author.Needs.{needs}
 use native.Mathlib.Omega.{arith}
-use Rattle.writer.proofs.Messages.{control-length}
+use Rattle.writer.proofs.ControlMessage.{control-length}
 use Rattle.writer.proofs.control.size.Statement.{statement}
 use Rattle.writer.proofs.control.size.Tie as tie
 

@@ -4,7 +4,8 @@ use borrow.Author.Tests.{not-false}
 use mathlib.Core.Path.{sym, _∙_}
 use Rattle.allowed.specs.Allowed.{controlAllowed}
 use Rattle.writer.specs.Written.{controlWritten}
-use Rattle.writer.proofs.Messages.{control-short, Judged, judged-by, outcome-refused, outcome-no-room, outcome-wrote, room-enough}
+use Rattle.writer.proofs.Outcomes.{Judged, judged-by, outcome-refused, outcome-no-room, outcome-wrote, room-enough}
+use Rattle.writer.proofs.Short.{control-short}
 use Rattle.writer.proofs.control.write.Statement.{statement}
 use Rattle.writer.proofs.control.write.Tie as tie
 

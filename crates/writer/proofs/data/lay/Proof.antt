@@ -1,38 +1,53 @@
--- `data::lay` meets its contract: at each stage the rest of the output is lent to the next option's writer. Assumes nothing.
+-- `data::lay` meets its contract: at each stage the rest of the output is lent to the writer of the next part. Assumes nothing.
 use borrow.Author.Needs.{needs}
+use mathlib.Core.List.{List}
+use Prim.Native.Nat.{ℕ}
 use native.Mathlib.Omega.{arith}
 use lib.ListN.{length-set}
-use Rattle.wire.specs.Options.{Options, done, option}
+use Rattle.wire.specs.Options.{Options, option}
 use Rattle.meaning.specs.Kinds.{PACKET-DATA}
+use Rattle.meaning.specs.declared.message.Data.{Data}
 use Rattle.laying.specs.Laying.{statedThen}
-use Rattle.writer.specs.Written.{dataWritten}
 use Rattle.laying.proofs.Laying.{option-size, laid-alone, prefixing-option, Stage, stage, stage-stated, standing-end}
-use Rattle.writer.proofs.Messages.{behindName, behindCounted, behindChannel, behindExpiration, data-header}
+use Rattle.writer.specs.Written.{dataWritten}
+use Rattle.writer.proofs.DataMessage.{behindDatalink, behindCounted, behindChannel, behindExpiration, behindPacket, data-header}
 use Rattle.writer.proofs.data.lay.Statement.{statement}
 use Rattle.writer.proofs.data.lay.Tie as tie
 
-abbrev On : tie.Start → (Options → Options) → Options → Type 0
-On start f more = Stage (dataWritten (start .args .message) (start .args .packet .now)) (start .args .out .now) f more
+-- the place where the options begin to be laid, behind the header
+abbrev start : tie.After-expiration → tie.Start
+start c = c .before .before .before .before .before .before
 
-abbrev stage-datalink : (c : tie.After-expiration) → let calls = c in let start = calls .before .before .before .before .before .before in
-    On start (statedThen (calls .before .before .before .datalink .result)) (behindName (start .args .message) (start .args .packet .now))
-stage-datalink c =
-    let start = c .before .before .before .before .before .before in
-    stage-stated (c .before .before .before .datalink .ensures) (data-header (start .args .message) (start .args .packet .now) (start .args .out .now) (start .pre .1))
+abbrev On : tie.After-expiration → (Options → Options) → (Data → List ℕ → Options) → Type 0
+On c f behind =
+    Stage (dataWritten (start c .args .message) (start c .args .packet .now)) (start c .args .out .now) f (behind (start c .args .message) (start c .args .packet .now))
 
-abbrev stage-counted : (c : tie.After-slice-known2) → let calls = c .before .before .before .before in let start = calls .before .before .before .before .before .before in
-    On start (statedThen (calls .before .before .counted .result)) (behindCounted (start .args .message) (start .args .packet .now))
-stage-counted c = stage-stated (c .before .before .before .before .before .before .counted .ensures) (stage-datalink (c .before .before .before .before) .lent .back _ _ (c .before .before .lay .ensures))
+-- and that place, from behind each part
+abbrev from-2 : tie.After-slice-known2 → tie.After-expiration
+from-2 c = c .before .before .before .before
 
-abbrev stage-channel : (c : tie.After-slice-known3) → let calls = c .before .before .before .before .before .before .before .before in let start = calls .before .before .before .before .before .before in
-    On start (statedThen (calls .before .channel .result)) (behindChannel (start .args .message) (start .args .packet .now))
-stage-channel c = stage-stated (c .before .before .before .before .before .before .before .before .before .channel .ensures) (stage-counted (c .before .before .before .before) .lent .back _ _ (c .before .before .lay2 .ensures))
+abbrev from-3 : tie.After-slice-known3 → tie.After-expiration
+from-3 c = from-2 (c .before .before .before .before)
 
-abbrev stage-expiration : (c : tie.After-slice-known4) → let calls = c .before .before .before .before .before .before .before .before .before .before .before .before in let start = calls .before .before .before .before .before .before in
-    On start (statedThen (calls .expiration .result)) (behindExpiration (start .args .packet .now))
-stage-expiration c = stage-stated (c .before .before .before .before .before .before .before .before .before .before .before .before .expiration .ensures) (stage-channel (c .before .before .before .before) .lent .back _ _ (c .before .before .lay3 .ensures))
+abbrev from-4 : tie.After-slice-known4 → tie.After-expiration
+from-4 c = from-3 (c .before .before .before .before)
 
-abbrev stage-packet : (c : tie.After-slice-known5) → let start = c .before .before .before .before .before .before .before .before .before .before .before .before .before .before .before .before .before .before .before .before .before .before in On start (option PACKET-DATA (start .args .packet .now)) done
+abbrev from-5 : tie.After-slice-known5 → tie.After-expiration
+from-5 c = from-4 (c .before .before .before .before)
+
+abbrev stage-datalink : (c : tie.After-expiration) → On c (statedThen (c .before .before .before .datalink .result)) behindDatalink
+stage-datalink c = stage-stated (c .before .before .before .datalink .ensures) (data-header (start c .args .message) (start c .args .packet .now) (start c .args .out .now) (start c .pre .1))
+
+abbrev stage-counted : (c : tie.After-slice-known2) → On (from-2 c) (statedThen (from-2 c .before .before .counted .result)) behindCounted
+stage-counted c = stage-stated (from-2 c .before .before .counted .ensures) (stage-datalink (c .before .before .before .before) .lent .back _ _ (c .before .before .lay .ensures))
+
+abbrev stage-channel : (c : tie.After-slice-known3) → On (from-3 c) (statedThen (from-3 c .before .channel .result)) behindChannel
+stage-channel c = stage-stated (from-3 c .before .channel .ensures) (stage-counted (c .before .before .before .before) .lent .back _ _ (c .before .before .lay2 .ensures))
+
+abbrev stage-expiration : (c : tie.After-slice-known4) → On (from-4 c) (statedThen (from-4 c .expiration .result)) behindExpiration
+stage-expiration c = stage-stated (from-4 c .expiration .ensures) (stage-channel (c .before .before .before .before) .lent .back _ _ (c .before .before .lay3 .ensures))
+
+abbrev stage-packet : (c : tie.After-slice-known5) → On (from-5 c) (option PACKET-DATA (start (from-5 c) .args .packet .now)) behindPacket
 stage-packet c = stage (prefixing-option _ _) (stage-expiration (c .before .before .before .before) .lent .back _ _ (c .before .before .lay4 .ensures))
 
 datalink-requires : tie.Need-datalink-requires
@@ -75,7 +90,7 @@ part-lay-end-2 : tie.Need-part-lay-end-2
 part-lay-end-2 c = search needs
 
 lay-requires-2 : tie.Need-lay-requires-2
-lay-requires-2 c κs = (c .before .before .before .before .before .before .before .counted .ensures .short, stage-counted (c .before) .lent .room)
+lay-requires-2 c κs = (from-2 (c .before) .before .before .counted .ensures .short, stage-counted (c .before) .lent .room)
 
 add-at-2 : tie.Need-add-at-2
 add-at-2 c = omega (arith, stage-counted (c .before .before .before .before) .lent .fits _ (c .before .before .lay2 .ensures .count-is))
@@ -90,7 +105,7 @@ part-lay-end-3 : tie.Need-part-lay-end-3
 part-lay-end-3 c = search needs
 
 lay-requires-3 : tie.Need-lay-requires-3
-lay-requires-3 c κs = (c .before .before .before .before .before .before .before .before .before .before .channel .ensures .short, stage-channel (c .before) .lent .room)
+lay-requires-3 c κs = (from-3 (c .before) .before .channel .ensures .short, stage-channel (c .before) .lent .room)
 
 add-at-3 : tie.Need-add-at-3
 add-at-3 c = omega (arith, stage-channel (c .before .before .before .before) .lent .fits _ (c .before .before .lay3 .ensures .count-is))
@@ -105,7 +120,7 @@ part-lay-end-4 : tie.Need-part-lay-end-4
 part-lay-end-4 c = search needs
 
 lay-requires-4 : tie.Need-lay-requires-4
-lay-requires-4 c κs = (c .before .before .before .before .before .before .before .before .before .before .before .before .before .expiration .ensures .short, stage-expiration (c .before) .lent .room)
+lay-requires-4 c κs = (from-4 (c .before) .expiration .ensures .short, stage-expiration (c .before) .lent .room)
 
 add-at-4 : tie.Need-add-at-4
 add-at-4 c = omega (arith, stage-expiration (c .before .before .before .before) .lent .fits _ (c .before .before .lay4 .ensures .count-is))
@@ -121,11 +136,11 @@ part-lay-end-5 c = search needs
 
 lay-requires-5 : tie.Need-lay-requires-5
 lay-requires-5 c κs =
-    let start = c .before .before .before .before .before .before .before .before .before .before .before .before .before .before .before .before .before .before .before .before .before .before .before in
-    (start .pre .0, rw (option-size PACKET-DATA (start .args .packet .now)) at (stage-packet (c .before) .lent .room))
+    let begins = start (from-5 (c .before)) in
+    (begins .pre .0, rw (option-size PACKET-DATA (begins .args .packet .now)) at (stage-packet (c .before) .lent .room))
 
 add-result : tie.Need-add-result
-add-result c = omega (arith, stage-packet (c .before .before .before .before) .lent .fits _ ((laid-alone PACKET-DATA _ (c .before .before .lay5 .ensures)) .count-is), c .before .before .before .before .before .before .before .before .before .before .before .before .before .before .before .before .before .before .before .before .before .before .before .before .before .before .good .1 .1 .0)
+add-result c = omega (arith, stage-packet (c .before .before .before .before) .lent .fits _ ((laid-alone PACKET-DATA _ (c .before .before .lay5 .ensures)) .count-is), start (from-5 (c .before .before .before .before)) .good .1 .1 .0)
 
 same-length : tie.Need-same-length
 same-length c = stage-packet (c .before .before .before .before) .lent .back _ _ (laid-alone PACKET-DATA _ (c .before .before .lay5 .ensures)) .long

@@ -1,7 +1,7 @@
 -- `data::size` meets its contract. Assumes nothing.
 use borrow.Author.Needs.{needs}
 use native.Mathlib.Omega.{arith}
-use Rattle.writer.proofs.Messages.{data-length}
+use Rattle.writer.proofs.DataMessage.{data-length}
 use Rattle.writer.proofs.data.size.Statement.{statement}
 use Rattle.writer.proofs.data.size.Tie as tie
 

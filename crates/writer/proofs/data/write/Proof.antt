@@ -5,7 +5,8 @@ use mathlib.Core.Path.{sym, _∙_}
 use lib.ListN.{length}
 use Rattle.allowed.specs.Allowed.{dataAllowed}
 use Rattle.writer.specs.Written.{dataWritten}
-use Rattle.writer.proofs.Messages.{data-short, Judged, judged-by, outcome-refused, outcome-no-room, outcome-wrote, room-enough}
+use Rattle.writer.proofs.Outcomes.{Judged, judged-by, outcome-refused, outcome-no-room, outcome-wrote, room-enough}
+use Rattle.writer.proofs.Short.{data-short}
 use Rattle.writer.proofs.data.write.Statement.{statement}
 use Rattle.writer.proofs.data.write.Tie as tie
 

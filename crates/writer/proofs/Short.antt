@@ -1,0 +1,51 @@
+-- The contents of a meaning that may be written are short. Assumes nothing.
+use Prim.Native.Nat.{ℕ, _≤_, _<_, _^_}
+use mathlib.Core.Path.{_≡_, refl}
+use mathlib.Core.Bool.{Bool, true, false, _&&_}
+use native.Mathlib.Omega.{arith}
+use borrow.Author.Tests.{ltb-true, leb-true}
+use lib.Dec.{leb, ltb}
+use Rattle.quantity.specs.Limits.{SHORTEST-NAME, LONGEST-NAME}
+use Rattle.meaning.specs.Kinds.{lengthListed, LINK-INSTANCE, DATALINK-CONTEXT}
+use Rattle.meaning.specs.declared.message.End.{End}
+use Rattle.meaning.specs.declared.message.Plane.the-variants as planes
+use Rattle.meaning.specs.declared.message.Instance.{Instance}
+use Rattle.meaning.specs.declared.message.Context.{Context}
+use Rattle.meaning.specs.declared.message.Control.{Control}
+use Rattle.meaning.specs.declared.message.Data.{Data}
+use Rattle.allowed.specs.Allowed.{may, datalinkAllowed, instanceAllowed, contextAllowed, controlAllowed, countedAllowed, channelAllowed, expirationAllowed, dataAllowed}
+use Rattle.laying.specs.Laying.{ShortInstance, ShortContext, ShortNames}
+
+both : (a b : Bool) → (a && b) ≡ true → (a ≡ true) × (b ≡ true)
+both true b e = (refl, e)
+both false b e = let z : _≡_ {A = ℕ} 0 1 = cc in absurd (omega arith)
+
+short-length : (a : Bool) (number n : ℕ) → (a && ((leb SHORTEST-NAME n && leb n LONGEST-NAME) && ltb number (256 ^ n))) ≡ true → n ≤ LONGEST-NAME
+short-length a number n e =
+    let listed = both (leb SHORTEST-NAME n && leb n LONGEST-NAME) (ltb number (256 ^ n)) (both a _ e .1) .0 in
+    leb-true n LONGEST-NAME (both (leb SHORTEST-NAME n) (leb n LONGEST-NAME) listed .1)
+
+instance-short : (end : End) (instance : Instance) → instanceAllowed end instance ≡ true → ShortInstance instance
+unfolding lengthListed
+instance-short end Instance.Absent e = tt
+instance-short end (Instance.Given v n) e = short-length (may planes.Control end LINK-INSTANCE) (v .0) n e
+
+context-short : (end : End) (context : Context) → contextAllowed end context ≡ true → ShortContext context
+unfolding lengthListed
+context-short end Context.Absent e = tt
+context-short end (Context.Given b n) e = short-length (may planes.Control end DATALINK-CONTEXT) (b .0) n e
+
+pub control-short : (end : End) (m : Control) → controlAllowed end m ≡ true → ShortNames m
+unfolding controlAllowed
+control-short end m e =
+    let behind = both (datalinkAllowed (m .datalink)) _ e .1 in
+    let instance = both (instanceAllowed end (m .instance)) _ behind in
+    (instance-short end (m .instance) (instance .0), context-short end (m .context) (both (contextAllowed end (m .context)) _ (instance .1) .0))
+
+pub data-short : (end : End) (m : Data) (n : ℕ) → dataAllowed end m n ≡ true → n < 2 ^ 16
+unfolding dataAllowed
+data-short end m n e =
+    let behind = both (datalinkAllowed (m .datalink)) _ e .1 in
+    let counted = both (countedAllowed end (m .sequence) (m .channel)) _ behind .1 in
+    let channel = both (channelAllowed end (m .channel)) _ counted .1 in
+    ltb-true n (2 ^ 16) (both (expirationAllowed end (m .expiration)) _ channel .1)
