@@ -33,8 +33,8 @@ pub record Cells {A B : Type 0} (S : Sort A B) (id : DatalinkId) (stated : Table
   pub refuses : (number place : ℕ) → verdict (S .refuse number place) ≡ Verdict.Accepted → ⊥
   pub differs : verdict (S .other) ≡ Verdict.Accepted → ⊥
   pub blank : S .blank ≡ stated nothing
-  pub free : (τ : Table) (kind : ℕ) → among kind (mayHold (S .plane) (S .end)) ≡ true → (content : List ℕ) → channelOf (S .plane) kind content < CHANNEL-IDS
-      → S .free kind (channelOf (S .plane) kind content) (stated τ) ≡ vacant (τ kind (channelOf (S .plane) kind content))
+  pub unstated : (τ : Table) (kind : ℕ) → among kind (mayHold (S .plane) (S .end)) ≡ true → (content : List ℕ) → channelOf (S .plane) kind content < CHANNEL-IDS
+      → S .unstated kind (channelOf (S .plane) kind content) (stated τ) ≡ vacant (τ kind (channelOf (S .plane) kind content))
   pub state : (τ : Table) (kind : ℕ) → among kind (mayHold (S .plane) (S .end)) ≡ true → (content : List ℕ)
       → S .state kind (channelOf (S .plane) kind content) content (stated τ) ≡ stated (put kind (channelOf (S .plane) kind content) content τ)
   pub opens : (τ : Table) → Open (S .plane) τ ↔ S .closed (stated τ) ≡ false
@@ -88,7 +88,7 @@ module _ {A B : Type 0} (S : Sort A B) (id : DatalinkId) (stated : Table → A) 
 
     -- an option without a fault, known or not
     abbrev taking : Bool → Step A
-    taking u = cond u (cond (S .free kind channel (stated τ)) (next (S .state kind channel content (stated τ))) (stop REPEATED)) (next (stated τ))
+    taking u = cond u (cond (S .unstated kind channel (stated τ)) (next (S .state kind channel content (stated τ))) (stop REPEATED)) (next (stated τ))
 
     -- an option that may follow is taken in
     pub forth : Admitted (S .plane) (S .end) τ kind content → stepOf S kind content (stated τ) ≡ next (stated (adding (S .plane) (S .end) kind content τ))
@@ -100,7 +100,7 @@ module _ {A B : Type 0} (S : Sort A B) (id : DatalinkId) (stated : Table → A) 
         go true p =
             let a : among kind (mayHold (S .plane) (S .end)) ≡ true = k .listed .kind-listed p in
             let v : τ kind channel ≡ none = of-free (S .plane) (S .end) kind content p a τ (k .free) in
-            rw (C .free τ kind a content (in-range (S .plane) (S .end) kind content (k .listed) p), v, C .state τ kind a content, adding-puts (S .plane) (S .end) kind content p a τ)
+            rw (C .unstated τ kind a content (in-range (S .plane) (S .end) kind content (k .listed) p), v, C .state τ kind a content, adding-puts (S .plane) (S .end) kind content p a τ)
 
     -- an option that is taken in may follow
     pub back : (m : A) → stepOf S kind content (stated τ) ≡ next m → Admitted (S .plane) (S .end) τ kind content
@@ -116,7 +116,7 @@ module _ {A B : Type 0} (S : Sort A B) (id : DatalinkId) (stated : Table → A) 
         seat l true p q =
             let a : among kind (mayHold (S .plane) (S .end)) ≡ true = l .kind-listed p in
             free-of (S .plane) (S .end) kind content p a τ
-            (of-vacant (τ kind channel) (sym (C .free τ kind a content (in-range (S .plane) (S .end) kind content l p)) ∙ was-free _ _ q))
+            (of-vacant (τ kind channel) (sym (C .unstated τ kind a content (in-range (S .plane) (S .end) kind content l p)) ∙ was-free _ _ q))
 
         go : (c : Bool) → S .closed (stated τ) ≡ c → (v : Bool) → eqb (faultOf (mayHold (S .plane) (S .end)) kind content) 0 ≡ v
             → cond c (stop BEHIND-PACKET) (cond v (taking (among kind known)) (stop (faultOf (mayHold (S .plane) (S .end)) kind content))) ≡ next m
@@ -130,19 +130,19 @@ module _ {A B : Type 0} (S : Sort A B) (id : DatalinkId) (stated : Table → A) 
   -- ---- 9, 10, 11
 
   module _ (τ : Table) where
-    free-zero : (kind : ℕ) → among kind (mayHold (S .plane) (S .end)) ≡ true → S .free kind 0 (stated τ) ≡ vacant (τ kind 0)
-    free-zero kind a = go (channelOf (S .plane) kind (0 ∷ [])) (zero-is (among kind (oneForEach (S .plane)))) (C .free τ kind a (0 ∷ []))
+    unstated-zero : (kind : ℕ) → among kind (mayHold (S .plane) (S .end)) ≡ true → S .unstated kind 0 (stated τ) ≡ vacant (τ kind 0)
+    unstated-zero kind a = go (channelOf (S .plane) kind (0 ∷ [])) (zero-is (among kind (oneForEach (S .plane)))) (C .unstated τ kind a (0 ∷ []))
       where
         zero-is : (b : Bool) → _≡_ {A = ℕ} (cond b 0 0) 0
         zero-is true = refl
         zero-is false = refl
 
-        go : (n : ℕ) → n ≡ 0 → (n < CHANNEL-IDS → S .free kind n (stated τ) ≡ vacant (τ kind n)) → S .free kind 0 (stated τ) ≡ vacant (τ kind 0)
+        go : (n : ℕ) → n ≡ 0 → (n < CHANNEL-IDS → S .unstated kind n (stated τ) ≡ vacant (τ kind n)) → S .unstated kind 0 (stated τ) ≡ vacant (τ kind 0)
         go n e h = (rw e at h) (lit< tt)
 
     full : (kinds : List ℕ) → Each (λ kind. among kind (mayHold (S .plane) (S .end)) ≡ true) kinds → Filled kinds τ ↔ missing S kinds (stated τ) ≡ false
     full [] may = ((λ f. refl), λ e. tt)
-    full (kind ∷ kinds) may = rw (free-zero kind (may .0)) (go (full kinds (may .1)) (τ kind 0))
+    full (kind ∷ kinds) may = rw (unstated-zero kind (may .0)) (go (full kinds (may .1)) (τ kind 0))
       where
         go : Filled kinds τ ↔ missing S kinds (stated τ) ≡ false
             → (x : Option (List ℕ)) → (x ≡ none → ⊥) × Filled kinds τ ↔ cond (vacant x) true (missing S kinds (stated τ)) ≡ false

@@ -24,7 +24,7 @@ use Rattle.reader.specs.declared.answer.Verdict.{Verdict}
 use Rattle.reader.specs.Judging.{CURRENT-VERSION, versionOf, flagOf, flag}
 use Rattle.reader.specs.Sorts.{channelOf}
 use Rattle.reader.specs.Stated.{Table, datalinkFrom, instanceFrom, contextFrom, statusFrom, sequenceFrom, windowFrom, controlStated, tabulate}
-use Rattle.reader.specs.Readings.{noDatalink, noInstance, noContext, noStatus, noSequence, noWindow, statusAbsent, sequenceAbsent, windowAbsent, controlFree, controlState, blankControl, controlRefused, controlAccepted, controlOther, controlSort, readControl}
+use Rattle.reader.specs.Readings.{unstatedDatalink, unstatedInstance, unstatedContext, unstatedStatus, unstatedSequence, unstatedWindow, statusAbsent, sequenceAbsent, windowAbsent, controlUnstated, controlState, blankControl, controlRefused, controlAccepted, controlOther, controlSort, readControl}
 use Rattle.account.specs.Account.{Ending, Accepts, controlMeaning, Shuffled}
 use Rattle.meaning.proofs.Amongst.{clash, Each, amongst}
 use Rattle.account.proofs.Seats.{vacant, put}
@@ -40,26 +40,26 @@ each-of : (end : End) (P : ℕ → Type 0) → P DATALINK-IDENTIFIER → P LINK-
 each-of Ips P d i c s q w = (d, (q, tt))
 each-of Radio P d i c s q w = (d, (s, (i, (c, (w, tt)))))
 
-no-window : (content : List ℕ) → noWindow (windowFrom (some content)) ≡ false
-no-window content = go (eqb (length content) 1)
+window-stated : (content : List ℕ) → unstatedWindow (windowFrom (some content)) ≡ false
+window-stated content = go (eqb (length content) 1)
   where
-    go : (b : Bool) → noWindow (cond b Window.Empty (Window.Given (record { 0 = bigEndian (drop 1 content) }))) ≡ false
+    go : (b : Bool) → unstatedWindow (cond b Window.Empty (Window.Given (record { 0 = bigEndian (drop 1 content) }))) ≡ false
     go true = refl
     go false = refl
 
 module _ (end : End) (τ : Table) where
-  free : (kind : ℕ) → among kind (mayHold planes.Control end) ≡ true → (content : List ℕ) → channelOf planes.Control kind content < CHANNEL-IDS
-      → controlFree kind (channelOf planes.Control kind content) (controlStated τ) ≡ vacant (τ kind (channelOf planes.Control kind content))
-  unfolding controlFree controlStated
-  free =
+  unstated : (kind : ℕ) → among kind (mayHold planes.Control end) ≡ true → (content : List ℕ) → channelOf planes.Control kind content < CHANNEL-IDS
+      → controlUnstated kind (channelOf planes.Control kind content) (controlStated τ) ≡ vacant (τ kind (channelOf planes.Control kind content))
+  unfolding controlUnstated controlStated
+  unstated =
       amongst _ (mayHold planes.Control end)
       (each-of end _
-      (λ c h. vacant-is (λ x. noDatalink (datalinkFrom x)) refl (λ d. refl) (τ DATALINK-IDENTIFIER 0))
-      (λ c h. vacant-is (λ x. noInstance (instanceFrom x)) refl (λ d. refl) (τ LINK-INSTANCE 0))
-      (λ c h. vacant-is (λ x. noContext (contextFrom x)) refl (λ d. refl) (τ DATALINK-CONTEXT 0))
-      (λ c h. row-is (λ cell. noStatus (cell .status)) (λ x. record { status = statusFrom x }) refl (λ d. refl) CHANNEL-IDS (τ CHANNEL-STATUS) (getD c 0 0) statusAbsent h)
-      (λ c h. row-is (λ cell. noSequence (cell .sequence)) (λ x. record { sequence = sequenceFrom x }) refl (λ d. refl) CHANNEL-IDS (τ FLOW-SEQUENCE) (getD c 0 0) sequenceAbsent h)
-      (λ c h. row-is (λ cell. noWindow (cell .window)) (λ x. record { window = windowFrom x }) refl no-window CHANNEL-IDS (τ FLOW-WINDOW) (getD c 0 0) windowAbsent h))
+      (λ c h. vacant-is (λ x. unstatedDatalink (datalinkFrom x)) refl (λ d. refl) (τ DATALINK-IDENTIFIER 0))
+      (λ c h. vacant-is (λ x. unstatedInstance (instanceFrom x)) refl (λ d. refl) (τ LINK-INSTANCE 0))
+      (λ c h. vacant-is (λ x. unstatedContext (contextFrom x)) refl (λ d. refl) (τ DATALINK-CONTEXT 0))
+      (λ c h. row-is (λ cell. unstatedStatus (cell .status)) (λ x. record { status = statusFrom x }) refl (λ d. refl) CHANNEL-IDS (τ CHANNEL-STATUS) (getD c 0 0) statusAbsent h)
+      (λ c h. row-is (λ cell. unstatedSequence (cell .sequence)) (λ x. record { sequence = sequenceFrom x }) refl (λ d. refl) CHANNEL-IDS (τ FLOW-SEQUENCE) (getD c 0 0) sequenceAbsent h)
+      (λ c h. row-is (λ cell. unstatedWindow (cell .window)) (λ x. record { window = windowFrom x }) refl window-stated CHANNEL-IDS (τ FLOW-WINDOW) (getD c 0 0) windowAbsent h))
 
   state : (kind : ℕ) → among kind (mayHold planes.Control end) ≡ true → (content : List ℕ)
       → controlState kind (channelOf planes.Control kind content) content (controlStated τ) ≡ controlStated (put kind (channelOf planes.Control kind content) content τ)
@@ -95,7 +95,7 @@ module _ (end : End) (id : DatalinkId) where
     refuses = λ number place e. let z : _≡_ {A = ℕ} 0 1 = cc in omega arith;
     differs = λ e. let z : _≡_ {A = ℕ} 0 1 = cc in omega arith;
     blank = refl;
-    free = free end;
+    unstated = unstated end;
     state = state end;
     opens = λ τ. ((λ o. refl), λ e k q. clash q);
     paired = λ τ. ((λ p. refl), λ e. tt);

@@ -21,7 +21,7 @@ use Rattle.reader.specs.declared.answer.Verdict.{Verdict}
 use Rattle.reader.specs.Judging.{CURRENT-VERSION, versionOf, flagOf, flag}
 use Rattle.reader.specs.Sorts.{channelOf}
 use Rattle.reader.specs.Stated.{Table, datalinkFrom, channelFrom, expirationFrom, countedFrom, dataStated}
-use Rattle.reader.specs.Readings.{noDatalink, noCounted, noChannel, noExpiration, Gathered, given, dataFree, dataState, pairs, blankData, dataRefused, dataAccepted, dataOther, dataSort, readData, packetIn, packetOf}
+use Rattle.reader.specs.Readings.{unstatedDatalink, unstatedCounted, unstatedChannel, unstatedExpiration, Gathered, given, dataUnstated, dataState, pairs, blankData, dataRefused, dataAccepted, dataOther, dataSort, readData, packetIn, packetOf}
 use Rattle.account.specs.Account.{speaks, the, tableOf, Ending, SameChannel, Accepts, dataMeaning, Shuffled}
 use Rattle.meaning.proofs.Amongst.{clash, Each, amongst}
 use Rattle.account.proofs.Lists.{last-speaks}
@@ -43,17 +43,17 @@ each-of Ips P d p c x q = (d, (p, (c, (x, (q, tt)))))
 each-of Radio P d p c x q = (d, (p, (c, tt)))
 
 module _ (end : End) (τ : Table) where
-  free : (kind : ℕ) → among kind (mayHold planes.Data end) ≡ true → (content : List ℕ)
-      → dataFree kind (channelOf planes.Data kind content) (gathered τ) ≡ vacant (τ kind (channelOf planes.Data kind content))
-  unfolding dataFree dataStated
-  free =
+  unstated : (kind : ℕ) → among kind (mayHold planes.Data end) ≡ true → (content : List ℕ)
+      → dataUnstated kind (channelOf planes.Data kind content) (gathered τ) ≡ vacant (τ kind (channelOf planes.Data kind content))
+  unfolding dataUnstated dataStated
+  unstated =
       amongst _ (mayHold planes.Data end)
       (each-of end _
-      (λ c. vacant-is (λ x. noDatalink (datalinkFrom x)) refl (λ d. refl) (τ DATALINK-IDENTIFIER 0))
+      (λ c. vacant-is (λ x. unstatedDatalink (datalinkFrom x)) refl (λ d. refl) (τ DATALINK-IDENTIFIER 0))
       (λ c. vacant-is (λ x. not (given x)) refl (λ d. refl) (τ PACKET-DATA 0))
-      (λ c. vacant-is (λ x. noChannel (channelFrom x)) refl (λ d. refl) (τ CHANNEL-IDENTIFIER 0))
-      (λ c. vacant-is (λ x. noExpiration (expirationFrom x)) refl (λ d. refl) (τ EXPIRATION-TIME 0))
-      (λ c. vacant-is (λ x. noCounted (countedFrom x)) refl (λ d. refl) (τ FLOW-SEQUENCE 0)))
+      (λ c. vacant-is (λ x. unstatedChannel (channelFrom x)) refl (λ d. refl) (τ CHANNEL-IDENTIFIER 0))
+      (λ c. vacant-is (λ x. unstatedExpiration (expirationFrom x)) refl (λ d. refl) (τ EXPIRATION-TIME 0))
+      (λ c. vacant-is (λ x. unstatedCounted (countedFrom x)) refl (λ d. refl) (τ FLOW-SEQUENCE 0)))
 
   state : (kind : ℕ) → among kind (mayHold planes.Data end) ≡ true → (content : List ℕ)
       → dataState kind (channelOf planes.Data kind content) content (gathered τ) ≡ gathered (put kind (channelOf planes.Data kind content) content τ)
@@ -92,7 +92,7 @@ module _ (end : End) (id : DatalinkId) where
     refuses = λ number place e. let z : _≡_ {A = ℕ} 0 1 = cc in omega arith;
     differs = λ e. let z : _≡_ {A = ℕ} 0 1 = cc in omega arith;
     blank = refl;
-    free = λ τ kind a content h. free end τ kind a content;
+    unstated = λ τ kind a content h. unstated end τ kind a content;
     state = state end;
     opens = λ τ. ((λ o. rw (o PACKET-DATA refl)), λ e. amongst _ (standsLast planes.Data) (not-given (τ PACKET-DATA 0) e, tt));
     paired = λ τ. same-channel (τ FLOW-SEQUENCE 0) (τ CHANNEL-IDENTIFIER 0);

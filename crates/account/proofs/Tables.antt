@@ -23,7 +23,7 @@ module _ {A : Type 0} where
   getD-tabulate (suc size) f (suc i) default h = getD-tabulate size (λ k. f (suc k)) i default (omega arith)
 
   -- one place set: the function changed there
-  set-tabulate : (size : ℕ) (f g : ℕ → A) (i : ℕ) (v : A) → ((k : ℕ) → cond (eqb k i) v (f k) ≡ g k) → set (tabulate size f) i v ≡ tabulate size g
+  pub set-tabulate : (size : ℕ) (f g : ℕ → A) (i : ℕ) (v : A) → ((k : ℕ) → cond (eqb k i) v (f k) ≡ g k) → set (tabulate size f) i v ≡ tabulate size g
   unfolding tabulate
   set-tabulate zero f g i v h = refl
   set-tabulate (suc size) f g zero v h =

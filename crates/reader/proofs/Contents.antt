@@ -1,18 +1,18 @@
 -- What the tests of an option tell: of its length, and of the channel that it names. Assumes nothing.
 use Prim.Native.Nat.{ℕ, _≤_, _<_}
-use mathlib.Core.Path.{_≡_, refl}
+use mathlib.Core.Path.{_≡_, refl, sym}
 use mathlib.Core.List.{List, [], _∷_}
 use mathlib.Core.Bool.{Bool, true, false, cond, _&&_}
 use native.Mathlib.Omega.{arith}
-use borrow.Author.Tests.{ltb-true, leb-true, eqb-true}
-use lib.Dec.{ltb, leb, eqb}
+use borrow.Author.Tests.{ltb-true, leb-true}
+use lib.Dec.{ltb, leb}
 use lib.ListN.{length, getD}
 use Rattle.quantity.specs.Limits.{RESERVED-CHANNEL, CHANNEL-IDS, SHORTEST-NAME, LONGEST-NAME}
 use Rattle.quantity.specs.Refusals.{LENGTH, VALUE, UNLISTED}
 use Rattle.meaning.specs.declared.message.End.{End}
 use Rattle.meaning.specs.declared.message.Plane.{Plane}
-use Rattle.meaning.specs.Kinds.{among, known, mayHold, lengthListed, valueListed, LINK-INSTANCE, FLOW-WINDOW}
-use Rattle.meaning.proofs.Amongst.{amongst}
+use Rattle.meaning.specs.Kinds.{among, known, mayHold, lengthListed, valueListed, DATALINK-IDENTIFIER, LINK-INSTANCE, DATALINK-CONTEXT, CHANNEL-STATUS, FLOW-WINDOW, PACKET-DATA, CHANNEL-IDENTIFIER, EXPIRATION-TIME, FLOW-SEQUENCE}
+use Rattle.meaning.proofs.Amongst.{clash, amongst}
 use Rattle.reader.specs.declared.answer.Item.{Item}
 use Rattle.reader.specs.declared.answer.OptionAnswer.{OptionAnswer}
 use Rattle.reader.specs.declared.answer.OptionAnswer.the-variants.{Took, Refused}
@@ -57,11 +57,46 @@ placed plane end kind content =
     go true p true true false q = tt
     go true p true true true q = in-table kind content p q
 
--- the answer to an option that the message may hold
-pub answer-listed : (plane : Plane) (end : End) (kind : ℕ) (content : List ℕ) {r : OptionAnswer}
-    → among kind known ≡ true → among kind (mayHold plane end) ≡ true → r ≡ statedOf kind content
-    → (r ≡ answerOf plane end kind content) × Placed r
-unfolding answerOf
-answer-listed plane end kind content {r} k m e =
-    let value : r ≡ answerOf plane end kind content = rw (k, m) e in
-    (value, rw value (placed plane end kind content))
+-- what a message may hold is known
+held-known : (plane : Plane) (end : End) (kind : ℕ) → among kind (mayHold plane end) ≡ true → among kind known ≡ true
+held-known Plane.Control End.Ips = amongst (λ k. among k known ≡ true) (mayHold Plane.Control End.Ips) (refl, (refl, tt))
+held-known Plane.Control End.Radio = amongst (λ k. among k known ≡ true) (mayHold Plane.Control End.Radio) (refl, (refl, (refl, (refl, (refl, tt)))))
+held-known Plane.Data End.Ips = amongst (λ k. among k known ≡ true) (mayHold Plane.Data End.Ips) (refl, (refl, (refl, (refl, (refl, tt)))))
+held-known Plane.Data End.Radio = amongst (λ k. among k known ≡ true) (mayHold Plane.Data End.Radio) (refl, (refl, (refl, tt)))
+
+module _ (plane : Plane) (end : End) (kind : ℕ) (content : List ℕ) {r : OptionAnswer} where
+  -- the answer to an option that the message may hold
+  pub answer-listed : among kind (mayHold plane end) ≡ true → r ≡ statedOf kind content → (r ≡ answerOf plane end kind content) × Placed r
+  unfolding answerOf
+  answer-listed held e =
+      let value : r ≡ answerOf plane end kind content = rw (held-known plane end kind held, held) e in
+      (value, rw value (placed plane end kind content))
+
+  -- and to any other
+  pub answer-unlisted : among kind (mayHold plane end) ≡ false → r ≡ cond (among kind known) (Refused UNLISTED) (Took Item.Skipped)
+      → (r ≡ answerOf plane end kind content) × Placed r
+  unfolding answerOf
+  answer-unlisted unheld e =
+      let value : r ≡ answerOf plane end kind content = rw unheld e in
+      (value, rw value (placed plane end kind content))
+
+-- the last arm of a `match` on a type whose other arms have some keys: Flow Sequence
+abbrev pub Left : List ℕ → ℕ → Type 0
+Left keys kind = among kind keys ≡ false → kind ≡ FLOW-SEQUENCE
+
+abbrev pub controlKeys : List ℕ
+controlKeys = DATALINK-IDENTIFIER ∷ (LINK-INSTANCE ∷ (DATALINK-CONTEXT ∷ (CHANNEL-STATUS ∷ (FLOW-WINDOW ∷ []))))
+
+abbrev pub dataKeys : List ℕ
+dataKeys = DATALINK-IDENTIFIER ∷ (PACKET-DATA ∷ (CHANNEL-IDENTIFIER ∷ (EXPIRATION-TIME ∷ [])))
+
+key : {A : Type 0} → true ≡ false → A
+key e = clash (sym e)
+
+pub control-left : (end : End) (kind : ℕ) → among kind (mayHold Plane.Control end) ≡ true → Left controlKeys kind
+control-left End.Ips = amongst (Left controlKeys) (mayHold Plane.Control End.Ips) (key, ((λ e. refl), tt))
+control-left End.Radio = amongst (Left controlKeys) (mayHold Plane.Control End.Radio) (key, (key, (key, (key, (key, tt)))))
+
+pub data-left : (end : End) (kind : ℕ) → among kind (mayHold Plane.Data end) ≡ true → Left dataKeys kind
+data-left End.Ips = amongst (Left dataKeys) (mayHold Plane.Data End.Ips) (key, (key, (key, (key, ((λ e. refl), tt)))))
+data-left End.Radio = amongst (Left dataKeys) (mayHold Plane.Data End.Radio) (key, (key, (key, tt)))

@@ -3,6 +3,7 @@ use Prim.Native.Nat.{ℕ, _+_, _-_, _<_}
 use mathlib.Core.Path.{_≡_, refl, sym, _∙_}
 use mathlib.Core.List.{List, [], _∷_}
 use mathlib.Core.Bool.{Bool, true, false, cond}
+use native.Mathlib.Omega.{arith}
 use lib.ListN.{length, getD, set, drop}
 use types.Run.{OneOf}
 use denote.Enum.Declared.{tagOf}
@@ -27,23 +28,23 @@ use Rattle.reader.specs.declared.answer.ControlReading.{ControlReading}
 use Rattle.reader.specs.Judging.{Step, next, stop, judge}
 use Rattle.reader.specs.Sorts.{finishOf, rulesOf}
 use Rattle.reader.specs.Items.{itemOf, answerOf, InTable, Placed, numberOf}
-use Rattle.reader.specs.Readings.{noDatalink, noInstance, noContext, noStatus, noSequence, noWindow, statusAbsent, sequenceAbsent, windowAbsent, isOurs, blankControl, controlFree, controlState, controlSort, controlAccepted, controlRefused}
+use Rattle.reader.specs.Readings.{unstatedDatalink, unstatedInstance, unstatedContext, unstatedStatus, unstatedSequence, unstatedWindow, statusAbsent, sequenceAbsent, windowAbsent, isOurs, blankControl, controlUnstated, controlState, controlSort, controlAccepted, controlRefused}
 use Rattle.reader.proofs.answer.Item.{the-type}
 use Rattle.meaning.proofs.Amongst.{amongst, no-key}
 use Rattle.reader.proofs.Taking.{Seats, Adding, Framed, contentAt, faulty, parting}
 
 -- whether nothing is stated yet where an item belongs
-abbrev pub seatFree : Item → Control → Bool
-seatFree Item.Skipped m = true
-seatFree (Item.Datalink d) m = noDatalink (m .datalink)
-seatFree (Item.Instance v n) m = noInstance (m .instance)
-seatFree (Item.Context b n) m = noContext (m .context)
-seatFree (Item.Status channel s) m = noStatus (getD (m .statuses) channel statusAbsent .status)
-seatFree (Item.Sequence channel s) m = noSequence (getD (m .sequences) channel sequenceAbsent .sequence)
-seatFree (Item.Window channel w) m = noWindow (getD (m .windows) channel windowAbsent .window)
-seatFree (Item.Channel channel) m = true
-seatFree (Item.Expiration t) m = true
-seatFree Item.Packet m = true
+abbrev pub seatUnstated : Item → Control → Bool
+seatUnstated Item.Skipped m = true
+seatUnstated (Item.Datalink d) m = unstatedDatalink (m .datalink)
+seatUnstated (Item.Instance v n) m = unstatedInstance (m .instance)
+seatUnstated (Item.Context b n) m = unstatedContext (m .context)
+seatUnstated (Item.Status channel s) m = unstatedStatus (getD (m .statuses) channel statusAbsent .status)
+seatUnstated (Item.Sequence channel s) m = unstatedSequence (getD (m .sequences) channel sequenceAbsent .sequence)
+seatUnstated (Item.Window channel w) m = unstatedWindow (getD (m .windows) channel windowAbsent .window)
+seatUnstated (Item.Channel channel) m = true
+seatUnstated (Item.Expiration t) m = true
+seatUnstated Item.Packet m = true
 
 -- a message with an item in its seat; what only a data message states has none
 abbrev pub seated : Item → Control → Control
@@ -59,11 +60,11 @@ seated (Item.Expiration t) m = m
 seated Item.Packet m = m
 
 abbrev pub add : Item → Control → Step Control
-add item m = cond (seatFree item m) (next (seated item m)) (stop REPEATED)
+add item m = cond (seatUnstated item m) (next (seated item m)) (stop REPEATED)
 
 -- an option that a control message may hold goes to the seat of its item
 seats : (e end : End) (id : DatalinkId) (m : Control) (kind : ℕ) → among kind (mayHold Plane.Control e) ≡ true → Seats (controlSort end id) add m kind
-unfolding controlFree controlState itemOf
+unfolding controlUnstated controlState itemOf
 seats End.Ips end id m = amongst (Seats (controlSort end id) add m) (mayHold Plane.Control End.Ips) ((λ content. refl), ((λ content. refl), tt))
 seats End.Radio end id m =
     amongst (Seats (controlSort end id) add m) (mayHold Plane.Control End.Radio)
@@ -77,14 +78,42 @@ twice true c x y = refl
 twice false true x y = refl
 twice false false x y = refl
 
--- the tests on the whole as the reader makes them: 9 by the Datalink Identifier, 9 by the Channel Status of channel 0, then 11
-pub finish-is : (end : End) (id : DatalinkId) (place : ℕ) (m : Control) → finishOf (controlSort end id) place m
-    ≡ cond (noDatalink (m .datalink)) (controlRefused MISSING place)
-    (cond (cond (among CHANNEL-STATUS (mustHold Plane.Control end)) (noStatus (getD (m .statuses) 0 statusAbsent .status)) false) (controlRefused MISSING place)
-    (cond (isOurs id (m .datalink)) (controlAccepted m) (controlRefused OTHER-DATALINK place)))
-unfolding finishOf controlFree
-finish-is End.Ips id place m = twice (noDatalink (m .datalink)) false _ _
-finish-is End.Radio id place m = twice (noDatalink (m .datalink)) (noStatus (getD (m .statuses) 0 statusAbsent .status)) _ _
+-- 9 by the Channel Status of channel 0
+abbrev pub lacking : End → Control → Bool
+lacking end m = cond (among CHANNEL-STATUS (mustHold Plane.Control end)) (unstatedStatus (getD (m .statuses) 0 statusAbsent .status)) false
+
+-- the tests on the whole as the reader makes them: 9 by the Datalink Identifier, 9 by that status, then 11
+abbrev pub byTests : {A : Type 0} → (missing lacks ours : Bool) → A → A → A → A
+byTests missing lacks ours nine none eleven = cond missing nine (cond lacks nine (cond ours none eleven))
+
+finish-is : (end : End) (id : DatalinkId) (place : ℕ) (m : Control) → finishOf (controlSort end id) place m
+    ≡ byTests (unstatedDatalink (m .datalink)) (lacking end m) (isOurs id (m .datalink)) (controlRefused MISSING place) (controlAccepted m) (controlRefused OTHER-DATALINK place)
+unfolding finishOf controlUnstated
+finish-is End.Ips id place m = twice (unstatedDatalink (m .datalink)) false _ _
+finish-is End.Radio id place m = twice (unstatedDatalink (m .datalink)) (unstatedStatus (getD (m .statuses) 0 statusAbsent .status)) _ _
+
+-- the number of their refusal, or 0, tells the answer
+module _ (end : End) (id : DatalinkId) (place : ℕ) (m : Control) {number : ℕ}
+    (f : number ≡ byTests (unstatedDatalink (m .datalink)) (lacking end m) (isOurs id (m .datalink)) MISSING 0 OTHER-DATALINK) where
+  pub refuses-whole : (number ≡ 0 → ⊥) → controlRefused number place ≡ finishOf (controlSort end id) place m
+  refuses-whole some = rw finish-is (go (unstatedDatalink (m .datalink)) (lacking end m) (isOurs id (m .datalink)) f)
+    where
+      go : (a b d : Bool) → number ≡ byTests a b d MISSING 0 OTHER-DATALINK
+          → controlRefused number place ≡ byTests a b d (controlRefused MISSING place) (controlAccepted m) (controlRefused OTHER-DATALINK place)
+      go true b d e = rw e
+      go false true d e = rw e
+      go false false true e = absurd (some e)
+      go false false false e = rw e
+
+  pub accepts-whole : number ≡ 0 → controlAccepted m ≡ finishOf (controlSort end id) place m
+  accepts-whole none = rw finish-is (go (unstatedDatalink (m .datalink)) (lacking end m) (isOurs id (m .datalink)) f)
+    where
+      go : (a b d : Bool) → number ≡ byTests a b d MISSING 0 OTHER-DATALINK
+          → controlAccepted m ≡ byTests a b d (controlRefused MISSING place) (controlAccepted m) (controlRefused OTHER-DATALINK place)
+      go true b d e = absurd (omega arith)
+      go false true d e = absurd (omega arith)
+      go false false true e = refl
+      go false false false e = absurd (omega arith)
 
 -- ---- a turn of the loop over the options
 
@@ -100,8 +129,8 @@ Reached end id s at m = wholeOf end id s ≡ judge (rulesOf (controlSort end id)
 pub record Stating (end : End) (id : DatalinkId) (s : List ℕ) (at n : ℕ) (m : Control) (item : Item) : Type 0 where
   pub in-table : InTable item
   pub less : length s - (at + 3 + n) < length s - at
-  pub taken : seatFree item m ≡ true → Reached end id s (at + 3 + n) (seated item m)
-  pub repeated : seatFree item m ≡ false → controlRefused REPEATED at ≡ wholeOf end id s
+  pub taken : seatUnstated item m ≡ true → Reached end id s (at + 3 + n) (seated item m)
+  pub repeated : seatUnstated item m ≡ false → controlRefused REPEATED at ≡ wholeOf end id s
 
 module _ {end : End} {id : DatalinkId} {s : List ℕ} {at kind n : ℕ} {m : Control} (f : Framed (controlSort end id) (wholeOf end id s) s at m kind n) where
   pub refusing : {answer : OptionAnswer} {number : ℕ} → answer ≡ answerOf Plane.Control end kind (contentAt s at n) → answer ≡ Refused number
@@ -138,7 +167,7 @@ module _ {end : End} {id : DatalinkId} {s : List ℕ} {at n : ℕ} {m : Control}
       → OneOf (1 ∷ 2 ∷ []) (tagOf windows.the-type (getD (m .windows) channel windowAbsent .window)) → controlRefused REPEATED at ≡ wholeOf end id s
   window-repeated {channel} x h = x .repeated (there (getD (m .windows) channel windowAbsent .window) h)
     where
-      there : (w : Window) → OneOf (1 ∷ 2 ∷ []) (tagOf windows.the-type w) → noWindow w ≡ false
+      there : (w : Window) → OneOf (1 ∷ 2 ∷ []) (tagOf windows.the-type w) → unstatedWindow w ≡ false
       there Window.Absent k = no-key (1 ∷ 2 ∷ []) 0 refl k
       there Window.Empty k = refl
       there (Window.Given v) k = refl

@@ -18,7 +18,7 @@ use Rattle.meaning.specs.Kinds.{among, mayHold}
 use Rattle.reader.specs.declared.answer.Item.{Item}
 use Rattle.reader.specs.Judging.{Step, next, stop}
 use Rattle.reader.specs.Items.{itemOf}
-use Rattle.reader.specs.Readings.{Gathered, noDatalink, noCounted, noChannel, noExpiration, dataFree, dataState, dataSort}
+use Rattle.reader.specs.Readings.{Gathered, unstatedDatalink, unstatedCounted, unstatedChannel, unstatedExpiration, dataUnstated, dataState, dataSort}
 use Rattle.reader.proofs.answer.Item.{enum}
 use Rattle.meaning.proofs.Amongst.{amongst}
 use Rattle.reader.proofs.Taking.{Seats, Adding}
@@ -34,10 +34,10 @@ seat free g = cond free (next g) (stop REPEATED)
 
 -- the items of control messages add nothing: number 6 refuses them before
 abbrev pub add : Item → Gathered → Step Gathered
-add (Item.Datalink d) g = let m = g .message in seat (noDatalink (m .datalink)) (gathered (Datalink.Given d) (m .sequence) (m .channel) (m .expiration) (g .packet))
-add (Item.Sequence n s) g = let m = g .message in seat (noCounted (m .sequence)) (gathered (m .datalink) (Counted.Given n s) (m .channel) (m .expiration) (g .packet))
-add (Item.Channel n) g = let m = g .message in seat (noChannel (m .channel)) (gathered (m .datalink) (m .sequence) (Channel.Given n) (m .expiration) (g .packet))
-add (Item.Expiration t) g = let m = g .message in seat (noExpiration (m .expiration)) (gathered (m .datalink) (m .sequence) (m .channel) (Expiration.Given t) (g .packet))
+add (Item.Datalink d) g = let m = g .message in seat (unstatedDatalink (m .datalink)) (gathered (Datalink.Given d) (m .sequence) (m .channel) (m .expiration) (g .packet))
+add (Item.Sequence n s) g = let m = g .message in seat (unstatedCounted (m .sequence)) (gathered (m .datalink) (Counted.Given n s) (m .channel) (m .expiration) (g .packet))
+add (Item.Channel n) g = let m = g .message in seat (unstatedChannel (m .channel)) (gathered (m .datalink) (m .sequence) (Channel.Given n) (m .expiration) (g .packet))
+add (Item.Expiration t) g = let m = g .message in seat (unstatedExpiration (m .expiration)) (gathered (m .datalink) (m .sequence) (m .channel) (Expiration.Given t) (g .packet))
 add Item.Packet g = seat (not (g .packet)) (record { message = g .message; packet = true })
 add Item.Skipped g = next g
 add (Item.Instance v n) g = next g
@@ -51,7 +51,7 @@ held Ips kind e = e
 held Radio kind e = amongst (λ k. among k (mayHold Data Ips) ≡ true) (mayHold Data Radio) (refl, (refl, (refl, tt))) kind e
 
 pub adding : (end : End) (id : DatalinkId) → Adding (dataSort end id) add
-unfolding itemOf dataFree dataState
+unfolding itemOf dataUnstated dataState
 adding end id = record {
   skips = λ g. refl;
   seats = λ g kind e. amongst (Seats (dataSort end id) add g) (mayHold Data Ips)

@@ -23,7 +23,7 @@ abbrev pub Seats : {A B : Type 0} → Sort A B → (Item → A → Step A) → A
 Seats S add m kind =
     (content : List ℕ)
     → add (itemOf kind content) m
-    ≡ cond (S .free kind (channelOf (S .plane) kind content) m) (next (S .state kind (channelOf (S .plane) kind content) content m)) (stop REPEATED)
+    ≡ cond (S .unstated kind (channelOf (S .plane) kind content) m) (next (S .state kind (channelOf (S .plane) kind content) content m)) (stop REPEATED)
 
 -- how a sort of message adds an item to what is stated: a skipped option adds nothing, one that it may hold goes to its seat
 pub record Adding {A B : Type 0} (S : Sort A B) (add : Item → A → Step A) : Type 0 where

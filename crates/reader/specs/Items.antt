@@ -1,5 +1,5 @@
 -- An option's answer as the code carries it from one function to the next: 6, 4, 5, or what the option states.
-use Prim.Native.Nat.{ℕ, _%_, _≤_, _<_}
+use Prim.Native.Nat.{ℕ, _%_, _<_}
 use mathlib.Core.List.{List}
 use mathlib.Core.Option.{some}
 use mathlib.Core.Bool.{cond}

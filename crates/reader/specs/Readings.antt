@@ -25,12 +25,12 @@ use Rattle.meaning.specs.declared.message.SequenceCell.{SequenceCell}
 use Rattle.meaning.specs.declared.message.WindowCell.{WindowCell}
 use Rattle.meaning.specs.declared.message.Control.{Control}
 use Rattle.meaning.specs.declared.message.Data.{Data}
-use Rattle.meaning.specs.Kinds.{DATALINK-IDENTIFIER, LINK-INSTANCE, DATALINK-CONTEXT, CHANNEL-STATUS, FLOW-WINDOW, PACKET-DATA, CHANNEL-IDENTIFIER, EXPIRATION-TIME, FLOW-SEQUENCE}
+use Rattle.meaning.specs.Kinds.{DATALINK-IDENTIFIER, LINK-INSTANCE, DATALINK-CONTEXT, CHANNEL-STATUS, PACKET-DATA, CHANNEL-IDENTIFIER, EXPIRATION-TIME, FLOW-SEQUENCE}
 use Rattle.reader.specs.declared.answer.Verdict.{Verdict}
 use Rattle.reader.specs.declared.answer.ControlReading.{ControlReading}
 use Rattle.reader.specs.declared.answer.DataReading.{DataReading}
 use Rattle.reader.specs.declared.answer.PlaneAnswer.{PlaneAnswer}
-use Rattle.reader.specs.Judging.{CURRENT-VERSION, versionOf, flagOf, flag, readWith}
+use Rattle.reader.specs.Judging.{CURRENT-VERSION, versionOf, flagOf, readWith}
 use Rattle.reader.specs.Sorts.{Sort, rulesOf}
 use Rattle.reader.specs.Stated.{Table, datalinkFrom, instanceFrom, contextFrom, statusFrom, sequenceFrom, windowFrom, channelFrom, expirationFrom, countedFrom, controlStated, dataStated}
 
@@ -43,32 +43,32 @@ abbrev pub isOurs : DatalinkId → Datalink → Bool
 isOurs id Datalink.Absent = false
 isOurs id (Datalink.Given d) = eqb (d .0) (id .0)
 
-abbrev pub noDatalink : Datalink → Bool
-noDatalink Datalink.Absent = true
-noDatalink (Datalink.Given d) = false
+abbrev pub unstatedDatalink : Datalink → Bool
+unstatedDatalink Datalink.Absent = true
+unstatedDatalink (Datalink.Given d) = false
 
 -- ---- control
 
-abbrev pub noInstance : Instance → Bool
-noInstance Instance.Absent = true
-noInstance (Instance.Given v n) = false
+abbrev pub unstatedInstance : Instance → Bool
+unstatedInstance Instance.Absent = true
+unstatedInstance (Instance.Given v n) = false
 
-abbrev pub noContext : Context → Bool
-noContext Context.Absent = true
-noContext (Context.Given b n) = false
+abbrev pub unstatedContext : Context → Bool
+unstatedContext Context.Absent = true
+unstatedContext (Context.Given b n) = false
 
-abbrev pub noStatus : Status → Bool
-noStatus Status.Absent = true
-noStatus (Status.Given s) = false
+abbrev pub unstatedStatus : Status → Bool
+unstatedStatus Status.Absent = true
+unstatedStatus (Status.Given s) = false
 
-abbrev pub noSequence : Sequence → Bool
-noSequence Sequence.Absent = true
-noSequence (Sequence.Given s) = false
+abbrev pub unstatedSequence : Sequence → Bool
+unstatedSequence Sequence.Absent = true
+unstatedSequence (Sequence.Given s) = false
 
-abbrev pub noWindow : Window → Bool
-noWindow Window.Absent = true
-noWindow Window.Empty = false
-noWindow (Window.Given w) = false
+abbrev pub unstatedWindow : Window → Bool
+unstatedWindow Window.Absent = true
+unstatedWindow Window.Empty = false
+unstatedWindow (Window.Given w) = false
 
 -- a place of a table where nothing is stated
 abbrev pub statusAbsent : StatusCell
@@ -81,14 +81,14 @@ abbrev pub windowAbsent : WindowCell
 windowAbsent = record { window = Window.Absent }
 
 -- nothing is stated for a type and a channel
-unfoldable pub controlFree : ℕ → ℕ → Control → Bool
-controlFree kind channel m =
-    cond (eqb kind DATALINK-IDENTIFIER) (noDatalink (m .datalink))
-    (cond (eqb kind LINK-INSTANCE) (noInstance (m .instance))
-    (cond (eqb kind DATALINK-CONTEXT) (noContext (m .context))
-    (cond (eqb kind CHANNEL-STATUS) (noStatus (getD (m .statuses) channel statusAbsent .status))
-    (cond (eqb kind FLOW-SEQUENCE) (noSequence (getD (m .sequences) channel sequenceAbsent .sequence))
-    (noWindow (getD (m .windows) channel windowAbsent .window))))))
+unfoldable pub controlUnstated : ℕ → ℕ → Control → Bool
+controlUnstated kind channel m =
+    cond (eqb kind DATALINK-IDENTIFIER) (unstatedDatalink (m .datalink))
+    (cond (eqb kind LINK-INSTANCE) (unstatedInstance (m .instance))
+    (cond (eqb kind DATALINK-CONTEXT) (unstatedContext (m .context))
+    (cond (eqb kind CHANNEL-STATUS) (unstatedStatus (getD (m .statuses) channel statusAbsent .status))
+    (cond (eqb kind FLOW-SEQUENCE) (unstatedSequence (getD (m .sequences) channel sequenceAbsent .sequence))
+    (unstatedWindow (getD (m .windows) channel windowAbsent .window))))))
 
 -- what is stated with one content more
 unfoldable pub controlState : ℕ → ℕ → List ℕ → Control → Control
@@ -118,7 +118,7 @@ controlSort end id = record {
   end = end;
   blank = blankControl;
   closed = λ m. false;
-  free = controlFree;
+  unstated = controlUnstated;
   state = controlState;
   paired = λ m. true;
   ours = λ m. isOurs id (m .datalink);
@@ -142,25 +142,25 @@ abbrev pub given : Option (List ℕ) → Bool
 given none = false
 given (some content) = true
 
-abbrev pub noCounted : Counted → Bool
-noCounted Counted.Absent = true
-noCounted (Counted.Given n s) = false
+abbrev pub unstatedCounted : Counted → Bool
+unstatedCounted Counted.Absent = true
+unstatedCounted (Counted.Given n s) = false
 
-abbrev pub noChannel : Channel → Bool
-noChannel Channel.Absent = true
-noChannel (Channel.Given n) = false
+abbrev pub unstatedChannel : Channel → Bool
+unstatedChannel Channel.Absent = true
+unstatedChannel (Channel.Given n) = false
 
-abbrev pub noExpiration : Expiration → Bool
-noExpiration Expiration.Absent = true
-noExpiration (Expiration.Given t) = false
+abbrev pub unstatedExpiration : Expiration → Bool
+unstatedExpiration Expiration.Absent = true
+unstatedExpiration (Expiration.Given t) = false
 
-unfoldable pub dataFree : ℕ → ℕ → Gathered → Bool
-dataFree kind channel g =
-    cond (eqb kind DATALINK-IDENTIFIER) (noDatalink (g .message .datalink))
+unfoldable pub dataUnstated : ℕ → ℕ → Gathered → Bool
+dataUnstated kind channel g =
+    cond (eqb kind DATALINK-IDENTIFIER) (unstatedDatalink (g .message .datalink))
     (cond (eqb kind PACKET-DATA) (not (g .packet))
-    (cond (eqb kind CHANNEL-IDENTIFIER) (noChannel (g .message .channel))
-    (cond (eqb kind EXPIRATION-TIME) (noExpiration (g .message .expiration))
-    (noCounted (g .message .sequence)))))
+    (cond (eqb kind CHANNEL-IDENTIFIER) (unstatedChannel (g .message .channel))
+    (cond (eqb kind EXPIRATION-TIME) (unstatedExpiration (g .message .expiration))
+    (unstatedCounted (g .message .sequence)))))
 
 unfoldable pub dataState : ℕ → ℕ → List ℕ → Gathered → Gathered
 dataState kind channel content g =
@@ -195,7 +195,7 @@ dataSort end id = record {
   end = end;
   blank = record { message = blankData; packet = false };
   closed = λ g. g .packet;
-  free = dataFree;
+  unstated = dataUnstated;
   state = dataState;
   paired = λ g. pairs (g .message .sequence) (g .message .channel);
   ours = λ g. isOurs id (g .message .datalink);

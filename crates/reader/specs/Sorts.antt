@@ -24,7 +24,7 @@ pub record Sort (A B : Type 0) : Type 0 where
   pub end : End
   pub blank : A
   pub closed : A → Bool
-  pub free : ℕ → ℕ → A → Bool
+  pub unstated : ℕ → ℕ → A → Bool
   pub state : ℕ → ℕ → List ℕ → A → A
   pub paired : A → Bool
   pub ours : A → Bool
@@ -42,13 +42,13 @@ stepOf S kind content m =
     cond (S .closed m) (stop BEHIND-PACKET)
     (cond (eqb (faultOf (mayHold (S .plane) (S .end)) kind content) 0)
     (cond (among kind known)
-    (cond (S .free kind (channelOf (S .plane) kind content) m) (next (S .state kind (channelOf (S .plane) kind content) content m)) (stop REPEATED))
+    (cond (S .unstated kind (channelOf (S .plane) kind content) m) (next (S .state kind (channelOf (S .plane) kind content) content m)) (stop REPEATED))
     (next m))
     (stop (faultOf (mayHold (S .plane) (S .end)) kind content)))
 
 abbrev pub missing : {A B : Type 0} → Sort A B → List ℕ → A → Bool
 missing S [] m = false
-missing S (kind ∷ kinds) m = cond (S .free kind 0 m) true (missing S kinds m)
+missing S (kind ∷ kinds) m = cond (S .unstated kind 0 m) true (missing S kinds m)
 
 -- 9, 10, 11
 unfoldable pub finishOf : {A B : Type 0} → Sort A B → ℕ → A → B

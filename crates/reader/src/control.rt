@@ -3,10 +3,12 @@ ghost use mathlib.Core.Path.{_≡_};
 ghost use mathlib.Core.Bool.{false, cond};
 ghost use lib.ListN.{drop};
 ghost use Rattle.wire.specs.Options.{split};
+ghost use Rattle.quantity.specs.Refusals.{MISSING, OTHER-DATALINK};
+ghost use Rattle.meaning.specs.declared.message.Plane.{Plane};
 ghost use Rattle.meaning.specs.Kinds.{among, mustHold, CHANNEL-STATUS};
 ghost use Rattle.reader.specs.Judging.{judge};
-ghost use Rattle.reader.specs.Sorts.{finishOf, rulesOf};
-ghost use Rattle.reader.specs.Readings.{noStatus, blankControl, controlRefused, controlSort, readControl};
+ghost use Rattle.reader.specs.Sorts.{rulesOf};
+ghost use Rattle.reader.specs.Readings.{unstatedDatalink, unstatedStatus, isOurs, blankControl, controlRefused, controlSort, readControl};
 use crate::answer::ControlReading;
 use crate::answer::Item;
 use crate::answer::OptionAnswer;
@@ -19,7 +21,6 @@ use meaning::message::Control;
 use meaning::message::Datalink;
 use meaning::message::End;
 use meaning::message::Instance;
-use meaning::message::Plane;
 use meaning::message::Sequence;
 use meaning::message::SequenceCell;
 use meaning::message::Status;
@@ -68,7 +69,7 @@ fn refused(number: u8, place: usize) -> ControlReading
 
 // Whether a message of this end must hold a Channel Status for channel 0, and doesn't.
 fn lacks_status(end: End, status: Status) -> bool
-    ensures { λ r. ⌜ r ≡ cond (among CHANNEL-STATUS (mustHold Plane.Control end)) (noStatus status) false ⌝ }
+    ensures { λ r. ⌜ r ≡ cond (among CHANNEL-STATUS (mustHold Plane.Control end)) (unstatedStatus status) false ⌝ }
 {
     match end {
         End::Ips => false,
@@ -79,25 +80,36 @@ fn lacks_status(end: End, status: Status) -> bool
     }
 }
 
-// The tests on the whole: 9, then 11.
-fn finished(end: End, id: DatalinkId, place: usize, message: Control) -> ControlReading
-    ensures { λ r. ⌜ r ≡ finishOf (controlSort end id) place message ⌝ }
+// The tests on the whole, 9, then 11: the number of the refusal, or 0.
+fn fault(end: End, id: DatalinkId, datalink: Datalink, status: Status) -> u8
+    ensures { λ r. ⌜ r ≡ cond (unstatedDatalink datalink) MISSING (cond (cond (among CHANNEL-STATUS (mustHold Plane.Control end)) (unstatedStatus status) false) MISSING (cond (isOurs id datalink) 0 OTHER-DATALINK)) ⌝ }
 {
-    let datalink = message.datalink;
     let Datalink::Given(stated) = datalink else {
-        return refused(MISSING, place);
+        return MISSING;
     };
-    let cell = message.statuses[0];
-    let status = cell.status;
     if lacks_status(end, status) {
-        return refused(MISSING, place);
+        return MISSING;
     }
     if stated.0 != id.0 {
-        return refused(OTHER_DATALINK, place);
+        return OTHER_DATALINK;
     }
-    ControlReading {
-        verdict: Verdict::Accepted,
-        message,
+    0
+}
+
+// A place of the table of windows, by cases: a copy of the whole would wait until its parts, just stored, have come to memory.
+fn window_cell(window: Window) -> WindowCell
+    ensures { λ r. ⌜ r ≡ record { window = window } ⌝ }
+{
+    match window {
+        Window::Absent => WindowCell {
+            window: Window::Absent,
+        },
+        Window::Empty => WindowCell {
+            window: Window::Empty,
+        },
+        Window::Given(edge) => WindowCell {
+            window: Window::Given(edge),
+        },
     }
 }
 
@@ -125,7 +137,7 @@ fn options(datagram: &[u8], end: End, id: DatalinkId) -> ControlReading
         };
         let from = at + FRAME_SIZE;
         let to = from + size;
-        let answer = option::answer(Plane::Control, end, kind, &datagram[from..to]);
+        let answer = option::of_control(end, kind, &datagram[from..to]);
         let OptionAnswer::Took(item) = answer else {
             return refused(option::number_of(answer), at);
         };
@@ -177,18 +189,22 @@ fn options(datagram: &[u8], end: End, id: DatalinkId) -> ControlReading
                 let Window::Absent = there else {
                     return refused(REPEATED, at);
                 };
-                windows[i] = WindowCell { window };
+                windows[i] = window_cell(window);
             }
             // An unknown option is skipped; what only a data message states was refused.
             _ => {}
         }
         at = to;
     }
-    finished(
-        end,
-        id,
-        at,
-        Control {
+    let cell = statuses[0];
+    let status = cell.status;
+    let number = fault(end, id, datalink, status);
+    if number != 0 {
+        return refused(number, at);
+    }
+    ControlReading {
+        verdict: Verdict::Accepted,
+        message: Control {
             datalink,
             instance,
             context,
@@ -196,7 +212,7 @@ fn options(datagram: &[u8], end: End, id: DatalinkId) -> ControlReading
             sequences,
             windows,
         },
-    )
+    }
 }
 
 // A control message, read whole, or the first refusal; or the answer that it is of the other plane.

@@ -19,7 +19,6 @@ use meaning::message::Data;
 use meaning::message::Datalink;
 use meaning::message::End;
 use meaning::message::Expiration;
-use meaning::message::Plane;
 use quantity::count::DatalinkId;
 use quantity::refusal::BEHIND_PACKET;
 use quantity::refusal::CUT;
@@ -114,7 +113,7 @@ fn options(datagram: &[u8], end: End, id: DatalinkId) -> DataReading
         }
         let from = at + FRAME_SIZE;
         let to = from + size;
-        let answer = option::answer(Plane::Data, end, kind, &datagram[from..to]);
+        let answer = option::of_data(end, kind, &datagram[from..to]);
         let OptionAnswer::Took(item) = answer else {
             return refused(option::number_of(answer), at);
         };

@@ -1,6 +1,7 @@
 // What one option states, by its content: each kind tests the length (4), then the value (5).
 ghost use mathlib.Core.Path.{_≡_};
-ghost use mathlib.Core.Bool.{true};
+ghost use mathlib.Core.Bool.{cond};
+ghost use Rattle.quantity.specs.Refusals.{UNLISTED};
 ghost use Rattle.meaning.specs.Kinds.{among, known, lengthListed, DATALINK-IDENTIFIER, LINK-INSTANCE, DATALINK-CONTEXT, CHANNEL-STATUS, FLOW-WINDOW, CHANNEL-IDENTIFIER, EXPIRATION-TIME, FLOW-SEQUENCE};
 ghost use Rattle.reader.specs.Items.{statedOf, answerOf, numberOf, Placed};
 use crate::answer::Item;
@@ -145,36 +146,52 @@ fn sequence(content: &[u8]) -> OptionAnswer
     OptionAnswer::Took(Item::Sequence(channel, FlowSequence(word)))
 }
 
-// What an option of a known type states, Flow Sequence being the one left at the end. Packet Data may have any content.
-fn stated(kind: u8, content: &[u8]) -> OptionAnswer
-    requires { ⌜ among kind known ≡ true ⌝ }
-    ensures { λ r. ⌜ r ≡ statedOf kind (now (content .entry)) ⌝ }
+// An option that a message doesn't list: 6; an unknown one is skipped.
+fn unlisted(kind: u8) -> OptionAnswer
+    ensures { λ r. ⌜ r ≡ cond (among kind known) (OptionAnswer.Refused UNLISTED) (OptionAnswer.Took Item.Skipped) ⌝ }
 {
+    if kind::is_known(kind) {
+        return OptionAnswer::Refused(UNLISTED);
+    }
+    OptionAnswer::Took(Item::Skipped)
+}
+
+// An option in a control message of an end: 6, 4, 5, or what it states. The reader of a plane has such a function for itself, so that the compiler
+// moves it there: one for both stays a call that hands its answer over in memory (docs/SPEED.md).
+pub fn of_control(end: End, kind: u8, content: &[u8]) -> OptionAnswer
+    ensures value { λ r. ⌜ r ≡ answerOf Plane.Control end kind (now (content .entry)) ⌝ }
+    ensures placed { λ r. ⌜ Placed r ⌝ }
+{
+    if !kind::may_hold(Plane::Control, end, kind) {
+        return unlisted(kind);
+    }
+    // Flow Sequence is the one left at the end.
     match kind {
         kind::DATALINK_IDENTIFIER => datalink(content),
         kind::LINK_INSTANCE => instance(content),
         kind::DATALINK_CONTEXT => context(content),
         kind::CHANNEL_STATUS => status(content),
         kind::FLOW_WINDOW => window(content),
+        _ => sequence(content),
+    }
+}
+
+// An option in a data message of an end. Packet Data may have any content.
+pub fn of_data(end: End, kind: u8, content: &[u8]) -> OptionAnswer
+    ensures value { λ r. ⌜ r ≡ answerOf Plane.Data end kind (now (content .entry)) ⌝ }
+    ensures placed { λ r. ⌜ Placed r ⌝ }
+{
+    if !kind::may_hold(Plane::Data, end, kind) {
+        return unlisted(kind);
+    }
+    // Flow Sequence is the one left at the end.
+    match kind {
+        kind::DATALINK_IDENTIFIER => datalink(content),
         kind::PACKET_DATA => OptionAnswer::Took(Item::Packet),
         kind::CHANNEL_IDENTIFIER => channel(content),
         kind::EXPIRATION_TIME => expiration(content),
         _ => sequence(content),
     }
-}
-
-// An option in a message of a plane and an end: 6, 4, 5, or what it states. An unknown one is skipped.
-pub fn answer(plane: Plane, end: End, kind: u8, content: &[u8]) -> OptionAnswer
-    ensures value { λ r. ⌜ r ≡ answerOf plane end kind (now (content .entry)) ⌝ }
-    ensures placed { λ r. ⌜ Placed r ⌝ }
-{
-    if !kind::is_known(kind) {
-        return OptionAnswer::Took(Item::Skipped);
-    }
-    if !kind::may_hold(plane, end, kind) {
-        return OptionAnswer::Refused(UNLISTED);
-    }
-    stated(kind, content)
 }
 
 pub fn number_of(answer: OptionAnswer) -> u8

@@ -44,7 +44,7 @@ module _ {A B : Type 0} (S : Sort A B) where
     pub may-stand : among kind (mayHold (S .plane) (S .end)) ≡ true
     pub length-listed : lengthListed kind (length content) ≡ true
     pub value-listed : valueListed kind content ≡ true
-    pub is-free : S .free kind (channelOf (S .plane) kind content) m ≡ true
+    pub is-free : S .unstated kind (channelOf (S .plane) kind content) m ≡ true
     pub states : S .state kind (channelOf (S .plane) kind content) content m ≡ m′
 
   step-taken : {kind : ℕ} {content : List ℕ} {m m′ : A} → Taken kind content m m′ → stepOf S kind content m ≡ next m′
@@ -86,7 +86,7 @@ module _ {A B : Type 0} (S : Sort A B) where
 
   -- a Datalink Identifier: `holds` is what is stated with it
   pub adds-datalink : (holds : Datalink → A) → S .closed (holds Datalink.Absent) ≡ false
-      → ((content : List ℕ) → S .free DATALINK-IDENTIFIER (channelOf (S .plane) DATALINK-IDENTIFIER content) (holds Datalink.Absent) ≡ true)
+      → ((content : List ℕ) → S .unstated DATALINK-IDENTIFIER (channelOf (S .plane) DATALINK-IDENTIFIER content) (holds Datalink.Absent) ≡ true)
       → ((content : List ℕ) → S .state DATALINK-IDENTIFIER (channelOf (S .plane) DATALINK-IDENTIFIER content) content (holds Datalink.Absent) ≡ holds (datalinkFrom (some content)))
       → (d : Datalink) → Adds 1 (datalinkThen d) (holds Datalink.Absent) (holds d)
   unfolding lengthListed valueListed

@@ -30,7 +30,7 @@ use Rattle.meaning.specs.Kinds.{among, known, lengthListed, valueListed, LINK-I
 use Rattle.reader.specs.Judging.{judge}
 use Rattle.reader.specs.Sorts.{channelOf, finishOf}
 use Rattle.reader.specs.Stated.{statusFrom, sequenceFrom, windowFrom, controlStated}
-use Rattle.reader.specs.Readings.{blankControl, controlSort, controlAccepted, readControl, noStatus, controlFree, controlState, statusAbsent, sequenceAbsent, windowAbsent}
+use Rattle.reader.specs.Readings.{blankControl, controlSort, controlAccepted, readControl, unstatedStatus, controlUnstated, controlState, statusAbsent, sequenceAbsent, windowAbsent}
 use Rattle.allowed.specs.Allowed.{may, fitsLength, datalinkAllowed, instanceAllowed, contextAllowed, statusAllowed, statusesAllowed, primaryAllowed, sequenceAllowed, sequencesAllowed, windowAllowed, windowsAllowed, controlAllowed, stands}
 use Rattle.laying.specs.Parts.{datalinkThen, instanceThen, contextThen, statusThen, sequenceThen, windowThen, statusesThen, sequencesThen, windowsThen}
 use Rattle.writer.specs.Written.{controlOptions, controlWritten, CONTROL-HEADER}
@@ -62,7 +62,7 @@ withWindows m cells = record { datalink = m .datalink; instance = m .instance; c
 module _ (end : End) (id : DatalinkId) where
   adds-name : (kind value n : ℕ) (m m′ : Control) → among kind known ≡ true → eqb kind PACKET-DATA ≡ false
       → lengthListed kind n ≡ leb SHORTEST-NAME n && leb n LONGEST-NAME → ((content : List ℕ) → valueListed kind content ≡ true)
-      → ((content : List ℕ) → controlFree kind (channelOf planes.Control kind content) m ≡ true)
+      → ((content : List ℕ) → controlUnstated kind (channelOf planes.Control kind content) m ≡ true)
       → ((content : List ℕ) → bigEndian content ≡ value → length content ≡ n → controlState kind (channelOf planes.Control kind content) content m ≡ m′)
       → may planes.Control end kind && fitsLength kind value n ≡ true → Adds (controlSort end id) 1 (option kind (bytesOf n value)) m m′
   adds-name kind value n m m′ k p l v f s e =
@@ -83,14 +83,14 @@ module _ (end : End) (id : DatalinkId) where
       (rw length-bytes (leb-true n LONGEST-NAME (bounds .1))) p
 
   adds-instance : (m : Control) (x : Instance) → instanceAllowed end x ≡ true → Adds (controlSort end id) 1 (instanceThen x) (withInstance m Instance.Absent) (withInstance m x)
-  unfolding lengthListed valueListed controlFree controlState
+  unfolding lengthListed valueListed controlUnstated controlState
   adds-instance m Instance.Absent e = adds-none (controlSort end id) 1 (withInstance m Instance.Absent)
   adds-instance m (Instance.Given v n) e =
       adds-name LINK-INSTANCE (v .0) n (withInstance m Instance.Absent) (withInstance m (Instance.Given v n)) refl refl refl (λ content. refl) (λ content. refl)
       (λ content b l. rw (b, l)) e
 
   adds-context : (m : Control) (x : Context) → contextAllowed end x ≡ true → Adds (controlSort end id) 1 (contextThen x) (withContext m Context.Absent) (withContext m x)
-  unfolding lengthListed valueListed controlFree controlState
+  unfolding lengthListed valueListed controlUnstated controlState
   adds-context m Context.Absent e = adds-none (controlSort end id) 1 (withContext m Context.Absent)
   adds-context m (Context.Given v n) e =
       adds-name DATALINK-CONTEXT (v .0) n (withContext m Context.Absent) (withContext m (Context.Given v n)) refl refl refl (λ content. refl) (λ content. refl)
@@ -135,7 +135,7 @@ module _ (end : End) where
 
   module _ (m : Control) where
     status-column : Column end CHANNEL-STATUS (λ n cell. statusThen n (cell .status)) statusAbsent (withStatuses m) statusMade (λ cell. statusAllowed end (cell .status) ≡ true)
-    unfolding controlFree controlState
+    unfolding controlUnstated controlState
     status-column = record {
       is-known = refl;
       one-for-each = refl;
@@ -148,7 +148,7 @@ module _ (end : End) where
 
     sequence-column : Column end FLOW-SEQUENCE (λ n cell. sequenceThen n (cell .sequence)) sequenceAbsent (withSequences m) sequenceMade
         (λ cell. (sequenceAllowed end (cell .sequence) ≡ true) × SequenceWord (cell .sequence))
-    unfolding controlFree controlState
+    unfolding controlUnstated controlState
     sequence-column = record {
       is-known = refl;
       one-for-each = refl;
@@ -161,7 +161,7 @@ module _ (end : End) where
 
     window-column : Column end FLOW-WINDOW (λ n cell. windowThen n (cell .window)) windowAbsent (withWindows m) windowMade
         (λ cell. (windowAllowed end (cell .window) ≡ true) × WindowWord (cell .window))
-    unfolding controlFree controlState
+    unfolding controlUnstated controlState
     window-column = record {
       is-known = refl;
       one-for-each = refl;
@@ -234,13 +234,13 @@ unfolding blankControl controlStated
 blank-is m value =
     rw (tabulate-same statusAbsent (value .statuses-long), tabulate-same sequenceAbsent (value .sequences-long), tabulate-same windowAbsent (value .windows-long))
 
-standing : (x : Status) → stands x ≡ true → noStatus x ≡ false
+standing : (x : Status) → stands x ≡ true → unstatedStatus x ≡ false
 standing Status.Absent e = sym e
 standing (Status.Given s) e = refl
 
 module _ (end : End) (id : DatalinkId) (m : Control) (value : ControlValue m) (allowed : controlAllowed end m ≡ true) where
   adds-control : Adds (controlSort end id) (most m) (controlThen m) blankControl m
-  unfolding controlFree controlState
+  unfolding controlUnstated controlState
   adds-control =
       let S = controlSort end id in
       let parts = parts-allowed end m allowed in
@@ -255,7 +255,7 @@ module _ (end : End) (id : DatalinkId) (m : Control) (value : ControlValue m) (a
 
   -- 9, 10 and 11 find nothing
   finishes : m .datalink ≡ Datalink.Given id → (place : ℕ) → finishOf (controlSort end id) place m ≡ controlAccepted m
-  unfolding finishOf controlFree
+  unfolding finishOf controlUnstated
   finishes d place = go end (parts-allowed end m allowed .primary)
     where
       go : (e : End) → primaryAllowed e (m .statuses) ≡ true → finishOf (controlSort e id) place m ≡ controlAccepted m

@@ -24,7 +24,7 @@ use Rattle.reader.specs.declared.answer.Verdict.{Verdict}
 use Rattle.reader.specs.Judging.{judge}
 use Rattle.reader.specs.Sorts.{finishOf}
 use Rattle.reader.specs.Stated.{dataStated}
-use Rattle.reader.specs.Readings.{Gathered, pairs, blankData, dataFree, dataState, dataAccepted, dataSort, readData, packetIn, packetOf}
+use Rattle.reader.specs.Readings.{Gathered, pairs, blankData, dataUnstated, dataState, dataAccepted, dataSort, readData, packetIn, packetOf}
 use Rattle.allowed.specs.Allowed.{may, datalinkAllowed, countedAllowed, channelAllowed, expirationAllowed, dataAllowed}
 use Rattle.laying.specs.Parts.{datalinkThen, countedThen, channelThen, expirationThen}
 use Rattle.writer.specs.Written.{dataOptions, dataWritten, DATA-HEADER}
@@ -58,7 +58,7 @@ withExpiration m t = record { datalink = m .datalink; sequence = m .sequence; ch
 module _ (end : End) (id : DatalinkId) (m : Data) where
   adds-counted : (q : Counted) (c : Channel) → countedAllowed end q c ≡ true → channelAllowed end c ≡ true → CountedWord q
       → Adds (dataSort end id) 1 (countedThen q) (reading (withCounted m Counted.Absent)) (reading (withCounted m q))
-  unfolding lengthListed valueListed dataFree dataState
+  unfolding lengthListed valueListed dataUnstated dataState
   adds-counted Counted.Absent c e f w = adds-none (dataSort end id) 1 (reading (withCounted m Counted.Absent))
   adds-counted (Counted.Given n s) Channel.Absent e f w = absurd (false≢true e)
   adds-counted (Counted.Given n s) (Channel.Given k) e f w =
@@ -78,7 +78,7 @@ module _ (end : End) (id : DatalinkId) (m : Data) where
       (omega arith) refl
 
   adds-channel : (c : Channel) → channelAllowed end c ≡ true → Adds (dataSort end id) 1 (channelThen c) (reading (withChannel m Channel.Absent)) (reading (withChannel m c))
-  unfolding lengthListed valueListed dataFree dataState
+  unfolding lengthListed valueListed dataUnstated dataState
   adds-channel Channel.Absent e = adds-none (dataSort end id) 1 (reading (withChannel m Channel.Absent))
   adds-channel (Channel.Given k) e =
       let parts = and-eq-true-iff (may planes.Data end CHANNEL-IDENTIFIER) (ltb k RESERVED-CHANNEL) .0 e in
@@ -88,7 +88,7 @@ module _ (end : End) (id : DatalinkId) (m : Data) where
 
   adds-expiration : (t : Expiration) → expirationAllowed end t ≡ true → ExpirationWord t
       → Adds (dataSort end id) 1 (expirationThen t) (reading (withExpiration m Expiration.Absent)) (reading (withExpiration m t))
-  unfolding lengthListed valueListed dataFree dataState
+  unfolding lengthListed valueListed dataUnstated dataState
   adds-expiration Expiration.Absent e w = adds-none (dataSort end id) 1 (reading (withExpiration m Expiration.Absent))
   adds-expiration (Expiration.Given t) e w =
       let parts = and-eq-true-iff (may planes.Data end EXPIRATION-TIME) (not (eqb t 0)) .0 e in
@@ -100,7 +100,7 @@ module _ (end : End) (id : DatalinkId) (m : Data) where
 
   reads-packet : (packet : List ℕ) (answer : DataReading) → ((place : ℕ) → finishOf (dataSort end id) place (whole m) ≡ answer)
       → Reads (dataSort end id) (option PACKET-DATA packet done) (reading m) answer
-  unfolding judge lengthListed valueListed dataFree dataState
+  unfolding judge lengthListed valueListed dataUnstated dataState
   reads-packet packet answer k =
       reads-option (dataSort end id)
       (record { opened = refl; is-known = refl; may-stand = packet-may-stand end; length-listed = refl; value-listed = refl; is-free = refl; states = refl })
@@ -143,7 +143,7 @@ noCounted m = withCounted (noChannel m) Counted.Absent
 
 module _ (end : End) (id : DatalinkId) (m : Data) (packet : List ℕ) (value : DataValue m) (allowed : dataAllowed end m (length packet) ≡ true) where
   adds-data : Adds (dataSort end id) 4 (dataThen m) (dataSort end id .blank) (reading m)
-  unfolding blankData dataStated dataFree dataState
+  unfolding blankData dataStated dataUnstated dataState
   adds-data =
       let S = dataSort end id in
       let parts = parts-allowed end m (length packet) allowed in
@@ -154,7 +154,7 @@ module _ (end : End) (id : DatalinkId) (m : Data) (packet : List ℕ) (value : D
 
   -- 9, 10 and 11 find nothing
   finishes : m .datalink ≡ Datalink.Given id → (place : ℕ) → finishOf (dataSort end id) place (whole m) ≡ dataAccepted (whole m)
-  unfolding finishOf dataFree
+  unfolding finishOf dataUnstated
   finishes d place =
       rw (d, pairs-allowed end (m .sequence) (m .channel) (parts-allowed end m (length packet) allowed .counted), eq-eqb (id .0) (id .0) refl)
 

@@ -30,7 +30,7 @@ use Rattle.roundtrip.proofs.Held.{Held, Holds, word-behind, table-holds
 -- ---- tables
 
 module _ {C : Type 0} where
-  length-tabulate : (size : ℕ) (f : ℕ → C) → length (tabulate size f) ≡ size
+  pub length-tabulate : (size : ℕ) (f : ℕ → C) → length (tabulate size f) ≡ size
   unfolding tabulate
   length-tabulate zero f = refl
   length-tabulate (suc size) f = ap suc (length-tabulate size (λ n. f (suc n)))

@@ -17,7 +17,7 @@ use Rattle.meaning.specs.declared.message.Plane.the-variants as planes
 use Rattle.meaning.specs.declared.message.Control.{Control}
 use Rattle.meaning.specs.Kinds.{among, known, lengthListed, valueListed, oneForEach, naming, PACKET-DATA}
 use Rattle.reader.specs.Stated.{tabulate}
-use Rattle.reader.specs.Readings.{controlSort, controlFree, controlState}
+use Rattle.reader.specs.Readings.{controlSort, controlUnstated, controlState}
 use Rattle.allowed.specs.Allowed.{may}
 use Rattle.laying.specs.Parts.{tableThen}
 use Rattle.roundtrip.proofs.Adding.{Adds, adds-none, adds-option, adds-both}
@@ -56,7 +56,7 @@ pub record Column {C : Type 0} (end : End) (kind : ℕ) (put : ℕ → C → Opt
   pub one-for-each : among kind (oneForEach planes.Control) ≡ true
   pub is-naming : among kind naming ≡ true
   pub no-packet : eqb kind PACKET-DATA ≡ false
-  pub frees : (cells : List C) (channel : ℕ) → getD cells channel absent ≡ absent → controlFree kind channel (holds cells) ≡ true
+  pub frees : (cells : List C) (channel : ℕ) → getD cells channel absent ≡ absent → controlUnstated kind channel (holds cells) ≡ true
   pub states : (cells : List C) (channel : ℕ) (content : List ℕ) → controlState kind channel content (holds cells) ≡ holds (set cells channel (from content))
   pub puts : (channel : ℕ) (cell : C) → Fit cell → Cell end kind absent from channel (put channel cell) cell
 

@@ -12,6 +12,7 @@ use Rattle.quantity.specs.declared.refusal.Refusal.{Refusal}
 use Rattle.meaning.specs.declared.message.End.{End}
 use Rattle.text.specs.Words.{beyondOf, headOf, tailOf}
 use Rattle.text.specs.Strings.{pairsOf}
+use Rattle.wording.specs.Wording.{sameText}
 use Rattle.reader.specs.declared.answer.ControlReading.{ControlReading}
 use Rattle.reader.specs.declared.answer.DataReading.{DataReading}
 use Rattle.reader.specs.declared.answer.PlaneAnswer.{PlaneAnswer}
@@ -20,7 +21,7 @@ use Rattle.phrase.specs.Saying.{Says}
 use Rattle.phrase.specs.Phrases.{refusedTexts}
 use Rattle.script.specs.declared.asking.Asked.{Asked}
 use Rattle.script.specs.declared.asking.Target.{Target}
-use Rattle.script.specs.Asked.{sameText, hexWord, behindHex, askedOf, Asks, targetOf}
+use Rattle.script.specs.Asked.{hexWord, behindHex, askedOf, Asks, targetOf}
 use Rattle.script.specs.Readings.{byPlane, readingTexts}
 use Rattle.script.specs.Echoes.{echoingTexts}
 use Rattle.script.specs.Lines.{BAD-LINE, READ, ECHO, readTexts, echoTexts, commandTexts, LONGEST-LINE, LENT, answerTexts}

@@ -1,11 +1,9 @@
--- Words told apart, and the words END ID HEX, way by way. Assumes nothing.
-use mathlib.Core.Bool.{Bool, true, false, cond}
-use mathlib.Core.Path.{_≡_, refl, sym, ap, _∙_}
-use mathlib.Core.List.{List, [], _∷_}
+-- The words END ID HEX and END2 ROOM, way by way. Assumes nothing.
+use mathlib.Core.Path.{_≡_, refl}
+use mathlib.Core.List.{List}
 use Prim.Native.Nat.{ℕ}
 use native.Mathlib.Omega.{arith}
-use borrow.Author.Tests.{eq-eqb, ne-eqb, eqb-true}
-use lib.Dec.{eqb}
+use borrow.Author.Tests.{eq-eqb, ne-eqb}
 use lib.ListN.{length}
 use Rattle.text.specs.Words.{wordOf, beyondOf}
 use Rattle.text.specs.Numbers.{parseOf}
@@ -13,43 +11,12 @@ use Rattle.text.specs.Strings.{hexedOf, unhexed}
 use Rattle.text.specs.declared.Number.{Number}
 use Rattle.text.specs.declared.Hexed.{Hexed}
 use Rattle.text.proofs.Hexadecimal.{unhex-inside, unhex-bytes}
+use Rattle.wording.specs.Wording.{HIGHEST-ID, MOST-ROOM}
 use Rattle.meaning.specs.declared.message.End.{End}
 use Rattle.script.specs.declared.asking.EndWord.{EndWord}
 use Rattle.script.specs.declared.asking.Asked.{Asked}
 use Rattle.script.specs.declared.asking.Target.{Target}
-use Rattle.script.specs.Asked.{sameText, endOf, HIGHEST-ID, hexWord, askedOf, Asks, MOST-ROOM, targetOf}
-
--- ---- the same text
-
-same-refl : (a : List ℕ) → sameText a a ≡ true
-unfolding sameText
-same-refl [] = refl
-same-refl (x ∷ xs) = rw (eq-eqb x x refl) (same-refl xs)
-
-same-true : (a b : List ℕ) → sameText a b ≡ true → a ≡ b
-unfolding sameText
-same-true [] [] e = refl
-same-true [] (y ∷ ys) e = let z : _≡_ {A = ℕ} 0 1 = cc in absurd (omega arith)
-same-true (x ∷ xs) [] e = let z : _≡_ {A = ℕ} 0 1 = cc in absurd (omega arith)
-same-true (x ∷ xs) (y ∷ ys) e = go (eqb x y) refl (same-true xs ys) e
-  where
-    go : (t : Bool) → eqb x y ≡ t → (sameText xs ys ≡ true → xs ≡ ys) → cond t (sameText xs ys) false ≡ true → _≡_ {A = List ℕ} (x ∷ xs) (y ∷ ys)
-    go true q f p = let rest : xs ≡ ys = f p in let first : x ≡ y = eqb-true x y q in cc
-    go false q f p = let z : _≡_ {A = ℕ} 0 1 = cc in absurd (omega arith)
-
--- two tests that are true of the same are the same
-agree : (t u : Bool) → (t ≡ true → u ≡ true) → (u ≡ true → t ≡ true) → t ≡ u
-agree true u f g = sym (f refl)
-agree false true f g = g refl
-agree false false f g = refl
-
-pub same-told : (a b : List ℕ) (r : Bool) → (r ≡ true → a ≡ b) × (a ≡ b → r ≡ true) → r ≡ sameText a b
-same-told a b r k = agree r (sameText a b) (λ e. rw (k .0 e) (same-refl b)) (λ e. k .1 (same-true a b e))
-
--- ---- what was read of a word that is known by another name
-
-pub read-as : {A B : Type 0} (f : A → B) {w v : A} {r s : B} → w ≡ v → r ≡ f w → r ≡ s → f v ≡ s
-read-as f {w} {v} {r} {s} p q t = ap f (sym p) ∙ sym q ∙ t
+use Rattle.script.specs.Asked.{endOf, hexWord, askedOf, Asks, targetOf}
 
 -- ---- END ID HEX
 

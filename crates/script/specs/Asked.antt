@@ -2,25 +2,17 @@
 use mathlib.Core.Path.{_≡_}
 use Prim.Native.Nat.{ℕ, _≤_}
 use mathlib.Core.List.{List, [], _∷_}
-use mathlib.Core.Bool.{Bool, true, false, cond}
+use mathlib.Core.Bool.{cond}
 use lib.Dec.{eqb}
 use lib.ListN.{length, take}
 use Rattle.text.specs.Words.{wordOf, beyondOf}
 use Rattle.text.specs.Numbers.{parseOf}
 use Rattle.text.specs.Strings.{hexedOf, pairsOf}
-use Rattle.text.specs.declared.Number.{Number}
-use Rattle.text.specs.declared.Hexed.{Hexed}
+use Rattle.wording.specs.Wording.{sameText, HIGHEST-ID, MOST-ROOM, onNumber, onHexed}
 use Rattle.meaning.specs.declared.message.End.{End}
 use Rattle.script.specs.declared.asking.EndWord.{EndWord}
 use Rattle.script.specs.declared.asking.Asked.{Asked}
 use Rattle.script.specs.declared.asking.Target.{Target}
-
--- two texts are the same
-unfoldable pub sameText : List ℕ → List ℕ → Bool
-sameText [] [] = true
-sameText [] (y ∷ ys) = false
-sameText (x ∷ xs) [] = false
-sameText (x ∷ xs) (y ∷ ys) = cond (eqb x y) (sameText xs ys) false
 
 -- `ips` and `radio`
 abbrev pub IPS : List ℕ
@@ -33,21 +25,10 @@ RADIO = 114 ∷ 97 ∷ 100 ∷ 105 ∷ 111 ∷ []
 unfoldable pub endOf : List ℕ → EndWord
 endOf word = cond (sameText word IPS) (EndWord.Named End.Ips) (cond (sameText word RADIO) (EndWord.Named End.Radio) EndWord.Bad)
 
-abbrev pub HIGHEST-ID : ℕ
-HIGHEST-ID = 255
-
 -- what a word was read as, handed on; `none` for a bad one
 abbrev pub onEnd : {A : Type 0} → A → (End → A) → EndWord → A
 onEnd none f EndWord.Bad = none
 onEnd none f (EndWord.Named end) = f end
-
-abbrev pub onNumber : {A : Type 0} → A → (ℕ → A) → Number → A
-onNumber none f Number.Bad = none
-onNumber none f (Number.Value n) = f n
-
-abbrev pub onHexed : {A : Type 0} → A → (ℕ → A) → Hexed → A
-onHexed none f Hexed.Bad = none
-onHexed none f (Hexed.Long n) = f n
 
 abbrev pub onAsked : {A : Type 0} → A → (End → ℕ → ℕ → A) → Asked → A
 onAsked none f Asked.Bad = none
@@ -80,10 +61,6 @@ pub record Asks (lent rest : List ℕ) (r : Asked) (lent′ : List ℕ) : Type 0
   pub answer : r ≡ askedOf (length lent) rest
   pub within : longOf r ≤ length lent
   pub bytes : take (longOf r) lent′ ≡ onAsked [] (λ end id n. pairsOf (hexWord rest)) r
-
--- "lengths (`ROOM`, `STORE`, `LEN`) at most 1048576"
-abbrev pub MOST-ROOM : ℕ
-MOST-ROOM = 1048576
 
 -- END2 and ROOM, and nothing behind them
 unfoldable pub targetOf : List ℕ → Target

@@ -7,7 +7,8 @@ use lib.ListN.{length}
 use Rattle.quantity.specs.Limits.{LONGEST-DATAGRAM}
 use Rattle.text.specs.Words.{headOf, tailOf}
 use Rattle.text.specs.Strings.{pairsOf}
-use Rattle.script.specs.Asked.{sameText, onAsked, onTarget, hexWord, behindHex, askedOf, targetOf}
+use Rattle.wording.specs.Wording.{sameText}
+use Rattle.script.specs.Asked.{onAsked, onTarget, hexWord, behindHex, askedOf, targetOf}
 use Rattle.script.specs.Readings.{readingTexts}
 use Rattle.script.specs.Echoes.{echoingTexts}
 

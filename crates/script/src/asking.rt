@@ -1,15 +1,12 @@
 // The words of a line that asks for a message to be read: END ID HEX; and where it is written: END2 ROOM.
 ghost use mathlib.Core.Path.{_≡_};
-ghost use Rattle.script.specs.Asked.{sameText, endOf, Asks, targetOf};
+ghost use Rattle.script.specs.Asked.{endOf, Asks, targetOf};
 use meaning::message::End;
 use text::Hexed;
 use text::Number;
-
-// A Datalink ID's largest number.
-const HIGHEST_ID: u64 = 255;
-
-// A length that a line may name.
-const MOST_ROOM: u64 = 1048576;
+use wording::HIGHEST_ID;
+use wording::MOST_ROOM;
+use wording::is;
 
 pub enum EndWord {
     Bad,
@@ -26,12 +23,6 @@ pub enum Asked {
 pub enum Target {
     Bad,
     Output(End, usize),
-}
-
-pub(crate) fn is(word: &[u8], name: &[u8]) -> bool
-    ensures { λ r. ⌜ r ≡ sameText (now (word .entry)) (now (name .entry)) ⌝ }
-{
-    check::same(word, name)
 }
 
 pub(crate) fn end_of(word: &[u8]) -> EndWord

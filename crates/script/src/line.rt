@@ -8,7 +8,6 @@ ghost use Rattle.script.specs.Lines.{BAD-LINE, readTexts, echoTexts, com
 use crate::asking::Asked;
 use crate::asking::Target;
 use crate::asking::ask;
-use crate::asking::is;
 use crate::asking::target_of;
 use crate::echo::echoing;
 use crate::reading::reading;
@@ -18,6 +17,7 @@ use text::beyond;
 use text::head;
 use text::put;
 use text::tail;
+use wording::is;
 
 const LONGEST_LINE: usize = 140000;
 

@@ -1,4 +1,4 @@
 // One channel's store: the waiting packets end to end, and the queue of their lengths and expiries.
 pub mod queue;
-mod stretch;
+pub mod stretch;
 pub mod waiting;

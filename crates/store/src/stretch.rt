@@ -21,7 +21,7 @@ pub(crate) fn move_down(store: &mut [u8], from: usize, to: usize, bytes: ByteCou
 }
 
 // Fills a stretch with zeros.
-pub(crate) fn fill_zeros(stretch: &mut [u8])
+pub fn fill_zeros(stretch: &mut [u8])
     ensures { λ _. ⌜ now (stretch .exit) ≡ replicate (length (now (stretch .entry))) 0 ⌝ }
 {
     let mut zeros = 0;

@@ -8,11 +8,12 @@ use lib.ListN.{length}
 use Rattle.meaning.specs.declared.message.Control.{Control}
 use Rattle.reader.specs.declared.answer.Item.{Item}
 use Rattle.reader.specs.declared.answer.OptionAnswer.{OptionAnswer}
+use Rattle.reader.specs.Sorts.{finishOf}
 use Rattle.reader.specs.Stated.{controlStated, tabulate}
-use Rattle.reader.specs.Readings.{noDatalink, noInstance, noContext, noStatus, noSequence, noWindow, blankControl, controlSort}
+use Rattle.reader.specs.Readings.{unstatedDatalink, unstatedInstance, unstatedContext, unstatedStatus, unstatedSequence, unstatedWindow, blankControl, controlAccepted, controlSort}
 use Rattle.reader.proofs.Turn.{ends, cuts}
 use Rattle.reader.proofs.Taking.{Framed, room-of}
-use Rattle.reader.proofs.Controls.{wholeOf, Reached, Stating, refusing, stating, passing, window-repeated}
+use Rattle.reader.proofs.Controls.{wholeOf, Reached, Stating, refusing, stating, passing, window-repeated, refuses-whole, accepts-whole}
 use Rattle.reader.proofs.control.options.Statement.{statement}
 use Rattle.reader.proofs.control.options.Tie as tie
 
@@ -45,10 +46,10 @@ Arm c item =
     let args = head .before .before .args in
     Stating (args .end) (args .id) (args .datagram .now) (head .loop .at) (turn .before .kind .given .0 .1 .0) (stated head) item
 
-arm : (c : tie.After-known-told2 Inv-loop μ-loop) {item : Item} → c .before .answer2 .given .0 .0 ≡ item → Arm c item
+arm : (c : tie.After-known-told2 Inv-loop μ-loop) {item : Item} → c .before .answer .given .0 .0 ≡ item → Arm c item
 arm c e =
     let answered = c .before .before .before in
-    stating (framed (answered .before .before)) (answered .answer .ensures .0) (answered .answer .ensures .1) (c .before .answer2 .given .1 ∙ ap OptionAnswer.Took e)
+    stating (framed (answered .before .before)) (answered .of-control .ensures .0) (answered .of-control .ensures .1) (c .before .answer .given .1 ∙ ap OptionAnswer.Took e)
 
 datalink-arm : (c : tie.After-item Inv-loop μ-loop) → Arm (c .before .before) (Item.Datalink (c .item .given .0 .0))
 datalink-arm c = arm (c .before .before) (c .item .given .1)
@@ -84,22 +85,22 @@ add-from c = omega (arith, room-of (framed c))
 add-to : tie.Need-add-to Inv-loop μ-loop
 add-to c = omega (arith, room-of (framed c))
 
-part-answer-end : tie.Need-part-answer-end Inv-loop μ-loop
-part-answer-end c = room-of (framed c)
+part-of-control-end : tie.Need-part-of-control-end Inv-loop μ-loop
+part-of-control-end c = room-of (framed c)
 
 returns-2 : tie.Need-returns-2 Inv-loop μ-loop
 returns-2 c =
     let answered = c .before .before .before .before in
-    c .refused2 .ensures ∙ rw (c .before .number-of .ensures) (refusing (framed (answered .before .before)) (answered .answer .ensures .0) (c .before .before .enum-told2 .given .1))
+    c .refused2 .ensures ∙ rw (c .before .number-of .ensures) (refusing (framed (answered .before .before)) (answered .of-control .ensures .0) (c .before .before .enum-told2 .given .1))
 
 returns-3 : tie.Need-returns-3 Inv-loop μ-loop
-returns-3 c = c .refused3 .ensures ∙ datalink-arm (c .before .before .before .before) .repeated (ap noDatalink (c .before .enum-told4 .given .1))
+returns-3 c = c .refused3 .ensures ∙ datalink-arm (c .before .before .before .before) .repeated (ap unstatedDatalink (c .before .enum-told4 .given .1))
 
 returns-4 : tie.Need-returns-4 Inv-loop μ-loop
-returns-4 c = c .refused4 .ensures ∙ instance-arm (c .before .before .before .before) .repeated (ap noInstance (c .before .enum-told6 .given .1))
+returns-4 c = c .refused4 .ensures ∙ instance-arm (c .before .before .before .before) .repeated (ap unstatedInstance (c .before .enum-told6 .given .1))
 
 returns-5 : tie.Need-returns-5 Inv-loop μ-loop
-returns-5 c = c .refused5 .ensures ∙ context-arm (c .before .before .before .before) .repeated (ap noContext (c .before .enum-told8 .given .1))
+returns-5 c = c .refused5 .ensures ∙ context-arm (c .before .before .before .before) .repeated (ap unstatedContext (c .before .enum-told8 .given .1))
 
 mul-cell : tie.Need-mul-cell Inv-loop μ-loop
 mul-cell c = omega (arith, status-arm (c .before) .in-table)
@@ -108,7 +109,7 @@ array-copy-out-cell : tie.Need-array-copy-out-cell Inv-loop μ-loop
 array-copy-out-cell c = status-arm (c .before) .in-table
 
 returns-6 : tie.Need-returns-6 Inv-loop μ-loop
-returns-6 c = c .refused6 .ensures ∙ status-arm (c .before .before .before .before .before) .repeated (ap noStatus (c .before .enum-told10 .given .1))
+returns-6 c = c .refused6 .ensures ∙ status-arm (c .before .before .before .before .before) .repeated (ap unstatedStatus (c .before .enum-told10 .given .1))
 
 mul-statuses : tie.Need-mul-statuses Inv-loop μ-loop
 mul-statuses c = omega (arith, status-arm (c .before .before .before .before) .in-table)
@@ -123,7 +124,7 @@ array-copy-out-cell-2 : tie.Need-array-copy-out-cell-2 Inv-loop μ-loop
 array-copy-out-cell-2 c = sequence-arm (c .before) .in-table
 
 returns-7 : tie.Need-returns-7 Inv-loop μ-loop
-returns-7 c = c .refused7 .ensures ∙ sequence-arm (c .before .before .before .before .before) .repeated (ap noSequence (c .before .enum-told12 .given .1))
+returns-7 c = c .refused7 .ensures ∙ sequence-arm (c .before .before .before .before .before) .repeated (ap unstatedSequence (c .before .enum-told12 .given .1))
 
 mul-sequences : tie.Need-mul-sequences Inv-loop μ-loop
 mul-sequences c = omega (arith, sequence-arm (c .before .before .before .before) .in-table)
@@ -141,46 +142,46 @@ returns-8 : tie.Need-returns-8 Inv-loop μ-loop
 returns-8 c = c .refused8 .ensures ∙ window-repeated (window-arm (c .before .before .before .before)) (c .before .match9 .keys2)
 
 mul-windows : tie.Need-mul-windows Inv-loop μ-loop
-mul-windows c = omega (arith, window-arm (c .before .before .before .before) .in-table)
+mul-windows c = omega (arith, window-arm (c .before .before .before .before .before) .in-table)
 
 array-set-from-windows : tie.Need-array-set-from-windows Inv-loop μ-loop
-array-set-from-windows c = window-arm (c .before .before .before .before) .in-table
+array-set-from-windows c = window-arm (c .before .before .before .before .before) .in-table
 
 loop-less : tie.Need-loop-less Inv-loop μ-loop
 loop-less c = datalink-arm (c .before .before .before) .less
 
 loop-again : tie.Need-loop-again Inv-loop μ-loop
-loop-again c = datalink-arm (c .before .before .before) .taken (ap noDatalink (c .enum-told3 .given .1))
+loop-again c = datalink-arm (c .before .before .before) .taken (ap unstatedDatalink (c .enum-told3 .given .1))
 
 loop-less-2 : tie.Need-loop-less-2 Inv-loop μ-loop
 loop-less-2 c = instance-arm (c .before .before .before) .less
 
 loop-again-2 : tie.Need-loop-again-2 Inv-loop μ-loop
-loop-again-2 c = instance-arm (c .before .before .before) .taken (ap noInstance (c .enum-told5 .given .1))
+loop-again-2 c = instance-arm (c .before .before .before) .taken (ap unstatedInstance (c .enum-told5 .given .1))
 
 loop-less-3 : tie.Need-loop-less-3 Inv-loop μ-loop
 loop-less-3 c = context-arm (c .before .before .before) .less
 
 loop-again-3 : tie.Need-loop-again-3 Inv-loop μ-loop
-loop-again-3 c = context-arm (c .before .before .before) .taken (ap noContext (c .enum-told7 .given .1))
+loop-again-3 c = context-arm (c .before .before .before) .taken (ap unstatedContext (c .enum-told7 .given .1))
 
 loop-less-4 : tie.Need-loop-less-4 Inv-loop μ-loop
 loop-less-4 c = status-arm (c .before .before .before .before) .less
 
 loop-again-4 : tie.Need-loop-again-4 Inv-loop μ-loop
-loop-again-4 c = status-arm (c .before .before .before .before) .taken (ap noStatus (c .enum-told9 .given .1))
+loop-again-4 c = status-arm (c .before .before .before .before) .taken (ap unstatedStatus (c .enum-told9 .given .1))
 
 loop-less-5 : tie.Need-loop-less-5 Inv-loop μ-loop
 loop-less-5 c = sequence-arm (c .before .before .before .before) .less
 
 loop-again-5 : tie.Need-loop-again-5 Inv-loop μ-loop
-loop-again-5 c = sequence-arm (c .before .before .before .before) .taken (ap noSequence (c .enum-told11 .given .1))
+loop-again-5 c = sequence-arm (c .before .before .before .before) .taken (ap unstatedSequence (c .enum-told11 .given .1))
 
 loop-less-6 : tie.Need-loop-less-6 Inv-loop μ-loop
-loop-less-6 c = window-arm (c .before .before .before .before) .less
+loop-less-6 c = window-arm (c .before .before .before .before .before) .less
 
 loop-again-6 : tie.Need-loop-again-6 Inv-loop μ-loop
-loop-again-6 c = window-arm (c .before .before .before .before) .taken (ap noWindow (c .enum-told13 .given .1))
+loop-again-6 c = rw (c .window-cell .ensures) (window-arm (c .before .before .before .before .before) .taken (ap unstatedWindow (c .before .enum-told13 .given .1)))
 
 loop-less-7 : tie.Need-loop-less-7 Inv-loop μ-loop
 loop-less-7 c = arm (c .before) refl .less
@@ -188,10 +189,25 @@ loop-less-7 c = arm (c .before) refl .less
 loop-again-7 : tie.Need-loop-again-7 Inv-loop μ-loop
 loop-again-7 c = passing _ (c .match3 .keys7) (arm (c .before) refl)
 
+-- behind the last option
+ended : (c : tie.After-fault Inv-loop μ-loop) → let head = c .before .before .before in
+    let args = head .before .before .args in
+    wholeOf (args .end) (args .id) (args .datagram .now) ≡ finishOf (controlSort (args .end) (args .id)) (head .loop .at) (stated head)
+ended c =
+    let test = c .before .before in
+    let head = test .before in
+    ends _ _ (head .loop .at) (stated head) (head .loop .inv) (test .loop-test .left)
+
 returns-9 : tie.Need-returns-9 Inv-loop μ-loop
 returns-9 c =
-    let head = c .before .before in
-    c .finished .ensures ∙ sym (ends _ _ (head .loop .at) (stated head) (head .loop .inv) (c .before .loop-test .left))
+    let faulty = c .before .before in
+    c .refused9 .ensures ∙ refuses-whole _ _ _ (stated (faulty .before .before .before)) (faulty .fault .ensures) (c .before .if1 .taken) ∙ sym (ended faulty)
+
+returns-10 : tie.Need-returns-10 Inv-loop μ-loop
+unfolding controlAccepted
+returns-10 c =
+    let faulty = c .before in
+    accepts-whole _ _ _ (stated (faulty .before .before .before)) (faulty .fault .ensures) (c .if1 .left) ∙ sym (ended faulty)
 
 pub options-spec : {M : Type 1} → statement M
 options-spec =
@@ -212,7 +228,7 @@ options-spec =
     add-to
     (λ c. search needs)
     (λ c. search needs)
-    part-answer-end
+    part-of-control-end
     (λ c κs. search needs)
     (λ c. search needs)
     (λ c. search needs)
@@ -261,6 +277,7 @@ options-spec =
     (λ c. search needs)
     (λ c κs. search needs)
     returns-8
+    (λ c κs. search needs)
     mul-windows
     array-set-from-windows
     loop-less
@@ -277,5 +294,8 @@ options-spec =
     loop-again-6
     loop-less-7
     loop-again-7
+    (λ c. search needs)
     (λ c κs. search needs)
-    returns-9)
+    (λ c κs. search needs)
+    returns-9
+    returns-10)

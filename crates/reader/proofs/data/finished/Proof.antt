@@ -5,16 +5,16 @@ use mathlib.Core.Path.{_≡_, sym}
 use mathlib.Core.Bool.{true}
 use Rattle.meaning.specs.declared.message.Datalink.{Datalink}
 use Rattle.reader.specs.Sorts.{finishOf}
-use Rattle.reader.specs.Readings.{pairs, dataFree, dataAccepted}
+use Rattle.reader.specs.Readings.{pairs, dataUnstated, dataAccepted}
 use Rattle.reader.proofs.data.finished.Statement.{statement}
 use Rattle.reader.proofs.data.finished.Tie as tie
 
 returns : tie.Need-returns
-unfolding finishOf dataFree
+unfolding finishOf dataUnstated
 returns c = λ end. rw (c .before .enum-told .given .1) (c .refused .ensures)
 
 returns-2 : tie.Need-returns-2
-unfolding finishOf dataFree
+unfolding finishOf dataUnstated
 returns-2 c =
     let named = c .before .before .before in
     λ end. rw (named .datalink .given .1, not-true (named .before .before .args .packet) (c .before .if1 .taken)) (c .refused2 .ensures)
@@ -30,18 +30,18 @@ paired c =
     (named .datalink .given .1, not-false (named .before .before .args .packet) (c .before .if1 .left), sym (c .is-paired .ensures))
 
 returns-3 : tie.Need-returns-3
-unfolding finishOf dataFree
+unfolding finishOf dataUnstated
 returns-3 c = let p = paired (c .before .before) in λ end. rw (p .0, p .1, p .2, not-true (c .before .before .is-paired .result) (c .before .if2 .taken)) (c .refused3 .ensures)
 
 returns-4 : tie.Need-returns-4
-unfolding finishOf dataFree
+unfolding finishOf dataUnstated
 returns-4 c =
     let tested = c .before .before .before .before in
     let p = paired (tested .before) in
     λ end. rw (p .0, p .1, p .2, not-false (tested .before .is-paired .result) (tested .if2 .left), ne-eqb _ _ (c .before .if3 .taken)) (c .refused4 .ensures)
 
 returns-5 : tie.Need-returns-5
-unfolding finishOf dataFree dataAccepted
+unfolding finishOf dataUnstated dataAccepted
 returns-5 c =
     let tested = c .before .before .before in
     let p = paired (tested .before) in

@@ -54,10 +54,10 @@ parted : (c : tie.After-known-told2 Inv-loop μ-loop)
     → let frame = c .before .before .before .before .before .before in
     let turn = frame .before .before .before .before .before .before in
     let start = turn .before .before in
-    Parting (sort start) add (whole start) (start .args .datagram .now) (turn .loop .at) (kept turn) (frame .before .kind .given .0 .1 .0) (c .before .answer2 .given .0 .0)
+    Parting (sort start) add (whole start) (start .args .datagram .now) (turn .loop .at) (kept turn) (frame .before .kind .given .0 .1 .0) (c .before .answer .given .0 .0)
 parted c =
     let called = c .before .before .before in
-    parting (framed (called .before .before .before)) (adding _ _) (called .before .before .if1 .left) (sym (c .before .answer2 .given .1) ∙ called .answer .ensures .0)
+    parting (framed (called .before .before .before)) (adding _ _) (called .before .before .if1 .left) (sym (c .before .answer .given .1) ∙ called .of-data .ensures .0)
 
 returns : tie.Need-returns Inv-loop μ-loop
 returns c =
@@ -75,8 +75,8 @@ add-from c = omega (arith, room-of (framed (c .before)))
 add-to : tie.Need-add-to Inv-loop μ-loop
 add-to c = omega (arith, room-of (framed (c .before)))
 
-part-answer-end : tie.Need-part-answer-end Inv-loop μ-loop
-part-answer-end c = room-of (framed (c .before))
+part-of-data-end : tie.Need-part-of-data-end Inv-loop μ-loop
+part-of-data-end c = room-of (framed (c .before))
 
 returns-3 : tie.Need-returns-3 Inv-loop μ-loop
 returns-3 c =
@@ -84,7 +84,7 @@ returns-3 c =
     let called = told .before .before in
     c .refused3 .ensures
     ∙ rw (c .before .number-of .ensures, told .enum-told2 .given .1)
-    (sym (faulty (framed (called .before .before .before)) (adding _ _) (called .before .before .if1 .left) (sym (told .enum-told2 .given .1) ∙ called .answer .ensures .0)))
+    (sym (faulty (framed (called .before .before .before)) (adding _ _) (called .before .before .if1 .left) (sym (told .enum-told2 .given .1) ∙ called .of-data .ensures .0)))
 
 returns-4 : tie.Need-returns-4 Inv-loop μ-loop
 returns-4 c =
@@ -122,7 +122,7 @@ loop-again-5 : tie.Need-loop-again-5 Inv-loop μ-loop
 loop-again-5 c = let parting = c .before .before in parted parting .goes-on (rw (c .enum-told11 .given .1, parting .before .before .before .before .before .if1 .left))
 
 loop-again-6 : tie.Need-loop-again-6 Inv-loop μ-loop
-loop-again-6 c = parted (c .before) .goes-on (passed-over (c .before .before .answer2 .given .0 .0) _ (c .match3 .keys6))
+loop-again-6 c = parted (c .before) .goes-on (passed-over (c .before .before .answer .given .0 .0) _ (c .match3 .keys6))
 
 returns-8 : tie.Need-returns-8 Inv-loop μ-loop
 returns-8 c =
@@ -151,7 +151,7 @@ options-spec =
     add-to
     (λ c. search needs)
     (λ c. search needs)
-    part-answer-end
+    part-of-data-end
     (λ c κs. search needs)
     (λ c. search needs)
     (λ c. search needs)

@@ -7,8 +7,10 @@ use Rattle.text.specs.Words.{wordOf, beyondOf}
 use Rattle.text.specs.Numbers.{parseOf}
 use Rattle.text.specs.Strings.{hexedOf, unhexed}
 use Rattle.text.proofs.Bounds.{parse-most}
-use Rattle.script.specs.Asked.{endOf, HIGHEST-ID}
-use Rattle.script.proofs.Words.{read-as, asks-no-end, asks-no-id, asks-no-bytes, asks-all}
+use Rattle.wording.specs.Wording.{HIGHEST-ID}
+use Rattle.wording.proofs.Words.{read-as}
+use Rattle.script.specs.Asked.{endOf}
+use Rattle.script.proofs.Words.{asks-no-end, asks-no-id, asks-no-bytes, asks-all}
 use Rattle.script.proofs.asking.ask.Statement.{statement}
 use Rattle.script.proofs.asking.ask.Tie as tie
 

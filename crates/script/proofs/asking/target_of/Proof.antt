@@ -3,8 +3,10 @@ use borrow.Author.Needs.{needs}
 use mathlib.Core.Path.{ap, _∙_}
 use Rattle.text.specs.Words.{wordOf, beyondOf}
 use Rattle.text.specs.Numbers.{parseOf}
-use Rattle.script.specs.Asked.{endOf, MOST-ROOM}
-use Rattle.script.proofs.Words.{read-as, target-no-end, target-no-room, target-more, target-all}
+use Rattle.wording.specs.Wording.{MOST-ROOM}
+use Rattle.wording.proofs.Words.{read-as}
+use Rattle.script.specs.Asked.{endOf}
+use Rattle.script.proofs.Words.{target-no-end, target-no-room, target-more, target-all}
 use Rattle.script.proofs.asking.target_of.Statement.{statement}
 use Rattle.script.proofs.asking.target_of.Tie as tie
 

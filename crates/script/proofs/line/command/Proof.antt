@@ -2,9 +2,9 @@
 use borrow.Author.Needs.{needs}
 use mathlib.Core.List.{List}
 use Prim.Native.Nat.{ℕ}
-use Rattle.script.specs.Asked.{sameText}
+use Rattle.wording.specs.Wording.{sameText}
+use Rattle.wording.proofs.Words.{read-as}
 use Rattle.script.specs.Lines.{READ, ECHO}
-use Rattle.script.proofs.Words.{read-as}
 use Rattle.script.proofs.Answers.{command-read, command-echo, command-none}
 use Rattle.script.proofs.line.command.Statement.{statement}
 use Rattle.script.proofs.line.command.Tie as tie

@@ -3,8 +3,8 @@ use borrow.Author.Needs.{needs}
 use mathlib.Core.Path.{sym, _∙_}
 use native.Mathlib.Omega.{arith}
 use Rattle.phrase.proofs.Saying.{part-size}
+use Rattle.wording.proofs.Words.{read-as}
 use Rattle.script.specs.Asked.{targetOf}
-use Rattle.script.proofs.Words.{read-as}
 use Rattle.script.proofs.Answers.{behind-three, asked-part, asked-within, echo-bad, echo-nowhere, echo-all}
 use Rattle.script.proofs.line.echo.Statement.{statement}
 use Rattle.script.proofs.line.echo.Tie as tie

@@ -1,0 +1,784 @@
+// A plain Rust reader of CIRI messages beside the proved one (the crate `bench`): both must agree, then both are timed on the same bytes.
+// It shares no code with the proved one, but its writer knew that one: the second opinion on the papers is second/.
+use std::hint::black_box;
+
+// ---- the proved reader, behind its exports
+
+extern "C" {
+    fn nespovarda_plane_digest(datagram: *const u8, length: usize) -> u64;
+    fn nespovarda_control_digest(datagram: *const u8, length: usize, radio: bool, id: u8, channel: u8) -> u64;
+    fn nespovarda_data_digest(datagram: *const u8, length: usize, radio: bool, id: u8) -> u64;
+    fn nespovarda_packet_digest(datagram: *const u8, length: usize, radio: bool, id: u8) -> u64;
+}
+
+fn proved_plane(datagram: &[u8]) -> u64 {
+    unsafe { nespovarda_plane_digest(datagram.as_ptr(), datagram.len()) }
+}
+
+fn proved_control(datagram: &[u8], end: End, id: u8, channel: u8) -> u64 {
+    unsafe { nespovarda_control_digest(datagram.as_ptr(), datagram.len(), end == End::Radio, id, channel) }
+}
+
+fn proved_data(datagram: &[u8], end: End, id: u8) -> u64 {
+    unsafe { nespovarda_data_digest(datagram.as_ptr(), datagram.len(), end == End::Radio, id) }
+}
+
+fn proved_packet(datagram: &[u8], end: End, id: u8) -> u64 {
+    unsafe { nespovarda_packet_digest(datagram.as_ptr(), datagram.len(), end == End::Radio, id) }
+}
+
+// ---- the plain reader
+
+const CHANNELS: usize = 255;
+const LONGEST: usize = 65507;
+
+#[derive(Clone, Copy, PartialEq)]
+enum End {
+    Ips,
+    Radio,
+}
+
+#[derive(Clone, Copy)]
+enum Window {
+    Absent,
+    Empty,
+    Given(u32),
+}
+
+struct Control {
+    datalink: u8,
+    instance: Option<(u64, usize)>,
+    context: Option<(u64, usize)>,
+    statuses: [Option<u8>; CHANNELS],
+    sequences: [Option<u32>; CHANNELS],
+    windows: [Window; CHANNELS],
+}
+
+struct Data<'a> {
+    datalink: u8,
+    sequence: Option<(u8, u32)>,
+    channel: Option<u8>,
+    expiration: Option<u32>,
+    packet: &'a [u8],
+}
+
+enum Fault {
+    OtherPlane,
+    Refused(u8, usize),
+}
+
+use Fault::{OtherPlane, Refused};
+
+const CONTROL: u8 = 0;
+const DATA: u8 = 1;
+
+// 1, 2, and the Data Plane flag.
+fn header(datagram: &[u8], plane: u8) -> Result<(), Fault> {
+    if datagram.len() > LONGEST {
+        return Err(Refused(1, 0));
+    }
+    match datagram.first() {
+        Some(byte) if byte >> 4 == 1 => {
+            if byte >> 3 & 1 == plane {
+                Ok(())
+            } else {
+                Err(OtherPlane)
+            }
+        }
+        _ => Err(Refused(2, 0)),
+    }
+}
+
+// The type and the content of the option at a place, or 3.
+fn option(datagram: &[u8], at: usize) -> Result<(u8, &[u8]), Fault> {
+    let rest = &datagram[at..];
+    if rest.len() < 3 {
+        return Err(Refused(3, at));
+    }
+    let length = u16::from_be_bytes([rest[1], rest[2]]) as usize;
+    match rest[3..].get(..length) {
+        Some(content) => Ok((rest[0], content)),
+        None => Err(Refused(3, at)),
+    }
+}
+
+// A channel, or 5.
+fn channel(content: &[u8], at: usize) -> Result<u8, Fault> {
+    if content[0] == 255 {
+        Err(Refused(5, at))
+    } else {
+        Ok(content[0])
+    }
+}
+
+fn number(content: &[u8]) -> u64 {
+    content.iter().fold(0, |sum, byte| sum << 8 | *byte as u64)
+}
+
+fn word(content: &[u8]) -> u32 {
+    u32::from_be_bytes([content[0], content[1], content[2], content[3]])
+}
+
+fn is_known(kind: u8) -> bool {
+    matches!(kind, 1 | 3..=6 | 128..=130 | 134)
+}
+
+fn read_control(datagram: &[u8], end: End, id: u8) -> Result<Control, Fault> {
+    header(datagram, CONTROL)?;
+    let mut datalink = None;
+    let mut instance = None;
+    let mut context = None;
+    let mut statuses = [None; CHANNELS];
+    let mut sequences = [None; CHANNELS];
+    let mut windows = [Window::Absent; CHANNELS];
+    let mut at = 1;
+    while at < datagram.len() {
+        let (kind, content) = option(datagram, at)?;
+        let length = content.len();
+        match (kind, end) {
+            (1, _) => {
+                if length != 1 {
+                    return Err(Refused(4, at));
+                }
+                if datalink.is_some() {
+                    return Err(Refused(7, at));
+                }
+                datalink = Some(content[0]);
+            }
+            (3, End::Radio) => {
+                if length < 1 || length > 8 {
+                    return Err(Refused(4, at));
+                }
+                if instance.is_some() {
+                    return Err(Refused(7, at));
+                }
+                instance = Some((number(content), length));
+            }
+            (4, End::Radio) => {
+                if length < 1 || length > 8 {
+                    return Err(Refused(4, at));
+                }
+                if context.is_some() {
+                    return Err(Refused(7, at));
+                }
+                context = Some((number(content), length));
+            }
+            (5, End::Radio) => {
+                if length != 2 {
+                    return Err(Refused(4, at));
+                }
+                let status = &mut statuses[channel(content, at)? as usize];
+                if status.is_some() {
+                    return Err(Refused(7, at));
+                }
+                *status = Some(content[1] & 15);
+            }
+            (6, End::Radio) => {
+                if length != 1 && length != 5 {
+                    return Err(Refused(4, at));
+                }
+                let window = &mut windows[channel(content, at)? as usize];
+                let Window::Absent = window else {
+                    return Err(Refused(7, at));
+                };
+                *window = if length == 1 { Window::Empty } else { Window::Given(word(&content[1..])) };
+            }
+            (134, End::Ips) => {
+                if length != 5 {
+                    return Err(Refused(4, at));
+                }
+                let sequence = &mut sequences[channel(content, at)? as usize];
+                if sequence.is_some() {
+                    return Err(Refused(7, at));
+                }
+                *sequence = Some(word(&content[1..]));
+            }
+            _ if is_known(kind) => return Err(Refused(6, at)),
+            _ => {}
+        }
+        at += 3 + length;
+    }
+    let Some(datalink) = datalink else {
+        return Err(Refused(9, at));
+    };
+    if end == End::Radio && statuses[0].is_none() {
+        return Err(Refused(9, at));
+    }
+    if datalink != id {
+        return Err(Refused(11, at));
+    }
+    Ok(Control { datalink, instance, context, statuses, sequences, windows })
+}
+
+fn read_data(datagram: &[u8], end: End, id: u8) -> Result<Data<'_>, Fault> {
+    header(datagram, DATA)?;
+    let mut datalink = None;
+    let mut sequence = None;
+    let mut named = None;
+    let mut expiration = None;
+    let mut packet = None;
+    let mut at = 1;
+    while at < datagram.len() {
+        let (kind, content) = option(datagram, at)?;
+        if packet.is_some() {
+            return Err(Refused(8, at));
+        }
+        let length = content.len();
+        match (kind, end) {
+            (1, _) => {
+                if length != 1 {
+                    return Err(Refused(4, at));
+                }
+                if datalink.is_some() {
+                    return Err(Refused(7, at));
+                }
+                datalink = Some(content[0]);
+            }
+            (128, _) => packet = Some(content),
+            (129, _) => {
+                if length != 1 {
+                    return Err(Refused(4, at));
+                }
+                let id = channel(content, at)?;
+                if named.is_some() {
+                    return Err(Refused(7, at));
+                }
+                named = Some(id);
+            }
+            (130, End::Ips) => {
+                if length != 4 {
+                    return Err(Refused(4, at));
+                }
+                let time = word(content);
+                if time == 0 {
+                    return Err(Refused(5, at));
+                }
+                if expiration.is_some() {
+                    return Err(Refused(7, at));
+                }
+                expiration = Some(time);
+            }
+            (134, End::Ips) => {
+                if length != 5 {
+                    return Err(Refused(4, at));
+                }
+                let id = channel(content, at)?;
+                if sequence.is_some() {
+                    return Err(Refused(7, at));
+                }
+                sequence = Some((id, word(&content[1..])));
+            }
+            _ if is_known(kind) => return Err(Refused(6, at)),
+            _ => {}
+        }
+        at += 3 + length;
+    }
+    let (Some(datalink), Some(packet)) = (datalink, packet) else {
+        return Err(Refused(9, at));
+    };
+    if let Some((counted, _)) = sequence {
+        if named != Some(counted) {
+            return Err(Refused(10, at));
+        }
+    }
+    if datalink != id {
+        return Err(Refused(11, at));
+    }
+    Ok(Data { datalink, sequence, channel: named, expiration, packet })
+}
+
+// ---- digests, as crates/bench/specs/Digests.antt defines them
+
+const ABSENT: u64 = 1 << 32;
+const EMPTY: u64 = ABSENT + 1;
+
+fn mixed(sum: u64, part: u64) -> u64 {
+    sum.rotate_left(17).wrapping_add(part)
+}
+
+fn mixed_all<const N: usize>(sum: u64, parts: [u64; N]) -> u64 {
+    parts.into_iter().fold(sum, mixed)
+}
+
+fn fault_digest(fault: Fault) -> u64 {
+    match fault {
+        OtherPlane => 1,
+        Refused(number, place) => mixed(number as u64, place as u64),
+    }
+}
+
+fn part<T: Into<u64>>(stated: Option<T>) -> u64 {
+    stated.map_or(ABSENT, T::into)
+}
+
+fn name_parts(stated: Option<(u64, usize)>) -> (u64, u64) {
+    stated.map_or((0, 0), |(number, length)| (number, length as u64))
+}
+
+fn control_sum(message: &Control, channel: u8) -> u64 {
+    let at = channel as usize;
+    let instance = name_parts(message.instance);
+    let context = name_parts(message.context);
+    let whole = mixed_all(0, [message.datalink as u64, instance.0, instance.1, context.0, context.1]);
+    if at >= CHANNELS {
+        return mixed_all(whole, [ABSENT; 3]);
+    }
+    let window = match message.windows[at] {
+        Window::Absent => ABSENT,
+        Window::Empty => EMPTY,
+        Window::Given(word) => word as u64,
+    };
+    mixed_all(whole, [part(message.statuses[at]), part(message.sequences[at]), window])
+}
+
+fn data_sum(message: &Data) -> u64 {
+    let (counted, word) = message.sequence.map_or((ABSENT, ABSENT), |(channel, word)| (channel as u64, word as u64));
+    mixed_all(0, [message.datalink as u64, word, counted, part(message.channel), part(message.expiration)])
+}
+
+#[inline(never)]
+fn plain_plane(datagram: &[u8]) -> u64 {
+    match header(datagram, CONTROL) {
+        Err(fault) => fault_digest(fault),
+        Ok(()) => 0,
+    }
+}
+
+#[inline(never)]
+fn plain_control(datagram: &[u8], end: End, id: u8, channel: u8) -> u64 {
+    match read_control(datagram, end, id) {
+        Err(fault) => fault_digest(fault),
+        Ok(message) => control_sum(&message, channel),
+    }
+}
+
+#[inline(never)]
+fn plain_data(datagram: &[u8], end: End, id: u8) -> u64 {
+    match read_data(datagram, end, id) {
+        Err(fault) => fault_digest(fault),
+        Ok(message) => data_sum(&message),
+    }
+}
+
+#[inline(never)]
+fn plain_packet(datagram: &[u8], end: End, id: u8) -> u64 {
+    match read_data(datagram, end, id) {
+        Err(fault) => fault_digest(fault),
+        Ok(message) => {
+            let last = message.packet.last().map_or(0, |byte| *byte as u64);
+            mixed_all(data_sum(&message), [message.packet.len() as u64, last])
+        }
+    }
+}
+
+// ---- messages
+
+const ID: u8 = 7;
+
+fn put(message: &mut Vec<u8>, kind: u8, content: &[u8]) {
+    message.push(kind);
+    message.extend_from_slice(&(content.len() as u16).to_be_bytes());
+    message.extend_from_slice(content);
+}
+
+fn begin(plane: u8) -> Vec<u8> {
+    let mut message = vec![16 + 8 * plane];
+    put(&mut message, 1, &[ID]);
+    message
+}
+
+fn with_word(channel: u8, word: u32) -> Vec<u8> {
+    let mut content = vec![channel];
+    content.extend_from_slice(&word.to_be_bytes());
+    content
+}
+
+fn radio_control(channels: usize) -> Vec<u8> {
+    let mut message = begin(CONTROL);
+    put(&mut message, 3, &[1, 2, 3, 4]);
+    put(&mut message, 4, b"link");
+    for channel in 0..channels {
+        put(&mut message, 5, &[channel as u8, 0xf0 | (channel % 16) as u8]);
+    }
+    for channel in 0..channels {
+        if channel % 16 == 15 {
+            put(&mut message, 6, &[channel as u8]);
+        } else {
+            put(&mut message, 6, &with_word(channel as u8, 4_294_967_000 + channel as u32));
+        }
+    }
+    message
+}
+
+fn ips_control(channels: usize) -> Vec<u8> {
+    let mut message = begin(CONTROL);
+    for channel in 0..channels {
+        put(&mut message, 134, &with_word(channel as u8, 1_000_000 * channel as u32));
+    }
+    message
+}
+
+// A packet's bytes, so many that the message is of a given size.
+fn with_packet(mut message: Vec<u8>, size: usize) -> Vec<u8> {
+    let length = size - message.len() - 3;
+    let mut packet = vec![0u8; length];
+    for (place, byte) in packet.iter_mut().enumerate() {
+        *byte = (place * 7 + 96) as u8;
+    }
+    put(&mut message, 128, &packet);
+    message
+}
+
+fn ips_data(size: usize) -> Vec<u8> {
+    let mut message = begin(DATA);
+    put(&mut message, 134, &with_word(2, 1_300_000));
+    put(&mut message, 129, &[2]);
+    with_packet(message, size)
+}
+
+fn ips_data_expiring(size: usize) -> Vec<u8> {
+    let mut message = begin(DATA);
+    put(&mut message, 129, &[2]);
+    put(&mut message, 130, &30_000u32.to_be_bytes());
+    with_packet(message, size)
+}
+
+fn radio_data(size: usize) -> Vec<u8> {
+    let mut message = begin(DATA);
+    put(&mut message, 129, &[2]);
+    with_packet(message, size)
+}
+
+#[derive(Clone, Copy)]
+enum Call {
+    Plane,
+    Control,
+    Data,
+    Packet,
+}
+
+struct Case {
+    name: &'static str,
+    call: Call,
+    end: End,
+    bytes: Vec<u8>,
+    answer: Option<(u8, usize)>,
+}
+
+fn accepted(name: &'static str, call: Call, end: End, bytes: Vec<u8>) -> Case {
+    Case { name, call, end, bytes, answer: None }
+}
+
+fn refused(name: &'static str, call: Call, end: End, bytes: Vec<u8>, number: u8, place: usize) -> Case {
+    Case { name, call, end, bytes, answer: Some((number, place)) }
+}
+
+fn other_version(mut message: Vec<u8>) -> Vec<u8> {
+    message[0] += 16;
+    message
+}
+
+// The first byte of the option of a type that stands in the middle among those of its type.
+fn middle(message: &[u8], kind: u8) -> usize {
+    let mut places = Vec::new();
+    let mut at = 1;
+    while at < message.len() {
+        if message[at] == kind {
+            places.push(at);
+        }
+        at += 3 + u16::from_be_bytes([message[at + 1], message[at + 2]]) as usize;
+    }
+    places[places.len() / 2]
+}
+
+// That option names the reserved channel.
+fn reserved(mut message: Vec<u8>, kind: u8) -> (Vec<u8>, usize) {
+    let place = middle(&message, kind);
+    message[place + 3] = 255;
+    (message, place)
+}
+
+// Without the Channel Status of channel 0.
+fn without_primary(channels: usize) -> (Vec<u8>, usize) {
+    let mut message = begin(CONTROL);
+    for channel in 1..channels {
+        put(&mut message, 5, &[channel as u8, 7]);
+    }
+    let size = message.len();
+    (message, size)
+}
+
+fn without_packet() -> (Vec<u8>, usize) {
+    let mut message = begin(DATA);
+    put(&mut message, 134, &with_word(2, 1_300_000));
+    put(&mut message, 129, &[2]);
+    let size = message.len();
+    (message, size)
+}
+
+fn cases() -> Vec<Case> {
+    let (half, half_at) = reserved(radio_control(16), 5);
+    let (far, far_at) = reserved(radio_control(255), 6);
+    let (primary, primary_at) = without_primary(16);
+    let (empty, empty_at) = without_packet();
+    let (wrong, wrong_at) = reserved(ips_data(1320), 129);
+    vec![
+        accepted("data, IPS, 60 bytes", Call::Data, End::Ips, ips_data(60)),
+        accepted("data, IPS, 60 bytes, packet handed back", Call::Packet, End::Ips, ips_data(60)),
+        accepted("data, IPS, 1320 bytes", Call::Data, End::Ips, ips_data(1320)),
+        accepted("data, IPS, 1320 bytes, packet handed back", Call::Packet, End::Ips, ips_data(1320)),
+        accepted("data, IPS, 1320 bytes, expiration", Call::Packet, End::Ips, ips_data_expiring(1320)),
+        accepted("data, radio, 60 bytes", Call::Data, End::Radio, radio_data(60)),
+        accepted("data, radio, 60 bytes, packet handed back", Call::Packet, End::Radio, radio_data(60)),
+        accepted("data, radio, 1320 bytes", Call::Data, End::Radio, radio_data(1320)),
+        accepted("data, radio, 1320 bytes, packet handed back", Call::Packet, End::Radio, radio_data(1320)),
+        accepted("control, radio, 1 channel", Call::Control, End::Radio, radio_control(1)),
+        accepted("control, radio, 16 channels", Call::Control, End::Radio, radio_control(16)),
+        accepted("control, radio, 255 channels", Call::Control, End::Radio, radio_control(255)),
+        accepted("control, IPS, 1 channel", Call::Control, End::Ips, ips_control(1)),
+        accepted("control, IPS, 16 channels", Call::Control, End::Ips, ips_control(16)),
+        accepted("control, IPS, 255 channels", Call::Control, End::Ips, ips_control(255)),
+        refused("header alone, refused", Call::Plane, End::Radio, other_version(radio_control(16)), 2, 0),
+        refused("control, refused by its header", Call::Control, End::Radio, other_version(radio_control(16)), 2, 0),
+        refused("control of 16 channels, refused in the middle", Call::Control, End::Radio, half, 5, half_at),
+        refused("control of 255 channels, refused in the middle", Call::Control, End::Radio, far, 5, far_at),
+        refused("control, no status of channel 0", Call::Control, End::Radio, primary, 9, primary_at),
+        refused("data, refused by its header", Call::Packet, End::Ips, other_version(ips_data(1320)), 2, 0),
+        refused("data, refused in the middle", Call::Packet, End::Ips, wrong, 5, wrong_at),
+        refused("data, no packet", Call::Packet, End::Ips, empty, 9, empty_at),
+    ]
+}
+
+// ---- agreement
+
+const ENDS: [End; 2] = [End::Ips, End::Radio];
+
+struct Tally {
+    control: usize,
+    data: usize,
+    other: usize,
+    numbers: [usize; 12],
+}
+
+fn count(tally: &mut Tally, datagram: &[u8], end: End, id: u8) {
+    match read_control(datagram, end, id) {
+        Ok(_) => tally.control += 1,
+        Err(Refused(number, _)) => tally.numbers[number as usize] += 1,
+        Err(OtherPlane) => match read_data(datagram, end, id) {
+            Ok(_) => tally.data += 1,
+            Err(Refused(number, _)) => tally.numbers[number as usize] += 1,
+            Err(OtherPlane) => tally.other += 1,
+        },
+    }
+}
+
+fn differ(what: &str, datagram: &[u8], end: End, id: u8, proved: u64, plain: u64) {
+    if proved == plain {
+        return;
+    }
+    let end = if end == End::Radio { "radio" } else { "ips" };
+    let bytes: String = datagram.iter().take(4096).map(|byte| format!("{byte:02x}")).collect();
+    println!("the readers differ: {what}, {end}, configured {id}, proved {proved:x}, plain {plain:x}, {} bytes: {bytes}", datagram.len());
+    std::process::exit(1);
+}
+
+// Both readers, both ends. Of an accepted control message every channel is looked at; of any other the answer is the same for all.
+fn agree(tally: &mut Tally, datagram: &[u8], id: u8) {
+    differ("plane", datagram, End::Ips, id, proved_plane(datagram), plain_plane(datagram));
+    for end in ENDS {
+        count(tally, datagram, end, id);
+        let last = if read_control(datagram, end, id).is_ok() { 255 } else { 0 };
+        for channel in 0..=last {
+            differ("control", datagram, end, id, proved_control(datagram, end, id, channel), plain_control(datagram, end, id, channel));
+        }
+        differ("data", datagram, end, id, proved_data(datagram, end, id), plain_data(datagram, end, id));
+        differ("packet", datagram, end, id, proved_packet(datagram, end, id), plain_packet(datagram, end, id));
+    }
+}
+
+// xorshift64: the same variants in every run.
+struct Dice(u64);
+
+impl Dice {
+    fn roll(&mut self, below: usize) -> usize {
+        self.0 ^= self.0 << 13;
+        self.0 ^= self.0 >> 7;
+        self.0 ^= self.0 << 17;
+        (self.0 % below as u64) as usize
+    }
+}
+
+const BYTES: [u8; 16] = [0, 1, 2, 3, 4, 5, 6, 7, 8, 127, 128, 129, 130, 134, 254, 255];
+
+// An option from the middle of a message, moved or doubled elsewhere, a byte changed, added or lost, the end cut, or a long tail.
+fn damage(dice: &mut Dice, message: &mut Vec<u8>) {
+    let n = message.len();
+    match dice.roll(8) {
+        0 if n > 0 => {
+            let at = dice.roll(n);
+            message[at] = BYTES[dice.roll(16)];
+        }
+        1 if n > 0 => {
+            let at = dice.roll(n.min(24));
+            message[at] ^= 1 << dice.roll(8);
+        }
+        2 if n > 0 => {
+            message.remove(dice.roll(n));
+        }
+        3 => message.insert(dice.roll(n + 1), BYTES[dice.roll(16)]),
+        4 => message.truncate(dice.roll(n + 1)),
+        5 => {
+            let kind = BYTES[dice.roll(16)];
+            let length = [0, 1, 1, 2, 4, 5, 5, 8, 9][dice.roll(9)];
+            let content: Vec<u8> = (0..length).map(|_| BYTES[dice.roll(16)]).collect();
+            let mut added = Vec::new();
+            put(&mut added, kind, &content);
+            let at = starts(message);
+            let place = if at.is_empty() { n } else { at[dice.roll(at.len())] };
+            message.splice(place..place, added);
+        }
+        6 => {
+            let at = starts(message);
+            if at.len() > 2 {
+                let (from, to) = (dice.roll(at.len() - 1), dice.roll(at.len()));
+                let copy = message[at[from]..at[from + 1]].to_vec();
+                if dice.roll(2) == 0 {
+                    message.drain(at[from]..at[from + 1]);
+                }
+                let place = at[to].min(message.len());
+                message.splice(place..place, copy);
+            }
+        }
+        _ => {
+            if dice.roll(64) == 0 {
+                let size = LONGEST - 2 + dice.roll(5);
+                let unknown = size.saturating_sub(n + 3).min(65535);
+                put(message, 200, &vec![0; unknown]);
+            }
+        }
+    }
+}
+
+// Where whole options start, and the end behind the last.
+fn starts(message: &[u8]) -> Vec<usize> {
+    let mut places = Vec::new();
+    let mut at = 1;
+    while at + 3 <= message.len() {
+        places.push(at);
+        at += 3 + u16::from_be_bytes([message[at + 1], message[at + 2]]) as usize;
+    }
+    if at == message.len() {
+        places.push(at);
+    }
+    places
+}
+
+const VARIANTS: usize = 200_000;
+
+fn check(cases: &[Case]) {
+    let mut tally = Tally { control: 0, data: 0, other: 0, numbers: [0; 12] };
+    for case in cases {
+        let answer = match case.call {
+            Call::Plane => header(&case.bytes, CONTROL).err(),
+            Call::Control => read_control(&case.bytes, case.end, ID).err(),
+            Call::Data | Call::Packet => read_data(&case.bytes, case.end, ID).err(),
+        };
+        let found = match answer {
+            None => None,
+            Some(Refused(number, place)) => Some((number, place)),
+            Some(OtherPlane) => panic!("{}: of the other plane", case.name),
+        };
+        assert_eq!(found, case.answer, "{}", case.name);
+        agree(&mut tally, &case.bytes, ID);
+    }
+    let mut dice = Dice(88_172_645_463_325_252);
+    for _ in 0..VARIANTS {
+        let case = &cases[dice.roll(cases.len())];
+        let mut message = case.bytes.clone();
+        for _ in 0..=dice.roll(3) {
+            damage(&mut dice, &mut message);
+        }
+        let id = if dice.roll(16) == 0 { 8 } else { ID };
+        agree(&mut tally, &message, id);
+    }
+    println!("the readers agree on {} messages and {VARIANTS} damaged variants, each read for both ends and both planes:", cases.len());
+    println!("  control accepted {}, data accepted {}, refused by number: {:?}", tally.control, tally.data, &tally.numbers[1..]);
+    assert_eq!(tally.other, 0);
+    assert!(tally.control > 0 && tally.data > 0 && tally.numbers[1..].iter().all(|n| *n > 0));
+}
+
+// ---- timing
+
+const ROUNDS: usize = 101;
+const ROUND_SECONDS: f64 = 0.002;
+
+#[repr(C)]
+struct Time {
+    seconds: i64,
+    nanoseconds: i64,
+}
+
+extern "C" {
+    fn clock_gettime(clock: i32, time: *mut Time) -> i32;
+}
+
+const PROCESS_TIME: i32 = 2;
+
+// The time that this process had a core, so that others on the machine count less. Linux on 64 bits.
+fn process_seconds() -> f64 {
+    let mut time = Time { seconds: 0, nanoseconds: 0 };
+    assert_eq!(unsafe { clock_gettime(PROCESS_TIME, &mut time) }, 0);
+    time.seconds as f64 + time.nanoseconds as f64 / 1e9
+}
+
+fn seconds(turns: usize, call: &dyn Fn() -> u64) -> f64 {
+    let begin = process_seconds();
+    for _ in 0..turns {
+        black_box(call());
+    }
+    process_seconds() - begin
+}
+
+fn median(mut times: Vec<f64>) -> f64 {
+    times.sort_by(f64::total_cmp);
+    times[times.len() / 2]
+}
+
+// The two take turns, so that both meet the same machine.
+fn timed(proved: &dyn Fn() -> u64, plain: &dyn Fn() -> u64) -> (f64, f64) {
+    let mut turns = 1;
+    while seconds(turns, plain) < ROUND_SECONDS {
+        turns *= 2;
+    }
+    let mut times = (Vec::new(), Vec::new());
+    for _ in 0..ROUNDS {
+        times.0.push(seconds(turns, proved) / turns as f64);
+        times.1.push(seconds(turns, plain) / turns as f64);
+    }
+    (median(times.0) * 1e9, median(times.1) * 1e9)
+}
+
+fn measure(case: &Case) -> (f64, f64) {
+    let bytes = &case.bytes[..];
+    let end = case.end;
+    // The channel is unknown to the compiler, so that no reader leaves a table out.
+    let channel = black_box(0);
+    match case.call {
+        Call::Plane => timed(&|| proved_plane(black_box(bytes)), &|| plain_plane(black_box(bytes))),
+        Call::Control => timed(&|| proved_control(black_box(bytes), end, ID, channel), &|| plain_control(black_box(bytes), end, ID, channel)),
+        Call::Data => timed(&|| proved_data(black_box(bytes), end, ID), &|| plain_data(black_box(bytes), end, ID)),
+        Call::Packet => timed(&|| proved_packet(black_box(bytes), end, ID), &|| plain_packet(black_box(bytes), end, ID)),
+    }
+}
+
+fn main() {
+    let cases = cases();
+    check(&cases);
+    println!();
+    println!("| message | bytes | proved, ns | plain Rust, ns | ratio |");
+    println!("|---|---|---|---|---|");
+    for case in &cases {
+        let (proved, plain) = measure(case);
+        println!("| {} | {} | {proved:.1} | {plain:.1} | {:.2} |", case.name, case.bytes.len(), proved / plain);
+    }
+}

@@ -1,0 +1,2 @@
+-- What the exports of the benchmark answer.
+pub mod Digests

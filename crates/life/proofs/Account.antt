@@ -1,0 +1,37 @@
+-- The account of the code's own channel after any calls. Assumes nothing.
+use Prim.Native.Nat.{_^_, _<_}
+use mathlib.Core.List.{List, _++_}
+use mathlib.Core.Path.{sym}
+use Rattle.quantity.specs.declared.count.FlowSequence.{FlowSequence}
+use Rattle.life.specs.Life.{Event, Setting, answers, final}
+use Rattle.life.specs.Machine.{machine, freshMachine}
+use Rattle.life.specs.Simple.{simple, freshSimple}
+use Rattle.life.specs.Account.{takenIn, handedOver, Account, Later}
+use Rattle.life.proofs.Agree.{same-answers, same-end}
+use Rattle.life.proofs.Ledger.{ledger-is-taken, ledger-is-sent, fair-always}
+use Rattle.life.proofs.Fates.{fates-stay}
+use Rattle.life.proofs.Leaves.{final-append}
+
+module _ (k : Setting) (first : FlowSequence) (small : first .0 < 2 ^ 32) (es : List Event) where
+  -- "Every packet taken in is, at each moment, exactly one of sent, expired, withdrawn or waiting, and those sent on a channel leave in the order they came."
+  pub account : Account (takenIn es (answers machine k es (freshMachine (k .controlled) first)))
+      (handedOver (answers machine k es (freshMachine (k .controlled) first)))
+      (final machine k es (freshMachine (k .controlled) first) .book)
+      (final machine k es (freshMachine (k .controlled) first) .latest)
+  account =
+      let start = freshSimple (k .controlled) first in
+      let said = same-answers k first small es in
+      let where-it-ends = same-end k first small es in
+      record {
+        ledger = final simple k es start .book;
+        of-taken = rw said (ledger-is-taken k es start);
+        of-sent = rw said (ledger-is-sent k es start tt);
+        of-waiting = sym (where-it-ends .waiting);
+        of-time = rw (where-it-ends .latest) (fair-always k es start tt);
+      }
+
+-- a packet that has its fate keeps it, and none leaves the ledger, whatever is called next
+pub account-later : (k : Setting) (first : FlowSequence) (small : first .0 < 2 ^ 32) (es fs : List Event)
+    → Later (account k first small es .ledger) (account k first small (es ++ fs) .ledger)
+unfolding account
+account-later k first small es fs = rw (final-append simple k es fs (freshSimple (k .controlled) first)) (fates-stay k fs _)

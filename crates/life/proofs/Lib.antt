@@ -1,0 +1,10 @@
+-- The simple channel, and that every channel equals it.
+pub mod Exact
+pub mod Alike
+pub mod Entries
+pub mod Agree
+pub mod Leaves
+pub mod Ledger
+pub mod Fates
+pub mod Account
+pub mod Within

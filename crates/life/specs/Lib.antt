@@ -1,0 +1,5 @@
+pub mod Life
+pub mod Machine
+pub mod Simple
+pub mod Agreement
+pub mod Account

@@ -1,0 +1,4 @@
+pub mod Table
+pub mod Limits
+pub mod Memory
+pub mod Within
