@@ -2,7 +2,7 @@
 ghost use mathlib.Core.Path.{_≡_};
 ghost use Prim.Native.Nat.{_<_};
 ghost use Rattle.quantity.specs.Limits.{MOST-CHANNELS};
-ghost use Rattle.table.specs.Table.{blankChannel, freshOf, freshChannels, freshState, blankState, withChannel};
+ghost use Rattle.table.specs.Table.{blankChannel, freshOf, freshChannels, freshState, blankState, channelAt, withChannel};
 use channel::state;
 use channel::state::Channel;
 use meaning::message::Context;
@@ -92,6 +92,14 @@ pub fn blank() -> State
         instance: Instance::Absent,
         context: Context::Absent,
     }
+}
+
+// The channel at an index.
+pub fn channel_at(state: State, index: usize) -> Channel
+    requires { ⌜ index < MOST-CHANNELS ⌝ }
+    ensures { λ r. ⌜ r ≡ channelAt state index ⌝ }
+{
+    state.channels[index]
 }
 
 // The state with one channel replaced.

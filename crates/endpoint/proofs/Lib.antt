@@ -1,0 +1,7 @@
+-- The laws that the proofs of this crate share, and its promises.
+pub mod Finding
+pub mod Calling
+pub mod Starting
+pub mod Hearing
+pub mod Querying
+pub mod Refused

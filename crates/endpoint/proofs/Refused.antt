@@ -1,0 +1,142 @@
+-- Promise: a refusal "gives its number and a place, changes no state and no lent byte". Assumes nothing.
+use Prim.Native.Nat.{ℕ}
+use mathlib.Core.Bool.{Bool, true, false, cond, _&&_}
+use mathlib.Core.List.{List}
+use mathlib.Core.Path.{_≡_, refl, sym, _∙_}
+use lib.ListN.{length}
+use Rattle.quantity.specs.declared.refusal.Refusal.{Refusal}
+use Rattle.quantity.specs.declared.count.DatalinkId.{DatalinkId}
+use Rattle.quantity.specs.Refusals.{NO-CHANNEL, CONFIGURATION}
+use Rattle.meaning.specs.Kinds.{among}
+use Rattle.meaning.specs.declared.message.End.the-variants as ends
+use Rattle.meaning.proofs.Amongst.{clash}
+use Rattle.reader.specs.declared.answer.Verdict.{Verdict}
+use Rattle.reader.specs.declared.answer.PlaneAnswer.{PlaneAnswer}
+use Rattle.reader.specs.Readings.{readControl, readData, planeOf}
+use Rattle.store.specs.Packets.{Packet}
+use Rattle.life.specs.Machine.{machine}
+use Rattle.life.specs.Life.{Result, Answer, refused, taken, nothingWaiting, notOperational, windowShut, done, sent}
+use Rattle.channel.specs.declared.state.Channel.{Channel}
+use Rattle.calls.specs.declared.offering.OfferAnswer.{OfferAnswer}
+use Rattle.calls.specs.declared.asking.NextAnswer.{NextAnswer}
+use Rattle.calls.specs.Calls.{channelAfter, storeAfter, offerAnswer, nextAnswer, outAfter, withdrawResult}
+use Rattle.table.specs.declared.state.State.{State}
+use Rattle.table.specs.Table.{configured, channelAt}
+use Rattle.table.specs.Limits.{ids, stateFits}
+use Rattle.table.specs.Memory.{memoryFits}
+use Rattle.table.proofs.Places.{with-back, store-back}
+use Rattle.run.specs.Calling.{atChannel, placeIn, calling, offering, asking}
+use Rattle.hearing.specs.Heard.{dueOf}
+use Rattle.answer.specs.declared.WithdrawAnswer.{WithdrawAnswer}
+use Rattle.answer.specs.declared.RadioAnswer.{RadioAnswer}
+use Rattle.endpoint.specs.declared.call.Offered.{Offered}
+use Rattle.endpoint.specs.declared.call.Asked.{Asked}
+use Rattle.endpoint.specs.declared.call.Emptied.{Emptied}
+use Rattle.endpoint.specs.declared.radio.Heard.{Heard}
+use Rattle.endpoint.specs.Calls.{Offers, Asks, Withdraws, withdrawAnswer}
+use Rattle.endpoint.specs.Radio.{byVerdict, heardControl, unchanged, handedIn}
+
+pub record Same (s s′ : State) (memory memory′ : List ℕ) : Type 0 where
+  pub state-same : s′ ≡ s
+  pub memory-same : memory′ ≡ memory
+
+-- ---- any call that the rules refuse
+module _ (call : Channel → List ℕ → Result machine) (s : State) (memory : List ℕ) (number : ℕ) where
+  at-refused : (index : ℕ) → atChannel call s memory index .answer ≡ refused number
+      → Same s (atChannel call s memory index .state) memory (atChannel call s memory index .memory)
+  unfolding channelAfter storeAfter
+  at-refused index e = record { state-same = rw e (with-back s index); memory-same = rw e (store-back s index memory) }
+
+  pub refused-same : (id : ℕ) → calling call s memory id .answer ≡ refused number → Same s (calling call s memory id .state) memory (calling call s memory id .memory)
+  unfolding calling
+  refused-same id e = go (stateFits s && memoryFits s memory) refl (among id (ids (configured s))) refl
+    where
+      go : (fits : Bool) → (stateFits s && memoryFits s memory) ≡ fits → (there : Bool) → among id (ids (configured s)) ≡ there
+          → Same s (calling call s memory id .state) memory (calling call s memory id .memory)
+      go false f there t = record { state-same = rw f; memory-same = rw f }
+      go true f false t = record { state-same = rw (f, t); memory-same = rw (f, t) }
+      go true f true t = rw (f, t) (at-refused (placeIn s id) (rw (f, t) at e))
+
+-- ---- the code's answers: only a refusal of the rules is told as one
+offer-told : (a : Answer) (refusal : Refusal) → offerAnswer a ≡ OfferAnswer.Refused refusal → a ≡ refused (refusal .number)
+offer-told (refused number) refusal e = let n : number ≡ refusal .number = cc in rw n
+offer-told (sent packet sequence) refusal e = clash (cc)
+offer-told taken refusal e = clash (cc)
+offer-told nothingWaiting refusal e = clash (cc)
+offer-told notOperational refusal e = clash (cc)
+offer-told windowShut refusal e = clash (cc)
+offer-told done refusal e = clash (cc)
+
+next-told : (datalink : DatalinkId) (id : ℕ) (a : Answer) (refusal : Refusal) → nextAnswer datalink id a ≡ NextAnswer.Refused refusal → a ≡ refused (refusal .number)
+next-told datalink id (refused number) refusal e = let n : number ≡ refusal .number = cc in rw n
+next-told datalink id (sent packet sequence) refusal e = clash (cc)
+next-told datalink id taken refusal e = clash (cc)
+next-told datalink id nothingWaiting refusal e = clash (cc)
+next-told datalink id notOperational refusal e = clash (cc)
+next-told datalink id windowShut refusal e = clash (cc)
+next-told datalink id done refusal e = clash (cc)
+
+withdraw-told : (a : Answer) (refusal : Refusal) → withdrawAnswer a ≡ WithdrawAnswer.Refused refusal → a ≡ refused (refusal .number)
+withdraw-told (refused number) refusal e = let n : number ≡ refusal .number = cc in rw n
+withdraw-told (sent packet sequence) refusal e = clash (cc)
+withdraw-told taken refusal e = clash (cc)
+withdraw-told nothingWaiting refusal e = clash (cc)
+withdraw-told notOperational refusal e = clash (cc)
+withdraw-told windowShut refusal e = clash (cc)
+withdraw-told done refusal e = clash (cc)
+
+module _ (s : State) (memory : List ℕ) (id : ℕ) (refusal : Refusal) where
+  pub offer-refused-same : (p : Packet) (time : ℕ) (r : Offered) (memory′ : List ℕ) → Offers s memory id p time r memory′ → r .answer ≡ OfferAnswer.Refused refusal → Same s (r .state) memory memory′
+  offer-refused-same p time r memory′ h e =
+      let same = refused-same (offering p time) s memory (refusal .number) id (offer-told _ refusal (sym (h .answer-is) ∙ e)) in
+      record { state-same = h .state-is ∙ same .state-same; memory-same = h .memory-is ∙ same .memory-same }
+
+  pub next-refused-same : (time : ℕ) (out : List ℕ) (r : Asked) (memory′ out′ : List ℕ) → Asks s memory id time out r memory′ out′ → r .answer ≡ NextAnswer.Refused refusal
+      → Same s (r .state) memory memory′ × (out′ ≡ out)
+  next-refused-same time out r memory′ out′ h e =
+      let told = next-told (s .datalink) id _ refusal (sym (h .answer-is) ∙ e) in
+      let same = refused-same (asking (s .datalink) time (length out)) s memory (refusal .number) id told in
+      (record { state-same = h .state-is ∙ same .state-same; memory-same = h .memory-is ∙ same .memory-same }, h .out-is ∙ rw told)
+
+  pub withdraw-refused-same : (r : Emptied) (memory′ : List ℕ) → Withdraws s memory id r memory′ → r .answer ≡ WithdrawAnswer.Refused refusal → Same s (r .state) memory memory′
+  withdraw-refused-same r memory′ h e =
+      let same = refused-same withdrawResult s memory (refusal .number) id (withdraw-told _ refusal (sym (h .answer-is) ∙ e)) in
+      record { state-same = h .state-is ∙ same .state-same; memory-same = h .memory-is ∙ same .memory-same }
+
+-- ---- a radio message; "an accepted radio data message changes nothing"
+module _ (s : State) where
+  data-same : (verdict : Verdict) → byVerdict verdict s (unchanged s) .state ≡ s
+  data-same Verdict.Accepted = refl
+  data-same Verdict.OtherPlane = refl
+  data-same (Verdict.Refused refusal) = refl
+
+  control-same : (verdict : Verdict) (accepted : Heard) (refusal : Refusal) → (accepted .answer ≡ RadioAnswer.Refused refusal → ⊥)
+      → byVerdict verdict s accepted .answer ≡ RadioAnswer.Refused refusal → byVerdict verdict s accepted .state ≡ s
+  control-same Verdict.Accepted accepted refusal other e = absurd (other e)
+  control-same Verdict.OtherPlane accepted refusal other e = refl
+  control-same (Verdict.Refused why) accepted refusal other e = refl
+
+  not-refused : (due : Bool) (refusal : Refusal) → cond due RadioAnswer.Due RadioAnswer.Accepted ≡ RadioAnswer.Refused refusal → ⊥
+  not-refused true refusal e = clash (cc)
+  not-refused false refusal e = clash (cc)
+
+  module _ (datagram : List ℕ) where
+    pub radio-data-same : planeOf datagram ≡ PlaneAnswer.Data → handedIn s datagram .state ≡ s
+    unfolding handedIn
+    radio-data-same p = go (stateFits s) refl
+      where
+        go : (fits : Bool) → stateFits s ≡ fits → handedIn s datagram .state ≡ s
+        go true f = rw (f, p) (data-same (readData ends.Radio (s .datalink) datagram .verdict))
+        go false f = rw f
+
+    pub radio-refused-same : (refusal : Refusal) → handedIn s datagram .answer ≡ RadioAnswer.Refused refusal → handedIn s datagram .state ≡ s
+    unfolding handedIn
+    radio-refused-same refusal e = go (stateFits s) refl (planeOf datagram) refl
+      where
+        go : (fits : Bool) → stateFits s ≡ fits → (plane : PlaneAnswer) → planeOf datagram ≡ plane → handedIn s datagram .state ≡ s
+        go false f plane p = rw f
+        go true f PlaneAnswer.Control p =
+            let reading = readControl ends.Radio (s .datalink) datagram in
+            rw (f, p) (control-same (reading .verdict) (heardControl (reading .message) s) refusal (not-refused (dueOf (s .context) (reading .message .context)) refusal) (rw (f, p) at e))
+        go true f PlaneAnswer.Data p = radio-data-same p
+        go true f (PlaneAnswer.Refused why) p = rw (f, p)

@@ -1,0 +1,16 @@
+-- Document 01, "A channel's life": "Query: the IPS control message with a Flow Sequence for each flow-controlled channel; changes nothing. Refusals 19, then 18."
+use Prim.Native.Nat.{ℕ}
+use mathlib.Core.Bool.{true, cond}
+use mathlib.Core.List.{List}
+use mathlib.Core.Path.{_≡_}
+use lib.ListN.{length}
+use Rattle.quantity.specs.Refusals.{CONFIGURATION}
+use Rattle.writer.specs.declared.answer.WriteAnswer.{WriteAnswer}
+use Rattle.writer.specs.Written.{controlWritten, answerTo, outAfter}
+use Rattle.table.specs.declared.state.State.{State}
+use Rattle.table.specs.Limits.{stateFits}
+use Rattle.query.specs.Query.{queryOf}
+
+pub record Queries (s : State) (out : List ℕ) (r : WriteAnswer) (out′ : List ℕ) : Type 0 where
+  pub answer-is : r ≡ cond (stateFits s) (answerTo true (controlWritten (queryOf s)) (length out)) (WriteAnswer.Refused (record { number = CONFIGURATION; place = 0 }))
+  pub out-is : out′ ≡ cond (stateFits s) (outAfter true (controlWritten (queryOf s)) out) out

@@ -1,0 +1,51 @@
+-- Document 01: "A radio message handed in: as for reading", 19 first. "An accepted radio data message changes nothing."
+use Prim.Native.Nat.{ℕ}
+use mathlib.Core.Bool.{cond}
+use mathlib.Core.List.{List}
+use Rattle.quantity.specs.declared.refusal.Refusal.{Refusal}
+use Rattle.quantity.specs.Refusals.{CONFIGURATION}
+use Rattle.meaning.specs.declared.message.End.the-variants as ends
+use Rattle.meaning.specs.declared.message.Control.{Control}
+use Rattle.reader.specs.declared.answer.Verdict.{Verdict}
+use Rattle.reader.specs.declared.answer.ControlReading.{ControlReading}
+use Rattle.reader.specs.declared.answer.DataReading.{DataReading}
+use Rattle.reader.specs.declared.answer.PlaneAnswer.{PlaneAnswer}
+use Rattle.reader.specs.Readings.{readControl, readData, planeOf}
+use Rattle.table.specs.declared.state.State.{State}
+use Rattle.table.specs.Limits.{stateFits}
+use Rattle.hearing.specs.Heard.{heardBy, dueOf}
+use Rattle.answer.specs.declared.RadioAnswer.{RadioAnswer}
+use Rattle.endpoint.specs.declared.radio.Heard.{Heard}
+
+abbrev pub refusedHeard : Refusal → State → Heard
+refusedHeard refusal s = record { answer = RadioAnswer.Refused refusal; state = s }
+
+abbrev pub unchanged : State → Heard
+unchanged s = record { answer = RadioAnswer.Accepted; state = s }
+
+-- "A mobility message is reported due when .."
+abbrev pub heardControl : Control → State → Heard
+heardControl message s = record { answer = cond (dueOf (s .context) (message .context)) RadioAnswer.Due RadioAnswer.Accepted; state = heardBy message s }
+
+-- by the reader's verdict; it is asked for a message of its own plane only
+abbrev pub byVerdict : Verdict → State → Heard → Heard
+byVerdict Verdict.Accepted s accepted = accepted
+byVerdict Verdict.OtherPlane s accepted = unchanged s
+byVerdict (Verdict.Refused refusal) s accepted = refusedHeard refusal s
+
+abbrev pub controlHeard : ControlReading → State → Heard
+controlHeard reading s = byVerdict (reading .verdict) s (heardControl (reading .message) s)
+
+abbrev pub dataHeard : DataReading → State → Heard
+dataHeard reading s = byVerdict (reading .verdict) s (unchanged s)
+
+abbrev pub byPlane : PlaneAnswer → State → (control data′ : Heard) → Heard
+byPlane PlaneAnswer.Control s control data′ = control
+byPlane PlaneAnswer.Data s control data′ = data′
+byPlane (PlaneAnswer.Refused refusal) s control data′ = refusedHeard refusal s
+
+unfoldable pub handedIn : State → List ℕ → Heard
+handedIn s datagram =
+    cond (stateFits s)
+    (byPlane (planeOf datagram) s (controlHeard (readControl ends.Radio (s .datalink) datagram) s) (dataHeard (readData ends.Radio (s .datalink) datagram) s))
+    (refusedHeard (record { number = CONFIGURATION; place = 0 }) s)

@@ -1,0 +1,108 @@
+// A radio message handed in.
+ghost use mathlib.Core.Path.{_≡_};
+ghost use mathlib.Core.Bool.{true};
+ghost use Rattle.table.specs.Limits.{stateFits};
+ghost use Rattle.endpoint.specs.Radio.{refusedHeard, unchanged, heardControl, controlHeard, dataHeard, handedIn};
+use answer::RadioAnswer;
+use meaning::message::Control;
+use meaning::message::End;
+use quantity::refusal;
+use quantity::refusal::Refusal;
+use reader::answer::ControlReading;
+use reader::answer::DataReading;
+use reader::answer::PlaneAnswer;
+use reader::answer::Verdict;
+use reader::header;
+use table::state::State;
+use table::survey;
+
+pub struct Heard {
+    pub answer: RadioAnswer,
+    pub state: State,
+}
+
+fn refused(state: State, refusal: Refusal) -> Heard
+    ensures { λ r. ⌜ r ≡ refusedHeard refusal state ⌝ }
+{
+    Heard {
+        answer: RadioAnswer::Refused(refusal),
+        state,
+    }
+}
+
+// An accepted radio data message changes nothing.
+fn passed(state: State) -> Heard
+    ensures { λ r. ⌜ r ≡ unchanged state ⌝ }
+{
+    Heard {
+        answer: RadioAnswer::Accepted,
+        state,
+    }
+}
+
+fn accepted(state: State, message: Control) -> Heard
+    requires { ⌜ stateFits state ≡ true ⌝ }
+    ensures { λ r. ⌜ r ≡ heardControl message state ⌝ }
+{
+    let last = state.context;
+    let given = message.context;
+    let after = hearing::hear(state, message);
+    if hearing::is_due(last, given) {
+        return Heard {
+            answer: RadioAnswer::Due,
+            state: after,
+        };
+    }
+    Heard {
+        answer: RadioAnswer::Accepted,
+        state: after,
+    }
+}
+
+fn control(state: State, reading: ControlReading) -> Heard
+    requires { ⌜ stateFits state ≡ true ⌝ }
+    ensures { λ r. ⌜ r ≡ controlHeard reading state ⌝ }
+{
+    let verdict = reading.verdict;
+    match verdict {
+        Verdict::Accepted => accepted(state, reading.message),
+        // The plane is known before a reader is asked.
+        Verdict::OtherPlane => passed(state),
+        Verdict::Refused(refusal) => refused(state, refusal),
+    }
+}
+
+fn data(state: State, reading: DataReading) -> Heard
+    ensures { λ r. ⌜ r ≡ dataHeard reading state ⌝ }
+{
+    let verdict = reading.verdict;
+    match verdict {
+        Verdict::Accepted => passed(state),
+        Verdict::OtherPlane => passed(state),
+        Verdict::Refused(refusal) => refused(state, refusal),
+    }
+}
+
+// 19, then as for reading.
+pub fn hand_in(state: State, datagram: &[u8]) -> Heard
+    ensures { λ r. ⌜ r ≡ handedIn state (now (datagram .entry)) ⌝ }
+{
+    let survey = survey::look(state, 0);
+    if !survey.fits {
+        return refused(
+            state,
+            Refusal {
+                number: refusal::CONFIGURATION,
+                place: 0,
+            },
+        );
+    }
+    let datalink = state.datalink;
+    match header::plane(datagram) {
+        PlaneAnswer::Control => {
+            control(state, reader::control::read(datagram, End::Radio, datalink))
+        }
+        PlaneAnswer::Data => data(state, reader::data::read(datagram, End::Radio, datalink)),
+        PlaneAnswer::Refused(refusal) => refused(state, refusal),
+    }
+}

@@ -1,0 +1,8 @@
+-- Any sequence of calls.
+pub mod Exact
+pub mod Serving
+pub mod Hearing
+pub mod Project
+pub mod Fresh
+pub mod Whole
+pub mod Example

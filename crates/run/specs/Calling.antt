@@ -1,0 +1,50 @@
+-- One call on one channel of the endpoint. "Calls on a state test 19 first. Then, offering a packet: 12, 13, 14, 15, 16, 17. Asking for the next: 12, 15, 18.
+-- Withdrawing: 12." From 13 on the channel judges.
+use Prim.Native.Nat.{ℕ}
+use mathlib.Core.Bool.{cond, not, _&&_}
+use mathlib.Core.List.{List}
+use Rattle.quantity.specs.declared.count.DatalinkId.{DatalinkId}
+use Rattle.quantity.specs.Refusals.{NO-CHANNEL, CONFIGURATION}
+use Rattle.meaning.specs.Kinds.{among}
+use Rattle.store.specs.Packets.{Packet}
+use Rattle.life.specs.Machine.{machine}
+use Rattle.life.specs.Life.{Result, Answer, refused}
+use Rattle.channel.specs.declared.state.Channel.{Channel}
+use Rattle.calls.specs.Calls.{channelAfter, storeAfter, offerResult, nextResult}
+use Rattle.table.specs.declared.state.State.{State}
+use Rattle.table.specs.Table.{configured, channelAt, withChannel}
+use Rattle.table.specs.Limits.{ids, indexOf, stateFits}
+use Rattle.table.specs.Memory.{memoryFits, storeAt, withStore}
+
+-- what a call comes to: the answer of the rules, the state and the memory that it leaves
+pub record Outcome : Type 0 where
+  pub answer : Answer
+  pub state : State
+  pub memory : List ℕ
+
+-- "changes no state and no lent byte"
+abbrev pub refusing : ℕ → State → List ℕ → Outcome
+refusing number s memory = record { answer = refused number; state = s; memory = memory }
+
+-- a call on the channel at an index, and on its store
+abbrev pub atChannel : (Channel → List ℕ → Result machine) → State → List ℕ → ℕ → Outcome
+atChannel call s memory index =
+    let c = channelAt s index in
+    let store = storeAt s index memory in
+    record { answer = call c store .answer; state = withChannel s index (channelAfter c (call c store)); memory = withStore s index memory (storeAfter c store (call c store)) }
+
+-- "Channels are found by ID, wherever they stand in the configuration."
+abbrev pub placeIn : State → ℕ → ℕ
+placeIn s id = indexOf id (ids (configured s))
+
+-- 19, 12, then the call
+unfoldable pub calling : (Channel → List ℕ → Result machine) → State → List ℕ → ℕ → Outcome
+calling call s memory id =
+    cond (not (stateFits s && memoryFits s memory)) (refusing CONFIGURATION s memory)
+    (cond (not (among id (ids (configured s)))) (refusing NO-CHANNEL s memory) (atChannel call s memory (placeIn s id)))
+
+abbrev pub offering : Packet → ℕ → Channel → List ℕ → Result machine
+offering p time c store = offerResult c store p time
+
+abbrev pub asking : DatalinkId → (time room : ℕ) → Channel → List ℕ → Result machine
+asking datalink time room c store = nextResult c store datalink time room
