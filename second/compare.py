@@ -1,6 +1,6 @@
 """compare.py: the proved programs against the second implementation.
 
-    compare.py stored                       make each stored output anew, and compare
+    compare.py stored                       make each stored output and each made file anew, and compare
     compare.py random PROGRAM SEED COUNT    one random script of COUNT lines, run by both; reports the first difference
 """
 
@@ -10,8 +10,10 @@ import sys
 
 SECOND = pathlib.Path(__file__).resolve().parent
 ROOT = SECOND.parent
-# For each proved program: the generator of its random input with its words, and the lines written before the first answer.
+# For each proved program: the generator of its random input with its words, and how many lines come before the answers.
 PROGRAMS = {"distance": (["distances.py"], 1), "session": (["scripts.py", "messages"], 0)}
+# The files that a command of the second implementation prints; `session` answers the lines about messages so far.
+MADE = {"crates/session/stdin": ["stored.py", "messages"], "docs/FLIGHT.md": ["flight_page.py"]}
 
 
 def run_second(program, text):
@@ -38,8 +40,14 @@ def first_difference(program, text, proved, second):
 
 
 def compare_stored():
-    """Each program's stored output is what the second implementation makes of the stored input."""
+    """Each program's stored output is what the second implementation makes of the stored input; made files likewise."""
     differing = 0
+    for path, command in MADE.items():
+        script, *words = command
+        made = subprocess.run([sys.executable, SECOND / script, *words], capture_output=True, check=True).stdout
+        is_same = made == (ROOT / path).read_bytes()
+        print(f"{path}: {'as made' if is_same else f'not what {script} prints'}")
+        differing += not is_same
     for program in PROGRAMS:
         crate = ROOT / "crates" / program
         text = (crate / "stdin").read_bytes()

@@ -1,114 +1,88 @@
-"""stored.py: prints the stored script of `session`, the same at each run; it fails where a refusal is given too seldom.
+"""stored.py: prints the stored script of `session`, the same at each run; it fails where the script lacks something.
 
-Random lines about messages; one message of each kind cut at every byte; messages of 255 channels; the longest datagram
-and one byte more, read and written; and lines that break the format.
+Lines about messages, document 01's examples as calls, states at their limits, the sample flight of docs/, and a long
+flight drawn by lot.
 """
 
 import collections
-import random
+import pathlib
 import subprocess
 import sys
 
-import ciri
-import scripts
 import session
+from calls import start
+from happenings import HAPPENINGS, count_happenings
+from stored_examples import broken_lines, example_lines
+from stored_flight import flight_lines
+from stored_limits import limit_lines
+from stored_messages import message_lines
 
-DATALINK_ID = 7
-RANDOM_LINES = 1200
+SAMPLE = pathlib.Path(__file__).resolve().parent.parent / "docs" / "samples" / "flight"
 FEWEST_OF_EACH = 5
-REFUSALS = [*range(1, 12), 18, 20]
+REFUSALS = [f"refused {number}" for number in range(1, 21)]
+ANSWERS = [
+    "control", "data", "written", "started", "taken", "sent", "nothing waiting", "not operational", "window shut",
+    "withdrawn", "accepted", "accepted due", "query", "channel", "store", "bad line",
+]
 
 
-def whole_messages():
-    """One message of each kind with every option that it may hold, with the end that sends it."""
-    ips_control = ciri.Meaning(ciri.CONTROL, DATALINK_ID, sequences={0: 0, 3: 4294967000, 254: 4294967295})
-    ips_data = ciri.Meaning(
-        ciri.DATA, DATALINK_ID, sequences={3: 500}, channel=3, expiration=1, packet=bytes(range(40)))
-    radio_control = ciri.Meaning(
-        ciri.CONTROL, DATALINK_ID, link_instance=ciri.LinkInstance(3, 258), context=b"\0station",
-        statuses={0: 7, 3: 8, 254: 15}, windows={0: None, 3: 0, 254: 4294967295})
-    radio_data = ciri.Meaning(ciri.DATA, DATALINK_ID, channel=254, packet=b"")
-    return [(ciri.IPS, ips_control), (ciri.IPS, ips_data), (ciri.RADIO, radio_control), (ciri.RADIO, radio_data)]
-
-
-def full_messages():
-    """Control messages that name all 255 channels."""
-    channels = range(255)
-    ips = ciri.Meaning(ciri.CONTROL, DATALINK_ID, sequences={n: n * 16843009 for n in channels})
-    radio = ciri.Meaning(
-        ciri.CONTROL, DATALINK_ID, statuses={n: n % 16 for n in channels}, windows={n: n or None for n in channels})
-    return [(ciri.IPS, ips), (ciri.RADIO, radio)]
-
-
-def read_line(end, datagram):
-    """A line that reads a datagram."""
-    return f"read {end} {DATALINK_ID} {session.show_bytes(datagram)}".encode()
-
-
-def echo_lines(end, meaning):
-    """The message written again with just enough room, a byte less, and as a message of each end."""
-    datagram = ciri.write_message(end, meaning, ciri.DATAGRAM_LIMIT)
-    words = f"echo {end} {DATALINK_ID} {datagram.hex()}"
-    yield from (f"{words} {end} {room}".encode() for room in (len(datagram), len(datagram) - 1, 0, 1048576))
-    yield from (f"{words} {end2} {ciri.DATAGRAM_LIMIT}".encode() for end2 in (ciri.IPS, ciri.RADIO))
-
-
-def cut_lines(end, meaning):
-    """The message cut at every byte."""
-    datagram = ciri.write_message(end, meaning, ciri.DATAGRAM_LIMIT)
-    return (read_line(end, datagram[:length]) for length in range(len(datagram) + 1))
-
-
-def longest_lines():
-    """Datagrams of 65,506 to 65,509 bytes; the longest written again."""
-    frame = len(ciri.write_message(ciri.RADIO, ciri.Meaning(ciri.DATA, DATALINK_ID, packet=b""), ciri.DATAGRAM_LIMIT))
-    header = bytes([0x18, 1, 0, 1, DATALINK_ID])
-    for size in range(ciri.DATAGRAM_LIMIT - 1, ciri.DATAGRAM_LIMIT + 5):
-        packet = bytes(size - frame)
-        yield read_line(ciri.RADIO, header + bytes([128]) + len(packet).to_bytes(2, "big") + packet)
-    longest = header + bytes([128]) + (ciri.DATAGRAM_LIMIT - frame).to_bytes(2, "big") + bytes(ciri.DATAGRAM_LIMIT - frame)
-    yield f"echo radio {DATALINK_ID} {longest.hex()} ips {ciri.DATAGRAM_LIMIT}".encode()
-    yield f"echo radio {DATALINK_ID} {longest.hex()} ips {ciri.DATAGRAM_LIMIT - 1}".encode()
-
-
-def broken_lines():
-    """Lines that break the format, by one word each, and two that are too long."""
-    yield from (b"", b" ", b"read", b"read ips", b"read ips 7", b"read ips 7 ", b"read  ips 7 10", b"read ips 7 10 ")
-    yield from (b"read ips 256 10", b"read ips 07 10", b"read ips -1 10", b"read air 7 10", b"READ ips 7 10")
-    yield from (b"read ips 7 1", b"read ips 7 1G", b"read ips 7 1A", b"read ips 7 - x", b"read ips 7 -", b"read ips 7 10\r")
-    yield from (b"echo ips 7 10", b"echo ips 7 10 ips", b"echo ips 7 10 ips 1048577", b"echo ips 7 10 ips 01", b"\xff\0")
-    yield from (b"x" * 140000, b"read ips 7 " + b"0" * 139989, b"read ips 7 " + b"00" * 70000)
+def state_lines():
+    """The lines about a state."""
+    yield from example_lines()
+    yield from limit_lines()
+    yield from SAMPLE.read_text().splitlines()
+    yield from flight_lines()
 
 
 def all_lines():
     """The whole script."""
-    dice = random.Random("stored")
-    yield from scripts.draw_lines(dice, "messages", RANDOM_LINES)
-    for end, meaning in whole_messages():
-        yield from cut_lines(end, meaning)
-        yield from echo_lines(end, meaning)
-    for end, meaning in full_messages():
-        yield read_line(end, ciri.write_message(end, meaning, ciri.DATAGRAM_LIMIT))
-        yield from echo_lines(end, meaning)
-    yield from longest_lines()
-    yield from broken_lines()
+    yield from message_lines()
+    yield from (line.encode("latin-1") for line in state_lines())
 
 
-def test_refusals(script):
-    """Each refusal about messages is answered often enough."""
-    answers = subprocess.run(
-        [sys.executable, session.__file__], input=script, capture_output=True, check=True).stdout.split(b"\n")
-    given = collections.Counter(int(answer.split()[1]) for answer in answers if answer.startswith(b"refused "))
-    seldom = {number: given[number] for number in REFUSALS if given[number] < FEWEST_OF_EACH}
+def demand(counted, names, fewest):
+    """End the program where one of these is counted too seldom."""
+    seldom = {name: counted[name] for name in names if counted[name] < fewest}
     if seldom:
-        sys.exit(f"refusals given too seldom: {seldom}")
+        sys.exit(f"too seldom in the stored script: {seldom}")
+
+
+def count_answers(script):
+    """How often each refusal and each other sort of answer is given."""
+    command = [sys.executable, session.__file__]
+    answers = subprocess.run(command, input=script, capture_output=True, check=True).stdout.decode()
+    return collections.Counter(sort_of(answer) for answer in answers.splitlines())
+
+
+def sort_of(answer):
+    """A refusal's number, an answer of fixed words, or an answer's first word."""
+    if answer in ANSWERS:
+        return answer
+    return " ".join(answer.split(" ", 2)[: 2 if answer.startswith("refused ") else 1])
+
+
+def test_broken():
+    """A line that is to break the format is answered so, in a started state too."""
+    started = session.Session()
+    started.answer(start((0, "plain", 0, 1500)).encode())
+    sound = [line for line in broken_lines() if started.answer(line.encode("latin-1")) != session.BAD_LINE]
+    if sound:
+        sys.exit(f"not broken: {sound}")
 
 
 def main():
-    """Print the script."""
+    """Print the script; with the word `messages` its lines about messages, with `counts` how often each thing comes."""
+    if sys.argv[1:] == ["messages"]:
+        sys.stdout.buffer.write(b"\n".join(message_lines()))
+        return
     script = b"\n".join(all_lines())
-    test_refusals(script)
-    sys.stdout.buffer.write(script)
+    counted = count_answers(script) + count_happenings(flight_lines())
+    test_broken()
+    demand(counted, [*REFUSALS, *ANSWERS, *HAPPENINGS], FEWEST_OF_EACH)
+    if sys.argv[1:] == ["counts"]:
+        print("\n".join(f"{counted[name]} {name}" for name in [*REFUSALS, *ANSWERS, *HAPPENINGS]))
+    else:
+        sys.stdout.buffer.write(script)
 
 
 if __name__ == "__main__":

@@ -1,4 +1,4 @@
--- The code's channel: from a channel and its store to a state of the rules, and back; what each call does.
+-- The code's channel: from a channel and its store to a state of the rules, and back; how it starts, and what it hears.
 use Prim.Native.Nat.{ℕ, _<_}
 use mathlib.Core.Bool.{Bool, true, cond}
 use mathlib.Core.List.{List, []}

@@ -1,14 +1,14 @@
 -- A call on the channel at an index with its store lent, and both put back: one law serves the three calls. Assumes nothing.
 use Prim.Native.Nat.{ℕ, _+_, _-_, _≤_, _<_}
-use mathlib.Core.List.{List, _++_}
-use mathlib.Core.Path.{_≡_, refl, sym, ap, _∙_}
+use mathlib.Core.List.{List}
+use mathlib.Core.Path.{_≡_, refl, ap, _∙_}
 use native.Mathlib.Omega.{arith}
 use borrow.Rule.Slice.PartMut.{putMid}
 use lib.ListN.{length, take, drop}
 use lib.Seq.{drop-drop}
 use Rattle.quantity.specs.Limits.{MOST-CHANNELS}
 use Rattle.life.specs.Machine.{machine}
-use Rattle.life.specs.Life.{Result, Answer, withdrawAt}
+use Rattle.life.specs.Life.{Result, withdrawAt}
 use Rattle.store.specs.Packets.{Packet}
 use Rattle.channel.specs.declared.state.Channel.{Channel}
 use Rattle.calls.specs.declared.offering.OfferAnswer.{OfferAnswer}
@@ -19,17 +19,17 @@ use Rattle.calls.specs.Calls as calls
 use Rattle.calls.specs.Calls.{Ready, channelAfter, storeAfter, withdrawResult}
 use Rattle.table.specs.declared.state.State.{State}
 use Rattle.table.specs.Table.{channelAt, withChannel}
-use Rattle.table.specs.Memory.{memoryFits, startOf, storeAt, withStore}
+use Rattle.table.specs.Memory.{storeAt, withStore}
 use Rattle.table.proofs.Channels.{Fitting}
 use Rattle.table.proofs.Places.{fit, channel-fitting-at, store-room, store-length}
-use Rattle.run.specs.Calling.{Outcome, refusing, atChannel, calling, offering, asking}
+use Rattle.run.specs.Calling.{atChannel, offering, asking}
 use Rattle.answer.specs.declared.WithdrawAnswer.{WithdrawAnswer}
 use Rattle.endpoint.specs.declared.place.Place.{Place}
 use Rattle.endpoint.specs.declared.call.Offered as call-offered
 use Rattle.endpoint.specs.declared.call.Asked as call-asked
 use Rattle.endpoint.specs.declared.call.Emptied.{Emptied}
 use Rattle.endpoint.specs.Calls.{placeOf, Stands, Offers, OffersAt, Asks, AsksAt, Withdraws, WithdrawsAt}
-use Rattle.endpoint.proofs.Finding.{Finds, place-found, place-refused}
+use Rattle.endpoint.proofs.Finding.{Finds, place-refused}
 
 -- ---- the store that is lent
 module _ (s : State) (memory : List ℕ) (index start : ℕ) (w : Stands s memory index start) (full : length (s .channels) ≡ MOST-CHANNELS) where

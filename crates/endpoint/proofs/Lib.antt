@@ -5,3 +5,5 @@ pub mod Starting
 pub mod Hearing
 pub mod Querying
 pub mod Refused
+pub mod Ran
+pub mod Counted

@@ -2,7 +2,7 @@
 use Prim.Native.Nat.{ℕ}
 use mathlib.Core.Bool.{true, false}
 use mathlib.Core.List.{List}
-use mathlib.Core.Path.{_≡_, refl}
+use mathlib.Core.Path.{_≡_}
 use Rattle.quantity.specs.Refusals.{CONFIGURATION}
 use Rattle.meaning.specs.declared.message.End.the-variants as ends
 use Rattle.meaning.specs.declared.message.Control.{Control}

@@ -2,39 +2,45 @@
 use Prim.Native.Nat.{ℕ}
 use mathlib.Core.Bool.{Bool, true, false, cond, _&&_}
 use mathlib.Core.List.{List}
-use mathlib.Core.Path.{_≡_, refl, sym, _∙_}
+use mathlib.Core.Path.{_≡_, refl, sym, ap, _∙_}
 use lib.ListN.{length}
 use Rattle.quantity.specs.declared.refusal.Refusal.{Refusal}
 use Rattle.quantity.specs.declared.count.DatalinkId.{DatalinkId}
-use Rattle.quantity.specs.Refusals.{NO-CHANNEL, CONFIGURATION}
 use Rattle.meaning.specs.Kinds.{among}
 use Rattle.meaning.specs.declared.message.End.the-variants as ends
 use Rattle.meaning.proofs.Amongst.{clash}
 use Rattle.reader.specs.declared.answer.Verdict.{Verdict}
 use Rattle.reader.specs.declared.answer.PlaneAnswer.{PlaneAnswer}
 use Rattle.reader.specs.Readings.{readControl, readData, planeOf}
+use Rattle.writer.specs.declared.answer.WriteAnswer.{WriteAnswer}
+use Rattle.writer.specs.Written.{noRoom, controlWritten}
 use Rattle.store.specs.Packets.{Packet}
 use Rattle.life.specs.Machine.{machine}
 use Rattle.life.specs.Life.{Result, Answer, refused, taken, nothingWaiting, notOperational, windowShut, done, sent}
 use Rattle.channel.specs.declared.state.Channel.{Channel}
 use Rattle.calls.specs.declared.offering.OfferAnswer.{OfferAnswer}
 use Rattle.calls.specs.declared.asking.NextAnswer.{NextAnswer}
-use Rattle.calls.specs.Calls.{channelAfter, storeAfter, offerAnswer, nextAnswer, outAfter, withdrawResult}
+use Rattle.calls.specs.Calls.{channelAfter, storeAfter, offerAnswer, nextAnswer, withdrawResult}
+use Rattle.table.specs.declared.state.Configuration.{Configuration}
 use Rattle.table.specs.declared.state.State.{State}
-use Rattle.table.specs.Table.{configured, channelAt}
+use Rattle.table.specs.Table.{configured}
 use Rattle.table.specs.Limits.{ids, stateFits}
 use Rattle.table.specs.Memory.{memoryFits}
 use Rattle.table.proofs.Places.{with-back, store-back}
 use Rattle.run.specs.Calling.{atChannel, placeIn, calling, offering, asking}
 use Rattle.hearing.specs.Heard.{dueOf}
+use Rattle.query.specs.Query.{queryOf}
 use Rattle.answer.specs.declared.WithdrawAnswer.{WithdrawAnswer}
 use Rattle.answer.specs.declared.RadioAnswer.{RadioAnswer}
+use Rattle.answer.specs.declared.StartAnswer.{StartAnswer}
 use Rattle.endpoint.specs.declared.call.Offered.{Offered}
 use Rattle.endpoint.specs.declared.call.Asked.{Asked}
 use Rattle.endpoint.specs.declared.call.Emptied.{Emptied}
 use Rattle.endpoint.specs.declared.radio.Heard.{Heard}
-use Rattle.endpoint.specs.Calls.{Offers, Asks, Withdraws, withdrawAnswer}
+use Rattle.endpoint.specs.declared.start.Begun.{Begun}
+use Rattle.endpoint.specs.Calls.{Offers, Asks, Withdraws, withdrawAnswer, startFits, Starts}
 use Rattle.endpoint.specs.Radio.{byVerdict, heardControl, unchanged, handedIn}
+use Rattle.endpoint.specs.Query.{Queries}
 
 pub record Same (s s′ : State) (memory memory′ : List ℕ) : Type 0 where
   pub state-same : s′ ≡ s
@@ -140,3 +146,19 @@ module _ (s : State) where
             rw (f, p) (control-same (reading .verdict) (heardControl (reading .message) s) refusal (not-refused (dueOf (s .context) (reading .message .context)) refusal) (rw (f, p) at e))
         go true f PlaneAnswer.Data p = radio-data-same p
         go true f (PlaneAnswer.Refused why) p = rw (f, p)
+
+-- ---- a start, and a query
+pub start-refused-same : (k : Configuration) (memory : List ℕ) (r : Begun) (memory′ : List ℕ) (refusal : Refusal) → Starts k memory r memory′ → r .answer ≡ StartAnswer.Refused refusal → memory′ ≡ memory
+start-refused-same k memory r memory′ refusal h e = go (startFits k memory) refl
+  where
+    go : (fits : Bool) → startFits k memory ≡ fits → memory′ ≡ memory
+    go true f = let started : r .answer ≡ StartAnswer.Started = ap (λ (b : Begun). b .answer) (rw f at (h .begins)) in clash (cc)
+    go false f = h .memory-is ∙ rw f
+
+pub query-refused-same : (s : State) (out : List ℕ) (r : WriteAnswer) (out′ : List ℕ) (refusal : Refusal) → Queries s out r out′ → r ≡ WriteAnswer.Refused refusal → out′ ≡ out
+query-refused-same s out r out′ refusal h e = go (stateFits s) refl (noRoom (length (controlWritten (queryOf s))) (length out)) refl
+  where
+    go : (fits : Bool) → stateFits s ≡ fits → (full : Bool) → noRoom (length (controlWritten (queryOf s))) (length out) ≡ full → out′ ≡ out
+    go false f full l = h .out-is ∙ rw f
+    go true f true l = h .out-is ∙ rw (f, l)
+    go true f false l = clash (cc (rw (f, l) at (h .answer-is)))

@@ -1,16 +1,16 @@
 -- The ways out of a start. Assumes nothing.
-use Prim.Native.Nat.{ℕ, _<_}
-use mathlib.Core.Bool.{Bool, true, false, and-false}
+use Prim.Native.Nat.{ℕ}
+use mathlib.Core.Bool.{true, false, and-false}
 use mathlib.Core.List.{List}
-use mathlib.Core.Path.{_≡_, refl, sym, _∙_}
+use mathlib.Core.Path.{_≡_, sym, _∙_}
 use borrow.Author.Tests.{eq-eqb, ne-eqb}
 use lib.ListN.{length, take, replicate}
 use Rattle.quantity.specs.Limits.{MOST-CHANNELS}
 use Rattle.table.specs.declared.state.Configuration.{Configuration}
 use Rattle.table.specs.declared.state.State.{State}
 use Rattle.table.specs.declared.survey.Survey.{Survey}
-use Rattle.table.specs.Table.{configured, freshState}
-use Rattle.table.specs.Limits.{sizes, stateFits, configurationFits, placed, surveyOf}
+use Rattle.table.specs.Table.{freshState}
+use Rattle.table.specs.Limits.{stateFits, placed, surveyOf}
 use Rattle.table.proofs.Places.{fit, fresh-fits, fresh-configured}
 use Rattle.answer.specs.declared.StartAnswer.{StartAnswer}
 use Rattle.endpoint.specs.declared.start.Begun.{Begun}

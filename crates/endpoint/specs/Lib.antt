@@ -1,3 +1,4 @@
 pub mod Calls
 pub mod Radio
 pub mod Query
+pub mod Ran

@@ -71,13 +71,13 @@ pub record Account (took : List Packet) (handed : List (List ℕ)) (waiting : Li
   pub of-waiting : having isWaiting ledger ≡ waiting
   pub of-time : Fair latest ledger
 
--- a later ledger: a packet that waited may have got its fate, "a fate once given stays", packets may have come
+-- a later ledger: a packet that waited may have got its fate, a fate once given stays, packets may have come
 pub data Later : List Entry → List Entry → Type 0 where
   new : {es : List Entry} → Later [] es
   same : {e : Entry} {es fs : List Entry} → Later es fs → Later (e ∷ es) (e ∷ fs)
   settled : {p : Packet} {fate : Fate} {es fs : List Entry} → Later es fs → Later (record { packet = p; fate = simples.waits } ∷ es) (record { packet = p; fate = fate } ∷ fs)
 
--- ---- "between two radio messages"
+-- ---- between two radio messages
 abbrev pub quietly : Event → Type 0
 quietly (offer packet time) = Unit {0}
 quietly (next time room) = Unit {0}

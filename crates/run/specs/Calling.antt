@@ -33,7 +33,7 @@ atChannel call s memory index =
     let store = storeAt s index memory in
     record { answer = call c store .answer; state = withChannel s index (channelAfter c (call c store)); memory = withStore s index memory (storeAfter c store (call c store)) }
 
--- "Channels are found by ID, wherever they stand in the configuration."
+-- a channel is found by its ID, wherever it stands in the configuration
 abbrev pub placeIn : State → ℕ → ℕ
 placeIn s id = indexOf id (ids (configured s))
 

@@ -1,0 +1,37 @@
+"""Calls drawn up by hand, as lines of the session script."""
+
+import ciri
+import scripts
+
+DATALINK_ID = 7
+# An output that holds any data message, and an expiry that no time reaches.
+ROOMY = 1600
+NEVER = 100000
+
+
+def packet(length, mark=0):
+    """An IPv6 packet whose bytes tell it from another's; one under 40 bytes is cut short."""
+    payload_length = max(0, length - ciri.IPV6_HEADER_LENGTH).to_bytes(2, "big")
+    return (b"\x60\0\0\0" + payload_length + bytes((mark + place) % 256 for place in range(6, length)))[:length]
+
+
+def start(*channels, memory=None, datalink_id=DATALINK_ID):
+    """A `start` of channels as (CHANNEL, KIND, FIRST, STORE)."""
+    return scripts.show_start(datalink_id, channels, memory)
+
+
+def offer(channel, time, expiry, octets):
+    """An `offer` of these bytes."""
+    return f"offer {channel} {time} {expiry} {scripts.show_hex(octets)}"
+
+
+def radio(statuses, windows=(), context=None, link_instance=None):
+    """A radio control message of these Statuses and Flow Windows, handed in."""
+    meaning = ciri.Meaning(ciri.CONTROL, DATALINK_ID, link_instance, context, dict(statuses), windows=dict(windows))
+    return f"radio {ciri.write_message(ciri.RADIO, meaning, ciri.DATAGRAM_LIMIT).hex()}"
+
+
+def radio_options(options):
+    """A radio control message of these options in hexadecimal, read and handed in."""
+    message = f"10010001{DATALINK_ID:02x}{options}"
+    return [f"read radio {DATALINK_ID} {message}", f"radio {message}"]

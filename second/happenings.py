@@ -1,0 +1,93 @@
+"""What came to pass in a flight: whether the script drawn by lot has what it is for."""
+
+import collections
+import copy
+import dataclasses
+import re
+
+import ciri
+from session import Session
+
+HAPPENINGS = (
+    "wrap crossed", "window granted", "window shrunk", "window withdrawn", "window absent", "status up", "status down",
+    "status not reported", "context of another length", "context of other bytes", "expired in the middle",
+    "a byte too short",
+)
+
+
+def count_happenings(lines):
+    """How often each thing came to pass that the flight is for."""
+    first, *others = lines
+    session = Session()
+    session.answer(first.encode())
+    counted = collections.Counter()
+    for line in others:
+        before = keep_endpoint(session.endpoint)
+        answer = session.answer(line.encode())
+        counted.update(find_happenings(before, line.split(" "), answer, session))
+    return counted
+
+
+def keep_endpoint(endpoint):
+    """The state as it stands, for a look back after a call."""
+    return dataclasses.replace(endpoint, channels=[copy.copy(channel) for channel in endpoint.channels])
+
+
+def find_happenings(before, words, answer, session):
+    """What one call brought about."""
+    if words[0] == "radio":
+        yield from find_in_radio(before, session.endpoint)
+    elif words[0] == "next" and answer == "refused 18 0":
+        yield from find_in_short_room(words, session)
+    elif words[0] in ("offer", "next") and not answer.startswith("refused"):
+        yield from find_in_queue(before, words, session.endpoint)
+
+
+def find_in_radio(before, after):
+    """What a radio message changed."""
+    yield from find_in_context(before.context, after.context)
+    for old, new in zip(before.channels, after.channels):
+        yield from find_in_status(old.status, new.status)
+        yield from find_in_flow(old.flow, new.flow)
+
+
+def find_in_short_room(words, session):
+    """A refused Next that is answered with a message if the output has one byte more."""
+    longer = [*words[:-1], str(int(words[-1]) + 1)]
+    if copy.deepcopy(session).answer(" ".join(longer).encode()).startswith("sent"):
+        yield "a byte too short"
+
+
+def find_in_queue(before, words, after):
+    """An accepted Offer or Next that crossed the wrap, or expired a packet between two that wait on."""
+    channel_id, now = int(words[1]), int(words[2])
+    old, new = ciri.find_channel(before, channel_id), ciri.find_channel(after, channel_id)
+    if new.sequence < old.sequence:
+        yield "wrap crossed"
+    if re.search("wx+w", "".join("w" if waiting.expiry > now else "x" for waiting in old.queue)):
+        yield "expired in the middle"
+
+
+def find_in_context(old, new):
+    """A Context that differs from the last one."""
+    if old is not None and old != new:
+        yield "context of other bytes" if len(old) == len(new) else "context of another length"
+
+
+def find_in_status(old, new):
+    """A status that went up or down, or is no longer reported."""
+    if old is not None and new is None:
+        yield "status not reported"
+    elif old is not None and old != new:
+        yield "status up" if new > old else "status down"
+
+
+def find_in_flow(old, new):
+    """A window granted, shrunk or gone."""
+    if isinstance(new, int):
+        if not isinstance(old, int):
+            yield "window granted"
+        elif ciri.distance(old, new) < 0:
+            yield "window shrunk"
+    elif isinstance(old, int):
+        yield "window withdrawn" if new == ciri.NO_WINDOW else "window absent"

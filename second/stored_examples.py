@@ -1,0 +1,97 @@
+"""The stored script's lines for document 01's examples, and the lines about a state that break the format."""
+
+import ciri
+from calls import NEVER, ROOMY, offer, packet, radio, radio_options, start
+
+LONGEST_PACKET = ciri.IPV6_HEADER_LENGTH + 65535
+# Sequence, window and the packets tried: document 01's starred examples, then some at the count's limits.
+COUNTING = (
+    (4294967000, 500, (797, 796, 40)), (100, 100, (40,)), (100, 99, (40,)), (100, 2147483748, (40, 1500)),
+    (100, 2147483747, (40, 1500)), (4294967295, 39, (41, 40)), (0, 4294967295, (40,)), (0, 2147483648, (40,)),
+)
+# Flow Window options of channel 2: window 0000FFFF in force before each of the others, and none at all.
+WINDOW = "060005020000ffff"
+WINDOWS = (WINDOW, "06000102", WINDOW, "", WINDOW, "0600050200000000", "060001ff")
+
+
+def before_start():
+    """Before a state is started, lines that ask for one are bad; a refused start starts none."""
+    asked = [offer(0, 0, 1, packet(40)), "next 0 0 100", "withdraw 0", radio({0: 7}), "query 100", "show 0", "store 0"]
+    yield from asked
+    yield from (start(), start((0, "plain", 0, 1499)), "start 7 1 0 plain 0")
+    yield from asked
+
+
+def packet_examples():
+    """Packets of 39 and 40 bytes, 1,500 and 1,501; the 32nd and 33rd waiting; expiry equal to the time."""
+    yield start((0, "plain", 0, 65536), (2, "flow", 0, 1500))
+    lengths = (0, 1, 39, 40, 41, 1499, 1500, 1501, LONGEST_PACKET)
+    yield from (offer(0, 5, 6, packet(length, length)) for length in lengths)
+    yield from ("show 0", "store 0", "withdraw 0")
+    yield from (offer(0, 5, expiry, packet(40)) for expiry in (5, 4, 0, 6))
+    yield from (offer(2, 7, NEVER, packet(40, mark)) for mark in range(33))
+    yield from ("show 2", "store 2", "next 0 6 100", "show 0")
+
+
+def counting_examples():
+    """Each starred example on counting: the window comes, packets of these lengths are tried, one after another."""
+    for sequence, window, lengths in COUNTING:
+        yield start((0, "plain", 0, 1500), (2, "flow", sequence, 1500))
+        yield radio({0: 7, 2: 7}, {2: window})
+        for length in lengths:
+            yield from (offer(2, 1, 9, packet(length)), f"next 2 1 {ROOMY}", "show 2", "withdraw 2", "query 100")
+
+
+def message_examples():
+    """Each starred example on messages, with what the channels then do."""
+    yield start((0, "plain", 0, 1500), (2, "flow", 4294967000, 1500), (3, "plain", 0, 1500))
+    yield from (offer(channel, 1, 9, packet(40, channel)) for channel in (0, 2, 3))
+    yield from [*radio_options("05000200f7"), "show 0", "next 0 1 52"]
+    yield from [*radio_options("05000200070500020308"), "show 3", "next 3 1 52", "show 0"]
+    for window in WINDOWS:
+        yield from [*radio_options("05000200070500020207" + window), "show 2", "next 2 1 60", "show 2"]
+        yield offer(2, 1, 9, packet(40, 5))
+
+
+# ---- Lines that break the format ----
+
+# One faultless line of each command, and for each of its words what it may not be.
+NO_NUMBERS = ["", "-", "-1", "+1", "01", "00", "0x1", "1.", "x", "\t1", "1\r", "\xb2", "9" * 30]
+NO_BYTES = ["", "0", "000", "0g", "AB", "-0", "--", "0-", "0x00", "60\t"]
+NO_ID = [*NO_NUMBERS, "256"]
+NO_SEQUENCE = [*NO_NUMBERS, "4294967296"]
+NO_TIME = [*NO_NUMBERS, "18446744073709551616"]
+NO_LENGTH = [*NO_NUMBERS, "1048577"]
+FAULTLESS = {
+    "start 7 1 0 flow 5 1500 memory 1500": [
+        NO_ID, [*NO_NUMBERS, "0", "2", "81"], NO_ID, ["", "Flow", "flows", "0"], NO_SEQUENCE, NO_LENGTH,
+        ["", "Memory", "1500"], NO_LENGTH],
+    offer(0, 1, 9, packet(40)): [NO_ID, NO_TIME, NO_TIME, NO_BYTES],
+    "next 0 1 100": [NO_ID, NO_TIME, NO_LENGTH],
+    "withdraw 0": [NO_ID],
+    radio({0: 7}): [NO_BYTES],
+    "query 100": [NO_LENGTH],
+    "show 0": [NO_ID],
+    "store 0": [NO_ID],
+}
+
+
+def broken_lines():
+    """Each command with each word wrong, with words missing and added, in other letters."""
+    for faultless, wrongs in FAULTLESS.items():
+        words = faultless.split(" ")
+        yield from (" ".join(words[:place]) for place in range(1, len(words)) if words[place] != "memory")
+        for place, wrong in enumerate(wrongs, 1):
+            yield from (" ".join([*words[:place], word, *words[place + 1 :]]) for word in wrong)
+        yield from (faultless + end for end in (" ", " 0", "\t", "\r", "\0", " memory 1500"))
+        yield from (" " + faultless, words[0].upper() + faultless[len(words[0]) :], faultless.replace(" ", "  ", 1))
+
+
+def example_lines():
+    """All of them; a broken line leaves the state as it was."""
+    yield from before_start()
+    yield from packet_examples()
+    yield from counting_examples()
+    yield from message_examples()
+    yield from broken_lines()
+    yield "show 2"

@@ -1,0 +1,83 @@
+"""The stored script's flight: one state of sixteen channels through 5,000 calls, drawn by lot, always the same.
+
+Each flow-controlled channel begins at most a few thousand bytes before the wrap of its 32-bit count, and most cross it.
+"""
+
+import random
+
+import ciri
+import scripts
+from calls import DATALINK_ID, start
+
+CALLS = 5000
+LOOKS = ("show", "store")
+# How often each line comes in each phase of the flight.
+PHASES = {
+    "mixed": ((30, "offer"), (34, "next"), (1, "withdraw"), (14, "radio"), (2, "query"), (8, "show"), (0.6, "store")),
+    "fill": ((80, "offer"), (6, "next"), (0.2, "withdraw"), (6, "radio"), (1, "query"), (5, "show"), (0.4, "store")),
+    "drain": ((8, "offer"), (66, "next"), (0.3, "withdraw"), (16, "radio"), (1, "query"), (8, "show"), (0.6, "store")),
+}
+
+
+class Flight(scripts.StateLines):
+    """Lines of one state, without another start."""
+
+    def draw(self):
+        """The next line."""
+        if self.lines_left == 0:
+            self.begin_phase()
+        self.lines_left -= 1
+        return self.draw_by_word(scripts.pick(self.dice, *PHASES[self.phase]))
+
+    def begin_phase(self):
+        """Another phase, about another channel unless the queue just filled is to be drained."""
+        self.lines_left = self.dice.randrange(20, 80)
+        self.phase = "drain" if self.phase == "fill" else self.dice.choice(("mixed", "fill"))
+        if self.phase != "drain":
+            self.favourite = self.dice.choice(self.session.endpoint.channels).configuration.channel_id
+
+    def draw_offer(self):
+        """`offer CHANNEL NOW EXPIRY HEX`, mostly of a short packet."""
+        channel = self.draw_configured()
+        now = self.draw_now(channel)
+        some, large = self.dice.randrange(40, 130), self.dice.randrange(130, 600)
+        length = scripts.pick(self.dice, (60, 40), (120, some), (15, large), (5, 1500), (1, 1501), (1, 39))
+        packet = scripts.draw_packet(self.dice, length)
+        packet = scripts.spoil_packet(self.dice, packet) if scripts.chance(self.dice, 2) else packet
+        return f"offer {self.show_channel_id(channel)} {now} {self.draw_expiry(now)} {scripts.show_hex(packet)}"
+
+    def draw_radio(self):
+        """`radio HEX`: a control message, now and then a damaged one, or a data message."""
+        draw = scripts.pick(self.dice, (88, self.draw_faultless), (8, self.draw_damaged), (4, self.draw_data))
+        return f"radio {scripts.show_hex(draw(DATALINK_ID))}"
+
+    def draw_faultless(self, datalink_id):
+        """A control message for the configured channels."""
+        return self.draft_control(datalink_id).encode()
+
+    def draw_damaged(self, datalink_id):
+        """One with something wrong."""
+        return scripts.damage(self.dice, self.draft_control(datalink_id))
+
+
+def draw_flight_start(dice):
+    """Sixteen channels in any order, 0 and 254 among them, three of them plain, with small stores."""
+    channels = [0, 254, *dice.sample(range(1, 254), 14)]
+    dice.shuffle(channels)
+    firsts = [ciri.MODULUS - dice.randrange(100, 4000) for _ in channels]
+    return start(*[
+        (channel, "plain" if place % 6 == 3 else "flow", first, dice.randrange(1500, 3001))
+        for place, (channel, first) in enumerate(zip(channels, firsts))])
+
+
+def flight_lines():
+    """The flight: its start, and lines until so many calls are made."""
+    dice = random.Random("flight")
+    flight = Flight(dice)
+    line = draw_flight_start(dice)
+    calls = 0
+    while calls <= CALLS:
+        calls += not line.startswith(LOOKS)
+        flight.note(line.encode())
+        yield line
+        line = flight.draw()

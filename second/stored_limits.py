@@ -1,0 +1,131 @@
+"""The stored script's lines that bring a state to each of its limits, and try what lies just outside."""
+
+import ciri
+from calls import NEVER, ROOMY, offer, packet, radio, start
+from session import TIME_LIMIT
+
+CHANNELS = (200, 3, 254, 17, 0, 99, 1, 128, 64, 253, 2, 127, 31, 8, 250, 16)
+
+
+# ---- Starts at the limits ----
+
+
+def start_limits():
+    """Each limit of a configuration and what lies just outside; a refused start leaves the state before it."""
+    yield from (start((0, "plain", 0, store)) for store in (0, 1499, 1500, 65537, 1048576, 65536))
+    yield from (offer(0, 3, 9, packet(40)), "show 0")
+    yield from (start((0, "flow", 4294967295, 1500), memory=memory) for memory in (0, 1499, 1501, 1048576))
+    yield from (start((channel, "flow", 0, 1500)) for channel in (1, 254, 255))
+    yield from (start((0, "flow", 0, 1500), (channel, "flow", 0, 1500)) for channel in (0, 255))
+    yield from (start(*[(channel, "plain", 0, 65536) for channel in range(count)]) for count in (0, 17, 80, 81))
+    yield from (start(memory=0), "show 0", "next 0 3 100", "query 100")
+    yield from (start((0, "flow", 4294967295, 1500), memory=1500), "show 0", "query 100")
+    yield from (start((0, "plain", 0, 1500), datalink_id=datalink_id) for datalink_id in (0, 255, 256))
+    yield from ("query 6", "query 5", "query 4", "query 0")
+    most = [(channel, "flow", 4294967295 - channel, 65536) for channel in CHANNELS]
+    yield from (start(*most, memory=memory) for memory in (1048575, 1048576, 1048577))
+    yield from ("query 133", "query 132", offer(16, 1, 2, packet(1500)), "show 16", "show 200")
+
+
+# ---- Queues and stores at the limits ----
+
+
+def full_stores():
+    """Stores full to the byte, by 1, 3 and 32 packets; the room of a departed packet is used again."""
+    yield start((0, "plain", 0, 1500), (3, "flow", 9, 3000), (9, "plain", 0, 48000), (8, "plain", 0, 65536))
+    yield radio({0: 1, 3: 1, 9: 1, 8: 1})
+    yield from (offer(0, 1, 9, packet(length)) for length in (1500, 40))
+    yield from (offer(3, 1, NEVER, packet(length, length)) for length in (1460, 1500, 41, 40, 40))
+    yield from ("store 3", f"next 3 2 {ROOMY}", "store 3")
+    yield from (offer(3, 2, NEVER, packet(length, 7)) for length in (1461, 1460, 40))
+    yield from ("show 3", "store 3", "withdraw 3", "show 3", "store 3")
+    yield from (offer(9, 1, NEVER, packet(1500, mark)) for mark in range(33))
+    yield from ("show 9", f"next 9 1 {ROOMY}", "store 9")
+    yield from (offer(9, 1, NEVER, packet(length, 77)) for length in (1500, 40))
+    yield from (offer(8, 1, NEVER, packet(40 + 7 * mark, mark)) for mark in range(33))
+    yield from ("show 8", "store 8", "show 0", "store 0")
+
+
+def expiries():
+    """Packets expire at their time wherever they wait; 17 and 18 are judged after that and expire nothing."""
+    yield start((0, "plain", 0, 1500), (4, "plain", 0, 1500))
+    yield radio({0: 7, 4: 7})
+    waiting = ((400, 50), (700, 10), (300, 50), (100, 11))
+    yield from (offer(0, 1, expiry, packet(length, expiry)) for length, expiry in waiting)
+    yield from (offer(0, 10, 60, packet(701)), "show 0", offer(0, 10, 60, packet(700)), "show 0", "store 0")
+    yield from ("next 0 11 411", "show 0", "next 0 11 412", "show 0", "store 0")
+    yield from (offer(4, 1, 5 if mark % 3 == 1 else 90, packet(40, mark)) for mark in range(32))
+    yield from (offer(4, time, 91, packet(40, 99)) for time in (4, 5))
+    yield from ("show 4", "next 4 5 51", "show 4", "next 4 90 0", "show 4", "next 4 91 0", "show 4", "store 4")
+
+
+def times():
+    """The least and the greatest time; the latest time is each channel's own."""
+    yield start((0, "plain", 0, 1500), (5, "plain", 0, 1500))
+    yield from (offer(0, 0, expiry, packet(40)) for expiry in (0, 1, TIME_LIMIT))
+    yield from ("next 0 0 0", "next 0 1 0", "show 0", "next 0 0 0")
+    for time in (TIME_LIMIT - 1, TIME_LIMIT, TIME_LIMIT + 1):
+        yield from (offer(0, time, expiry, packet(40)) for expiry in (TIME_LIMIT - 1, TIME_LIMIT, TIME_LIMIT + 1))
+        yield from ("show 0", f"next 0 {time} 0", "show 0")
+    yield from ("next 0 0 0", offer(0, TIME_LIMIT - 1, TIME_LIMIT, packet(40)), offer(5, 0, 1, packet(40)), "show 5")
+
+
+def orders():
+    """Of two faults the one that is tested first is given."""
+    yield start((0, "plain", 0, 1500), (6, "flow", 0, 1500))
+    yield radio({0: 7, 6: 7})
+    yield from (offer(0, 5, 9, packet(1500)), offer(7, 4, 4, packet(39)), offer(0, 4, 4, packet(39)))
+    yield offer(0, 4, 4, b"\x50" + packet(1501)[1:])
+    yield offer(0, 4, 4, packet(1500) + b"\0")
+    yield from (offer(0, 4, 4, packet(1501)), offer(0, 4, 4, packet(1500)), offer(0, 5, 5, packet(1500)))
+    yield from (offer(0, 5, 9, packet(1500)), "next 7 0 0", "next 0 4 0", "next 0 5 0")
+    yield from ("withdraw 7", "show 255", "store 7", "show 0", f"next 0 5 {ROOMY}", "next 0 4 0", "next 0 5 0")
+
+
+# ---- Radio messages ----
+
+
+def contexts():
+    """Due at the first Context and at each that differs in length or bytes; nothing else makes one due."""
+    yield start((0, "plain", 0, 1500))
+    given = (None, b"\0", b"\0", None, b"\0", b"\0\0", b"\0", b"\1", b"eightlng", b"eightlnh", b"eightln", b"\0")
+    for context in given:
+        yield radio({0: 7}, context=context, link_instance=ciri.LinkInstance(8, 2**64 - 1) if context else None)
+    message = radio({0: 3, 254: 3}, {4: 4}, context=b"\2")
+    yield from (message + "00", message.replace("radio 1001000107", "radio 1001000108"), "show 0", message, message)
+    yield from ("radio 18010001078000020102", "show 0", "radio -", "radio 20", "radio 10", "radio 1001000107")
+
+
+def long_messages():
+    """The longest datagram with its channels named behind a skipped option, and one byte more."""
+    yield start((254, "flow", 0, 1500), (0, "plain", 0, 1500))
+    named = "0500020003" + "050002fe07" + "060005fe00000400"
+    for length in (65507, 65508):
+        skipped = length - 5 - 3 - len(named) // 2
+        yield from (f"radio 1001000107c8{skipped:04x}{'5a' * skipped}{named}", "show 0", "show 254")
+
+
+def sixteen_channels():
+    """Sixteen channels in shuffled order: each has its own store, its own status, its own window."""
+    kinds = ["plain" if place % 5 == 4 else "flow" for place in range(16)]
+    places = enumerate(CHANNELS)
+    yield start(*[(channel, kinds[place], 4294967295 - 7 * place, 1500 + place) for place, channel in places])
+    for turn in range(3):
+        yield radio({channel: (3 * channel + turn) % 9 for channel in CHANNELS if channel % 7 != turn + 1},
+                    {channel: 100 * turn + channel for channel in CHANNELS if channel % 4 != turn})
+        for channel in CHANNELS:
+            yield from (offer(channel, turn, NEVER, packet(40 + channel % 9, channel + turn)), f"show {channel}")
+            yield from (f"next {channel} {turn} {ROOMY}", f"show {channel}", f"query {109 - turn}")
+    yield from (f"store {channel}" for channel in CHANNELS)
+
+
+def limit_lines():
+    """All of them."""
+    yield from start_limits()
+    yield from full_stores()
+    yield from expiries()
+    yield from times()
+    yield from orders()
+    yield from contexts()
+    yield from long_messages()
+    yield from sixteen_channels()
