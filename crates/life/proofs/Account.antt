@@ -1,15 +1,16 @@
 -- The account of the code's own channel after any calls. Assumes nothing.
 use Prim.Native.Nat.{_^_, _<_}
-use mathlib.Core.List.{List, _++_}
+use mathlib.Core.List.{List, [], _∷_, _++_}
 use mathlib.Core.Path.{sym}
 use Rattle.quantity.specs.declared.count.FlowSequence.{FlowSequence}
-use Rattle.life.specs.Life.{Event, Setting, answers, final}
+use Rattle.life.specs.Life.{Event, Setting, step, answers, final}
 use Rattle.life.specs.Machine.{machine, freshMachine}
 use Rattle.life.specs.Simple.{simple, freshSimple}
+use Rattle.life.specs.Fates.{Settles}
 use Rattle.life.specs.Account.{takenIn, handedOver, Account, Later}
-use Rattle.life.proofs.Agree.{same-answers, same-end}
+use Rattle.life.proofs.Agree.{agrees-answer, same-answers, same-end}
 use Rattle.life.proofs.Ledger.{ledger-is-taken, ledger-is-sent, fair-always}
-use Rattle.life.proofs.Fates.{fates-stay}
+use Rattle.life.proofs.Fates.{settled-by, fates-stay}
 use Rattle.life.proofs.Leaves.{final-append}
 
 module _ (k : Setting) (first : FlowSequence) (small : first .0 < 2 ^ 32) (es : List Event) where
@@ -35,3 +36,11 @@ pub account-later : (k : Setting) (first : FlowSequence) (small : first .0 < 2 ^
     → Later (account k first small es .ledger) (account k first small (es ++ fs) .ledger)
 unfolding account
 account-later k first small es fs = rw (final-append simple k es fs (freshSimple (k .controlled) first)) (fates-stay k fs _)
+
+-- of any two successive ledgers, the later is what the call between them settles, by the code's own answer
+pub account-settled : (k : Setting) (first : FlowSequence) (small : first .0 < 2 ^ 32) (es : List Event) (e : Event)
+    → Settles e (step machine k e (final machine k es (freshMachine (k .controlled) first)) .answer) (account k first small es .ledger) (account k first small (es ++ (e ∷ [])) .ledger)
+unfolding account
+account-settled k first small es e =
+    let start = freshSimple (k .controlled) first in
+    rw (agrees-answer k e _ _ (same-end k first small es), final-append simple k es (e ∷ []) start) (settled-by k e (final simple k es start))

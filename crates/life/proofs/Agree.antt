@@ -4,9 +4,11 @@ use mathlib.Core.Bool.{Bool, true, false, cond}
 use mathlib.Core.List.{List, [], _∷_, _++_, map, tail}
 use mathlib.Core.Path.{_≡_, refl, sym, ap, subst, _∙_}
 use lib.Dec.{T}
+use borrow.Author.Tests.{lt-ltb, le-ltb}
 use Rattle.quantity.specs.declared.count.FlowSequence.{FlowSequence}
 use Rattle.quantity.specs.declared.count.ByteCount.{ByteCount}
 use Rattle.quantity.specs.Window.{sequenceAt}
+use Rattle.quantity.proofs.Tests.{by-le}
 use Rattle.quantity.proofs.Window.{fits-is, stands-on, standing-stands, advance-is, sequence-start}
 use Rattle.meaning.specs.declared.message.Status.{Status}
 use Rattle.meaning.specs.declared.message.Window.{Window}
@@ -15,7 +17,7 @@ use Rattle.flow.specs.declared.Flow.{Flow}
 use Rattle.flow.specs.Counting.{mayGo, sequenceOn, carriedBy, flowAfter}
 use Rattle.life.specs.Life.{Event, Setting, State, step, answers, final}
 use Rattle.life.specs.Machine.{Meter, machine, freshMachine}
-use Rattle.life.specs.Simple.{Limit, free, none, Counter, fitsBelow, countOn, carriedAt, limitAt, waits, expired, withdrawn, Entry, isWaiting, having, become, due, sendFirst, simple, freshSimple}
+use Rattle.life.specs.Simple.{Limit, free, none, Counter, fitsBelow, countOn, carriedAt, limitAt, waits, withdrawn, Entry, isWaiting, having, become, due, sendFirst, simple, freshSimple}
 use Rattle.life.specs.Agreement.{SameFlow, both-free, both-none, both-in-force, Agrees}
 use Rattle.life.proofs.Entries.{entry, by-entry}
 use Rattle.life.proofs.Alike.{Alike, Related, related, step-same, answers-same, final-same}
@@ -72,11 +74,10 @@ expire-waiting : (time : ℕ) (es : List Entry) → alive time (having isWaiting
 unfolding lasting
 expire-waiting time =
     by-entry (λ es. alive time (having isWaiting es) ≡ having isWaiting (map (become (due time)) es)) refl
-    (λ p es h. lasts p _ _ h (lastsAt time (p .expiry))) (λ p es h. h) (λ p es h. h) (λ p es h. h)
+    (λ p es h. lasts p _ _ h) (λ p es h. h) (λ p es h. h) (λ p es h. h)
   where
-    lasts : (p : Packet) (ps qs : List Packet) → ps ≡ qs → (t : Bool) → cond t (p ∷ ps) ps ≡ cond (isWaiting (cond t waits expired)) (p ∷ qs) qs
-    lasts p ps qs h true = rw h
-    lasts p ps qs h false = h
+    lasts : (p : Packet) (ps qs : List Packet) → ps ≡ qs → cond (lastsAt time (p .expiry)) (p ∷ ps) ps ≡ cond (isWaiting (due time p)) (p ∷ qs) qs
+    lasts p ps qs h = by-le (p .expiry) time (λ l. rw (le-ltb time (p .expiry) l) h) (λ l. rw (lt-ltb time (p .expiry) l, h))
 
 join-waiting : (p : Packet) (es : List Entry) → having isWaiting es ++ (p ∷ []) ≡ having isWaiting (es ++ (entry p waits ∷ []))
 join-waiting p =
@@ -120,6 +121,9 @@ module _ (k : Setting) where
   -- one call
   pub agrees-step : (e : Event) (c : State machine) (s : State simple) → Agrees c s → Agrees (step machine k e c .state) (step simple k e s .state)
   agrees-step e c s h = agrees _ _ (step-same alike k e c s (agreed c s h) .state)
+
+  pub agrees-answer : (e : Event) (c : State machine) (s : State simple) → Agrees c s → step machine k e c .answer ≡ step simple k e s .answer
+  agrees-answer e c s h = step-same alike k e c s (agreed c s h) .answer
 
   module _ (es : List Event) (c : State machine) (s : State simple) (h : Agrees c s) where
     -- any calls

@@ -1,7 +1,11 @@
 -- A ledger, taken apart entry by entry. Assumes nothing.
+use Prim.Native.Nat.{ℕ}
 use mathlib.Core.List.{List, [], _∷_}
+use borrow.Author.Tests.{lt-ltb, le-ltb}
+use Rattle.quantity.proofs.Tests.{by-le}
 use Rattle.store.specs.Packets.{Packet}
-use Rattle.life.specs.Simple.{Fate, waits, sent, expired, withdrawn, Entry}
+use Rattle.life.specs.Simple.{Fate, waits, sent, expired, withdrawn, Entry, due}
+use Rattle.life.specs.Fates.{byTime}
 
 abbrev pub entry : Packet → Fate → Entry
 entry p fate = record { packet = p; fate = fate }
@@ -19,3 +23,7 @@ module _ (F : List Entry → Type 0) (at-end : F []) (waiting : (p : Packet) (es
       by sent h = gone (e .packet) es h
       by expired h = late (e .packet) es h
       by withdrawn h = called-off (e .packet) es h
+
+-- what a time makes of a packet that waited: expired if it is due, and nothing else
+pub due-by-time : (time : ℕ) (p : Packet) → byTime time (p .expiry) (due time p)
+due-by-time time p = by-le (p .expiry) time (λ l. rw (le-ltb time (p .expiry) l) l) (λ l. rw (lt-ltb time (p .expiry) l) l)

@@ -1,9 +1,10 @@
 -- Each answer is given exactly when the paper says so, for any parts that a channel is made of: given the conditions, in the order of the tests, the whole result;
 -- and the other way, `did`: given a result, the conditions. Assumes nothing.
-use Prim.Native.Nat.{ℕ, _≤_, _<_}
+use Prim.Native.Nat.{ℕ, _+_, _≤_, _<_}
 use mathlib.Core.Bool.{Bool, true, false, cond}
 use mathlib.Core.List.{List, [], _∷_}
 use mathlib.Core.Path.{_≡_, refl}
+use native.Mathlib.Omega.{arith}
 use lib.ListN.{length}
 use borrow.Author.Tests.{ltb-true, ltb-false, leb-true, leb-false, not-true, not-false, lt-ltb, le-ltb, le-leb, lt-leb}
 use Rattle.quantity.specs.declared.count.DatalinkId.{DatalinkId}
@@ -13,7 +14,7 @@ use Rattle.meaning.specs.declared.message.Status.{Status}
 use Rattle.meaning.specs.declared.message.Window.{Window}
 use Rattle.meaning.specs.Statuses.{operational}
 use Rattle.writer.specs.Written.{noRoom}
-use Rattle.store.specs.Packets.{Packet, isFull}
+use Rattle.store.specs.Packets.{Packet, joined, isFull}
 use Rattle.ipv6.specs.Ipv6.{isIpv6}
 use Rattle.life.specs.Life.{Event, offer, next, withdraw, radio, Answer, taken, nothingWaiting, notOperational, windowShut, done, sent, refused, Parts, Setting, State, Result, messageBytes, refusal, left, offerAt, grown, tryFirst, nextAt, withdrawAt, radioAt, step}
 
@@ -177,3 +178,20 @@ module _ (P : Parts) (k : Setting) where
   did (next time room) st = either _ (λ t. asked-early (ltb-true _ _ t)) (λ t. tried time room st (ltb-false _ _ t) _ refl)
   did withdraw st = withdrew
   did (radio status window) st = heard
+
+  module _ (p : Packet) (time : ℕ) (st : State P) where
+    full-when : {a : Answer} {st′ : State P} → Did (offer p time) st a st′ → a ≡ refused FULL → isFull (k .size) (P .waiting (P .expire time (st .book))) p ≡ true
+    full-when (offered-not-ipv6 v) e = cc
+    full-when (offered-long v l) e = cc
+    full-when (offered-early v l t) e = cc
+    full-when (offered-past v l t x) e = cc
+    full-when (offered-full v l t x f) e = f
+    full-when (offered-taken v l t x f) e = cc
+
+    -- "Room of a departed packet is used again.": where nothing waits after expiry, 17 is never given to a packet that fits the store
+    pub room-again : P .waiting (P .expire time (st .book)) ≡ [] → length (p .bytes) ≤ k .size → step P k (offer p time) st .answer ≡ refused FULL → ⊥
+    unfolding isFull joined
+    room-again w fits e =
+        let full = full-when (did (offer p time) st) e in
+        let room : isFull (k .size) (P .waiting (P .expire time (st .book))) p ≡ false = rw w (le-ltb (k .size) (0 + length (p .bytes)) (omega arith)) in
+        let z : _≡_ {A = ℕ} 0 1 = cc in absurd (omega arith)

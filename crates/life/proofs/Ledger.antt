@@ -1,15 +1,17 @@
 -- What the simple channel's ledger says after any calls. Assumes nothing.
 use Prim.Native.Nat.{ℕ, _≤_, _<_}
-use mathlib.Core.Bool.{Bool, true, false, cond}
+use mathlib.Core.Bool.{false}
 use mathlib.Core.List.{List, [], _∷_, _++_, map, append-nil, append-assoc, map-map, map-append}
 use mathlib.Core.Path.{_≡_, refl, sym, ap, _∙_}
 use native.Mathlib.Omega.{arith}
-use borrow.Author.Tests.{ltb-true, ltb-false}
-use Rattle.store.specs.Packets.{Packet, lastsAt}
+use borrow.Author.Tests.{lt-ltb, le-ltb}
+use Rattle.quantity.proofs.Tests.{by-le}
+use Rattle.store.specs.Packets.{Packet}
 use Rattle.life.specs.Life.{Event, offer, next, withdraw, radio, Answer, refused, Setting, State, step, answers, final}
 use Rattle.life.specs.Simple.{Fate, waits, sent, expired, withdrawn, Entry, isWaiting, isSent, having, become, due, sendFirst, simple}
+use Rattle.life.specs.Fates.{byTime}
 use Rattle.life.specs.Account.{tookBy, takenIn, handedBy, handedOver, fairly, Fair}
-use Rattle.life.proofs.Entries.{entry, by-entry}
+use Rattle.life.proofs.Entries.{entry, by-entry, due-by-time}
 use Rattle.life.proofs.Leaves.{Leaves, stays, joins, looks, sends, clears, hears, leaves, kept}
 
 abbrev packets : List Entry → List Packet
@@ -104,11 +106,7 @@ sent-send p ps =
     (λ o w. let z : _≡_ {A = ℕ} 0 1 = cc in absurd (omega arith)) (λ q es h o w. cc) (λ q es h o w. rw (h o w)) (λ q es h o w. h o w) (λ q es h o w. h o w)
 
 due-unsent : (time : ℕ) → Unsent (due time)
-due-unsent time p = by (lastsAt time (p .expiry))
-  where
-    by : (t : Bool) → isSent (cond t waits expired) ≡ false
-    by true = refl
-    by false = refl
+due-unsent time p = by-le (p .expiry) time (λ l. rw (le-ltb time (p .expiry) l)) (λ l. rw (lt-ltb time (p .expiry) l))
 
 sent-aged : (time : ℕ) (es : List Entry) → having isSent (aged time es) ≡ having isSent es
 sent-aged time = sent-become (due time) (due-unsent time)
@@ -157,11 +155,13 @@ fair-become new t time l n =
     (λ p es h f. (omega arith, h (f .1))) (λ p es h f. (tt, h (f .1)))
 
 due-fair : (time : ℕ) (p : Packet) → fairly time (p .expiry) (due time p)
-due-fair time p = by (lastsAt time (p .expiry)) refl
+due-fair time p = by (due time p) (due-by-time time p)
   where
-    by : (t : Bool) → lastsAt time (p .expiry) ≡ t → fairly time (p .expiry) (cond t waits expired)
-    by true e = ltb-true time (p .expiry) e
-    by false e = ltb-false time (p .expiry) e
+    by : (fate : Fate) → byTime time (p .expiry) fate → fairly time (p .expiry) fate
+    by waits l = l
+    by expired l = l
+    by sent l = tt
+    by withdrawn l = tt
 
 fair-aged : (time : ℕ) (st : State simple) → st .latest ≤ time → Fair (st .latest) (st .book) → Fair time (aged time (st .book))
 fair-aged time st t = fair-become (due time) (st .latest) time t (due-fair time) (st .book)

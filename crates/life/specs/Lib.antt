@@ -2,4 +2,5 @@ pub mod Life
 pub mod Machine
 pub mod Simple
 pub mod Agreement
+pub mod Fates
 pub mod Account
