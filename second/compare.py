@@ -11,9 +11,9 @@ import sys
 SECOND = pathlib.Path(__file__).resolve().parent
 ROOT = SECOND.parent
 # For each proved program: the generator of its random input with its words, and how many lines come before the answers.
-PROGRAMS = {"distance": (["distances.py"], 1), "session": (["scripts.py", "messages"], 0)}
-# The files that a command of the second implementation prints; `session` answers the lines about messages so far.
-MADE = {"crates/session/stdin": ["stored.py", "messages"], "docs/FLIGHT.md": ["flight_page.py"]}
+PROGRAMS = {"distance": (["distances.py"], 1), "session": (["scripts.py"], 0)}
+# The files that a command of the second implementation prints.
+MADE = {"crates/session/stdin": ["stored.py"], "docs/FLIGHT.md": ["flight_page.py"]}
 
 
 def run_second(program, text):

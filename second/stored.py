@@ -71,10 +71,7 @@ def test_broken():
 
 
 def main():
-    """Print the script; with the word `messages` its lines about messages, with `counts` how often each thing comes."""
-    if sys.argv[1:] == ["messages"]:
-        sys.stdout.buffer.write(b"\n".join(message_lines()))
-        return
+    """Print the script; with the word `counts` how often each thing comes in it."""
     script = b"\n".join(all_lines())
     counted = count_answers(script) + count_happenings(flight_lines())
     test_broken()

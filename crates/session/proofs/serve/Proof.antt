@@ -8,13 +8,18 @@ use Rattle.session.proofs.serve.Statement.{statement}
 use Rattle.session.proofs.serve.Tie as tie
 
 abbrev Inv-loop : tie.InvT-loop
-Inv-loop buffer₀ input₀ turns₀ t8 buffer input turns = length buffer ≡ length buffer₀
+Inv-loop buffer₀ memory₀ lent₀ output₀ out₀ held₀ input₀ turns₀ t13 buffer memory lent output out held input turns =
+    (length buffer ≡ length buffer₀) × (length memory ≡ length memory₀) × (length lent ≡ length lent₀) × (length output ≡ length output₀) × (length out ≡ length out₀)
 
 abbrev μ-loop : tie.MeasureT-loop
-μ-loop buffer₀ input₀ turns₀ t8 buffer input turns = turns
+μ-loop buffer₀ memory₀ lent₀ output₀ out₀ held₀ input₀ turns₀ t13 buffer memory lent output out held input turns =
+    turns
 
 inside : (c : tie.After-known-told Inv-loop μ-loop) → let line = c .before .from .given .0 in (line .0 ≤ line .1 .0) × (line .1 .0 ≤ length (c .before .before .before .before .before .before .loop .buffer))
 inside c = next-inside _ _ (sym (c .before .before .before .next .ensures) ∙ c .before .from .given .1)
+
+nothing-requires : tie.Need-nothing-requires Inv-loop μ-loop
+nothing-requires c κs = search needs
 
 start-requires : tie.Need-start-requires Inv-loop μ-loop
 start-requires c κs = search needs
@@ -46,6 +51,18 @@ enum-told-2 c = search needs
 same-length : tie.Need-same-length Inv-loop μ-loop
 same-length c = search needs
 
+same-length-2 : tie.Need-same-length-2 Inv-loop μ-loop
+same-length-2 c = search needs
+
+same-length-3 : tie.Need-same-length-3 Inv-loop μ-loop
+same-length-3 c = search needs
+
+same-length-4 : tie.Need-same-length-4 Inv-loop μ-loop
+same-length-4 c = search needs
+
+same-length-5 : tie.Need-same-length-5 Inv-loop μ-loop
+same-length-5 c = search needs
+
 returns : tie.Need-returns Inv-loop μ-loop
 returns c = search needs
 
@@ -53,13 +70,13 @@ enum-known-from : tie.Need-enum-known-from Inv-loop μ-loop
 enum-known-from c = search needs
 
 sub-say : tie.Need-sub-say Inv-loop μ-loop
-sub-say c = inside c .0
+sub-say c = inside (c .before) .0
 
 part-say-start : tie.Need-part-say-start Inv-loop μ-loop
-part-say-start c = inside (c .before) .0
+part-say-start c = inside (c .before .before) .0
 
 part-say-end : tie.Need-part-say-end Inv-loop μ-loop
-part-say-end c = inside (c .before) .1
+part-say-end c = inside (c .before .before) .1
 
 say-requires : tie.Need-say-requires Inv-loop μ-loop
 say-requires c κs = search needs
@@ -85,8 +102,20 @@ loop-less-3 c = search needs
 loop-again-3 : tie.Need-loop-again-3 Inv-loop μ-loop
 loop-again-3 c = search needs
 
-same-length-2 : tie.Need-same-length-2 Inv-loop μ-loop
-same-length-2 c = search needs
+same-length-6 : tie.Need-same-length-6 Inv-loop μ-loop
+same-length-6 c = search needs
+
+same-length-7 : tie.Need-same-length-7 Inv-loop μ-loop
+same-length-7 c = search needs
+
+same-length-8 : tie.Need-same-length-8 Inv-loop μ-loop
+same-length-8 c = search needs
+
+same-length-9 : tie.Need-same-length-9 Inv-loop μ-loop
+same-length-9 c = search needs
+
+same-length-10 : tie.Need-same-length-10 Inv-loop μ-loop
+same-length-10 c = search needs
 
 returns-2 : tie.Need-returns-2 Inv-loop μ-loop
 returns-2 c = search needs
@@ -97,6 +126,7 @@ serve-spec =
     (tie.spec
     Inv-loop
     μ-loop
+    nothing-requires
     start-requires
     loop-holds
     sub-turns
@@ -107,6 +137,10 @@ serve-spec =
     loop-again
     enum-told-2
     same-length
+    same-length-2
+    same-length-3
+    same-length-4
+    same-length-5
     returns
     enum-known-from
     sub-say
@@ -120,5 +154,9 @@ serve-spec =
     say-requires-2
     loop-less-3
     loop-again-3
-    same-length-2
+    same-length-6
+    same-length-7
+    same-length-8
+    same-length-9
+    same-length-10
     returns-2)

@@ -1,0 +1,2 @@
+-- The laws of the words, for the proofs of this crate.
+mod Laws
