@@ -16,11 +16,11 @@ use Rattle.meaning.specs.declared.message.Expiration.{Expiration}
 use Rattle.meaning.specs.declared.message.Control.{Control}
 use Rattle.meaning.specs.declared.message.Data.{Data}
 use Rattle.quantity.specs.declared.refusal.Refusal.{Refusal}
+use Rattle.judging.specs.declared.answer.Verdict.{Verdict}
+use Rattle.judging.specs.declared.answer.ControlReading.{ControlReading}
+use Rattle.judging.specs.Controls.{statusAbsent, sequenceAbsent, windowAbsent}
 use Rattle.reader.specs.declared.answer.PlaneAnswer.{PlaneAnswer}
-use Rattle.reader.specs.declared.answer.Verdict.{Verdict}
-use Rattle.reader.specs.declared.answer.ControlReading.{ControlReading}
 use Rattle.reader.specs.declared.answer.DataReading.{DataReading}
-use Rattle.reader.specs.Readings.{statusAbsent, sequenceAbsent, windowAbsent}
 
 abbrev pub endOf : Bool → End
 endOf true = End.Radio

@@ -35,7 +35,7 @@ pub fn end_of(radio: bool) -> End
 }
 
 // One part more.
-fn mix(sum: u64, part: u64) -> u64
+pub fn mix(sum: u64, part: u64) -> u64
     ensures { λ r. ⌜ r ≡ mixed sum part ⌝ }
 {
     let turned = sum % LOW * HIGH + sum / LOW;
@@ -215,7 +215,7 @@ pub fn is_accepted(verdict: Verdict) -> bool
 }
 
 // A refusal's number and place: the place needs the lower 17 bits.
-fn refused(refusal: Refusal) -> u64
+pub fn refused(refusal: Refusal) -> u64
     ensures { λ r. ⌜ r ≡ refusalOf refusal ⌝ }
 {
     mix(refusal.number as u64, refusal.place as u64)

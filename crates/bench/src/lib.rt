@@ -1,8 +1,10 @@
-// What one datagram is read as, folded into a number: exports to measure the readers from Rust or C (bench/).
+// What one datagram is read as, folded into a number: exports to measure the readers from Rust or C (bench/). A reader is asked as a caller asks it,
+// by the plane first: what the header refuses fills no message.
 ghost use mathlib.Core.Path.{_≡_};
 ghost use Rattle.reader.specs.Readings.{planeOf, readControl, readData, packetOf};
 ghost use Rattle.bench.specs.Digests.{endOf, planeDigest, controlDigest, dataDigest, packetDigest};
 use quantity::count::DatalinkId;
+use reader::answer::PlaneAnswer;
 use reader::control;
 use reader::data;
 use reader::header;
@@ -28,6 +30,9 @@ pub extern "C" fn nespovarda_control_digest(
 ) -> u64
     ensures { λ r. ⌜ r ≡ controlDigest channel (readControl (endOf radio) (record { 0 = id }) (now (datagram .entry))) ⌝ }
 {
+    if let PlaneAnswer::Refused(refusal) = header::plane(datagram) {
+        return digest::refused(refusal);
+    }
     let reading = control::read(datagram, digest::end_of(radio), DatalinkId(id));
     let verdict = reading.verdict;
     if !digest::is_accepted(verdict) {
@@ -42,6 +47,9 @@ pub extern "C" fn nespovarda_control_digest(
 pub extern "C" fn nespovarda_data_digest(datagram: &[u8], radio: bool, id: u8) -> u64
     ensures { λ r. ⌜ r ≡ dataDigest (readData (endOf radio) (record { 0 = id }) (now (datagram .entry))) ⌝ }
 {
+    if let PlaneAnswer::Refused(refusal) = header::plane(datagram) {
+        return digest::refused(refusal);
+    }
     let reading = data::read(datagram, digest::end_of(radio), DatalinkId(id));
     let verdict = reading.verdict;
     if !digest::is_accepted(verdict) {
@@ -56,6 +64,9 @@ pub extern "C" fn nespovarda_data_digest(datagram: &[u8], radio: bool, id: u8) -
 pub extern "C" fn nespovarda_packet_digest(datagram: &[u8], radio: bool, id: u8) -> u64
     ensures { λ r. ⌜ r ≡ packetDigest (readData (endOf radio) (record { 0 = id }) (now (datagram .entry))) (packetOf (now (datagram .entry))) ⌝ }
 {
+    if let PlaneAnswer::Refused(refusal) = header::plane(datagram) {
+        return digest::refused(refusal);
+    }
     let reading = data::read(datagram, digest::end_of(radio), DatalinkId(id));
     let verdict = reading.verdict;
     if !digest::is_accepted(verdict) {

@@ -20,7 +20,7 @@ use Rattle.meaning.specs.declared.message.SequenceCell.{SequenceCell}
 use Rattle.meaning.specs.Kinds.{among, DATALINK-IDENTIFIER, FLOW-SEQUENCE}
 use Rattle.meaning.proofs.Amongst.{clash}
 use Rattle.meaning.proofs.Tables.{noStatus, noSequence, noWindow}
-use Rattle.reader.specs.Stated.{tabulate}
+use Rattle.item.specs.Stated.{tabulate}
 use Rattle.account.proofs.Tables.{getD-tabulate, set-tabulate}
 use Rattle.allowed.specs.Allowed.{statusesAllowed, sequenceAllowed, sequencesAllowed, windowsAllowed, controlAllowed}
 use Rattle.laying.specs.Parts.{tableThen, sequenceThen}

@@ -1,9 +1,9 @@
 -- Document 01, "A channel's life": "Query: the IPS control message with a Flow Sequence for each flow-controlled channel".
 use Prim.Native.Nat.{ℕ}
-use mathlib.Core.Bool.{Bool, cond, _&&_}
+use mathlib.Core.Bool.{cond, _&&_}
 use mathlib.Core.List.{List, [], _∷_}
 use lib.ListN.{replicate}
-use Rattle.reader.specs.Stated.{tabulate}
+use Rattle.item.specs.Stated.{tabulate}
 use lib.Dec.{eqb}
 use Rattle.quantity.specs.Limits.{CHANNEL-IDS}
 use Rattle.meaning.specs.declared.message.Datalink.{Datalink}

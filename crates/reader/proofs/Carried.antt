@@ -11,8 +11,9 @@ use Rattle.wire.specs.declared.option.Frame.the-variants.{Cut, Whole}
 use Rattle.wire.specs.Options.{frameOf, split}
 use Rattle.wire.proofs.Options.{split-end, split-cut, split-whole}
 use Rattle.meaning.specs.Kinds.{PACKET-DATA}
+use Rattle.item.proofs.Contents.{rest-part}
+use Rattle.judging.proofs.Turn.{reaches}
 use Rattle.reader.specs.Readings.{packetIn}
-use Rattle.reader.proofs.Turn.{rest-part, reaches}
 
 -- packet: what the datagram carries; at: an option's first byte
 module _ {packet : List ℕ} (s : List ℕ) (at : ℕ) (inv : packet ≡ packetIn (split (drop at s))) where

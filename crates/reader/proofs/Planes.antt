@@ -1,4 +1,4 @@
--- A reader by the plane of its datagram, for any sort of message. Assumes nothing.
+-- A reader by the plane of its datagram, for any sort of message; and what a caller who asks for the plane first knows. Assumes nothing.
 use Prim.Native.Nat.{ℕ}
 use mathlib.Core.Path.{_≡_, refl, sym, _∙_}
 use mathlib.Core.List.{List}
@@ -7,12 +7,17 @@ use native.Mathlib.Omega.{arith}
 use borrow.Author.Tests.{eqb-true, eqb-false}
 use lib.ListN.{length, getD, drop}
 use lib.Dec.{eqb, ltb}
+use Rattle.quantity.specs.declared.count.DatalinkId.{DatalinkId}
+use Rattle.quantity.specs.declared.refusal.Refusal.{Refusal}
 use Rattle.quantity.specs.Limits.{LONGEST-DATAGRAM}
 use Rattle.quantity.specs.Refusals.{LONG-DATAGRAM, HEADER}
 use Rattle.wire.specs.Options.{split}
+use Rattle.meaning.specs.declared.message.End.{End}
+use Rattle.judging.specs.Judging.{Rules, judge, CURRENT-VERSION, versionOf, flagOf, flag, readWith}
+use Rattle.judging.specs.Sorts.{rulesOf}
+use Rattle.judging.specs.Controls.{controlRefused, controlSort}
 use Rattle.reader.specs.declared.answer.PlaneAnswer.{PlaneAnswer}
-use Rattle.reader.specs.Judging.{Rules, judge, CURRENT-VERSION, versionOf, flagOf, flag, readWith}
-use Rattle.reader.specs.Readings.{planeOf}
+use Rattle.reader.specs.Readings.{dataRefused, dataSort, readControl, readData, planeOf}
 
 module _ {A B : Type 0} (R : Rules A B) (s : List ℕ) where
   -- the options, if a Data Plane flag is that of the plane
@@ -36,3 +41,11 @@ module _ {A B : Type 0} (R : Rules A B) (s : List ℕ) where
       go false false false clear q = refl
       go false false true true q = rw (eqb-true (flagOf (getD s 0 0)) 0 q)
       go false false true false q = let n = eqb-false (flagOf (getD s 0 0)) 0 q in let one : flagOf (getD s 0 0) ≡ 1 = omega arith in rw one
+
+-- ---- for a caller who goes by the plane first
+
+-- what 1 or 2 refuses, each reader refuses by the same number and place
+pub plane-refuses : (end : End) (id : DatalinkId) (s : List ℕ) {r : Refusal} → planeOf s ≡ PlaneAnswer.Refused r
+    → (readControl end id s ≡ controlRefused (r .number) (r .place)) × (readData end id s ≡ dataRefused (r .number) (r .place))
+unfolding readControl readData
+plane-refuses end id s e = (sym (by-plane (rulesOf (controlSort end id)) s e), sym (by-plane (rulesOf (dataSort end id)) s e))

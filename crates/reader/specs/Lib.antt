@@ -1,5 +1,1 @@
-pub mod Judging
-pub mod Sorts
-pub mod Stated
 pub mod Readings
-pub mod Items

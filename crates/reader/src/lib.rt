@@ -3,5 +3,4 @@ pub mod answer;
 pub mod control;
 pub mod data;
 pub mod header;
-pub mod option;
 pub mod packet;

@@ -15,9 +15,9 @@ use Rattle.meaning.specs.declared.message.End.{End}
 use Rattle.meaning.specs.declared.message.Plane.{Plane}
 use Rattle.meaning.specs.declared.message.Datalink.{Datalink}
 use Rattle.meaning.specs.Kinds.{among, known, lengthListed, valueListed, mayHold, DATALINK-IDENTIFIER, PACKET-DATA}
-use Rattle.reader.specs.Judging.{next, judge, readWith, versionOf, flagOf, flag, CURRENT-VERSION}
-use Rattle.reader.specs.Sorts.{Sort, faultOf, channelOf, stepOf, rulesOf}
-use Rattle.reader.specs.Stated.{datalinkFrom}
+use Rattle.item.specs.Stated.{datalinkFrom}
+use Rattle.judging.specs.Judging.{next, judge, readWith, versionOf, flagOf, flag, CURRENT-VERSION}
+use Rattle.judging.specs.Sorts.{Sort, faultOf, channelOf, stepOf, rulesOf}
 use Rattle.reader.specs.Readings.{packetIn}
 use Rattle.laying.specs.Parts.{datalinkThen}
 

@@ -27,10 +27,11 @@ use Rattle.meaning.specs.declared.message.SequenceCell.{SequenceCell}
 use Rattle.meaning.specs.declared.message.WindowCell.{WindowCell}
 use Rattle.meaning.specs.declared.message.Control.{Control}
 use Rattle.meaning.specs.Kinds.{among, known, lengthListed, valueListed, LINK-INSTANCE, DATALINK-CONTEXT, CHANNEL-STATUS, FLOW-WINDOW, FLOW-SEQUENCE, PACKET-DATA}
-use Rattle.reader.specs.Judging.{judge}
-use Rattle.reader.specs.Sorts.{channelOf, finishOf}
-use Rattle.reader.specs.Stated.{statusFrom, sequenceFrom, windowFrom, controlStated}
-use Rattle.reader.specs.Readings.{blankControl, controlSort, controlAccepted, readControl, unstatedStatus, controlUnstated, controlState, statusAbsent, sequenceAbsent, windowAbsent}
+use Rattle.item.specs.Stated.{statusFrom, sequenceFrom, windowFrom, controlStated}
+use Rattle.judging.specs.Judging.{judge}
+use Rattle.judging.specs.Sorts.{channelOf, finishOf}
+use Rattle.judging.specs.Controls.{blankControl, controlSort, controlAccepted, unstatedStatus, controlUnstated, controlState, statusAbsent, sequenceAbsent, windowAbsent}
+use Rattle.reader.specs.Readings.{readControl}
 use Rattle.allowed.specs.Allowed.{may, fitsLength, datalinkAllowed, instanceAllowed, contextAllowed, statusAllowed, statusesAllowed, primaryAllowed, sequenceAllowed, sequencesAllowed, windowAllowed, windowsAllowed, controlAllowed, stands}
 use Rattle.laying.specs.Parts.{datalinkThen, instanceThen, contextThen, statusThen, sequenceThen, windowThen, statusesThen, sequencesThen, windowsThen}
 use Rattle.writer.specs.Written.{controlOptions, controlWritten, CONTROL-HEADER}

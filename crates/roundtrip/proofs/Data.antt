@@ -19,11 +19,11 @@ use Rattle.meaning.specs.declared.message.Channel.{Channel}
 use Rattle.meaning.specs.declared.message.Expiration.{Expiration}
 use Rattle.meaning.specs.declared.message.Data.{Data}
 use Rattle.meaning.specs.Kinds.{among, lengthListed, valueListed, mayHold, CHANNEL-IDENTIFIER, EXPIRATION-TIME, FLOW-SEQUENCE, PACKET-DATA}
+use Rattle.item.specs.Stated.{dataStated}
+use Rattle.judging.specs.declared.answer.Verdict.{Verdict}
+use Rattle.judging.specs.Judging.{judge}
+use Rattle.judging.specs.Sorts.{finishOf}
 use Rattle.reader.specs.declared.answer.DataReading.{DataReading}
-use Rattle.reader.specs.declared.answer.Verdict.{Verdict}
-use Rattle.reader.specs.Judging.{judge}
-use Rattle.reader.specs.Sorts.{finishOf}
-use Rattle.reader.specs.Stated.{dataStated}
 use Rattle.reader.specs.Readings.{Gathered, pairs, blankData, dataUnstated, dataState, dataAccepted, dataSort, readData, packetIn, packetOf}
 use Rattle.allowed.specs.Allowed.{may, datalinkAllowed, countedAllowed, channelAllowed, expirationAllowed, dataAllowed}
 use Rattle.laying.specs.Parts.{datalinkThen, countedThen, channelThen, expirationThen}

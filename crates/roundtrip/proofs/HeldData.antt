@@ -14,7 +14,7 @@ use Rattle.wire.proofs.Numbers.{big-endian-below}
 use Rattle.meaning.specs.declared.message.End.{End}
 use Rattle.meaning.specs.declared.message.Plane.the-variants as planes
 use Rattle.meaning.specs.Kinds.{among, known, lengthListed, valueListed, CHANNEL-IDENTIFIER, EXPIRATION-TIME, FLOW-SEQUENCE}
-use Rattle.reader.specs.Stated.{Table, channelFrom, expirationFrom, countedFrom, dataStated}
+use Rattle.item.specs.Stated.{Table, channelFrom, expirationFrom, countedFrom, dataStated}
 use Rattle.reader.specs.Readings.{packetOf}
 use Rattle.account.specs.Account.{tableOf, SameChannel, Accepts, dataMeaning}
 use Rattle.allowed.specs.Allowed.{countedAllowed, channelAllowed, expirationAllowed, dataAllowed}

@@ -18,8 +18,9 @@ use Rattle.meaning.specs.declared.message.End.{End}
 use Rattle.meaning.specs.declared.message.Datalink.{Datalink}
 use Rattle.meaning.specs.declared.message.Control.{Control}
 use Rattle.meaning.specs.declared.message.Data.{Data}
-use Rattle.reader.specs.declared.answer.Verdict.{Verdict}
-use Rattle.reader.specs.Readings.{controlAccepted, readControl, readData, packetOf}
+use Rattle.judging.specs.declared.answer.Verdict.{Verdict}
+use Rattle.judging.specs.Controls.{controlAccepted}
+use Rattle.reader.specs.Readings.{readControl, readData, packetOf}
 use Rattle.writer.specs.declared.answer.WriteAnswer.{WriteAnswer}
 use Rattle.allowed.specs.Allowed.{controlAllowed, dataAllowed}
 use Rattle.writer.specs.Written.{controlWritten, dataWritten, Outcome}

@@ -18,7 +18,7 @@ use Rattle.meaning.specs.declared.message.Plane.{Plane}
 use Rattle.meaning.specs.declared.message.Plane.the-variants as planes
 use Rattle.meaning.specs.Kinds.{lengthListed, DATALINK-IDENTIFIER, PACKET-DATA, CHANNEL-IDENTIFIER, EXPIRATION-TIME, FLOW-SEQUENCE}
 use Rattle.meaning.proofs.Amongst.{Each}
-use Rattle.reader.specs.Stated.{Table, datalinkFrom, countedFrom, channelFrom, expirationFrom, dataStated}
+use Rattle.item.specs.Stated.{Table, datalinkFrom, countedFrom, channelFrom, expirationFrom, dataStated}
 use Rattle.reader.specs.Readings.{packetOf}
 use Rattle.account.specs.Account.{isAt, speaksFor, the, tableOf, Accepts, dataMeaning}
 use Rattle.account.proofs.Data.{data-packet}

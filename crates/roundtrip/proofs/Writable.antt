@@ -12,11 +12,12 @@ use Rattle.wire.specs.Numbers.{Octets}
 use Rattle.wire.specs.Options.{Options}
 use Rattle.meaning.specs.declared.message.End.{End}
 use Rattle.meaning.specs.declared.message.Plane.the-variants as planes
-use Rattle.reader.specs.declared.answer.ControlReading.{ControlReading}
+use Rattle.item.specs.Stated.{controlStated, dataStated}
+use Rattle.judging.specs.declared.answer.ControlReading.{ControlReading}
+use Rattle.judging.specs.declared.answer.Verdict.{Verdict}
+use Rattle.judging.specs.Controls.{controlAccepted}
 use Rattle.reader.specs.declared.answer.DataReading.{DataReading}
-use Rattle.reader.specs.declared.answer.Verdict.{Verdict}
-use Rattle.reader.specs.Stated.{controlStated, dataStated}
-use Rattle.reader.specs.Readings.{controlAccepted, readControl, readData, packetOf}
+use Rattle.reader.specs.Readings.{readControl, readData, packetOf}
 use Rattle.account.specs.Account.{Accepts, controlMeaning, dataMeaning}
 use Rattle.account.proofs.Control.{control-account}
 use Rattle.account.proofs.Data.{data-account}

@@ -6,7 +6,7 @@ use lib.ListN.{length}
 use Rattle.quantity.specs.declared.count.DatalinkId.{DatalinkId}
 use Rattle.meaning.specs.declared.message.End.{End}
 use Rattle.text.specs.Strings.{bytesText}
-use Rattle.reader.specs.declared.answer.ControlReading.{ControlReading}
+use Rattle.judging.specs.declared.answer.ControlReading.{ControlReading}
 use Rattle.reader.specs.declared.answer.DataReading.{DataReading}
 use Rattle.allowed.specs.Allowed.{controlAllowed, dataAllowed}
 use Rattle.writer.specs.declared.answer.WriteAnswer.{WriteAnswer}

@@ -7,7 +7,7 @@ use borrow.Author.Needs.{needs}
 use lib.ListN.{length, getD, List·getD-eq-default}
 use Rattle.quantity.specs.Limits.{CHANNEL-IDS}
 use Rattle.meaning.proofs.Tables.{length-mapped, Full}
-use Rattle.reader.specs.Readings.{statusAbsent, sequenceAbsent, windowAbsent}
+use Rattle.judging.specs.Controls.{statusAbsent, sequenceAbsent, windowAbsent}
 use Rattle.bench.specs.Digests.{datalinkPart, instancePart, instanceLength, contextPart, contextLength, mixedAll, controlSum}
 use Rattle.bench.proofs.digest.control_sum.Statement.{statement}
 use Rattle.bench.proofs.digest.control_sum.Tie as tie

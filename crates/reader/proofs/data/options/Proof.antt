@@ -5,13 +5,13 @@ use Prim.Native.Nat.{_-_}
 use mathlib.Core.Path.{_≡_, refl, sym, _∙_}
 use lib.ListN.{length, drop}
 use Rattle.wire.specs.Options.{split}
-use Rattle.reader.specs.Judging.{judge}
-use Rattle.reader.specs.Sorts.{Sort, rulesOf}
-use Rattle.reader.specs.Stated.{dataStated}
+use Rattle.item.specs.Stated.{dataStated}
+use Rattle.judging.specs.Judging.{judge}
+use Rattle.judging.specs.Sorts.{Sort, rulesOf}
+use Rattle.judging.proofs.Turn.{ends, cuts}
+use Rattle.judging.proofs.Taking.{Framed, Parting, room-of, behind, faulty, parting}
 use Rattle.reader.specs.declared.answer.DataReading.{DataReading}
 use Rattle.reader.specs.Readings.{Gathered, blankData, dataSort}
-use Rattle.reader.proofs.Turn.{ends, cuts}
-use Rattle.reader.proofs.Taking.{Framed, Parting, room-of, behind, faulty, parting}
 use Rattle.reader.proofs.Gathering.{gathered, add, adding, passed-over}
 use Rattle.reader.proofs.data.options.Statement.{statement}
 use Rattle.reader.proofs.data.options.Tie as tie

@@ -1,0 +1,2 @@
+-- The laws of one option's answer, for this crate's proofs.
+pub mod Contents
