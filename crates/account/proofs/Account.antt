@@ -14,11 +14,11 @@ use Rattle.quantity.specs.Refusals.{LONG-DATAGRAM, HEADER, CUT}
 use Rattle.wire.specs.Numbers.{Octets}
 use Rattle.wire.specs.Options.{Options, done, cut, option, bytes, split}
 use Rattle.wire.proofs.Options.{bytes-split}
-use Rattle.reader.specs.declared.answer.Verdict.{Verdict}
-use Rattle.reader.specs.Judging.{Step, next, stop, judge, afterStep, CURRENT-VERSION, versionOf, flagOf, flag, readWith}
-use Rattle.reader.specs.Sorts.{Sort, stepOf, rulesOf}
-use Rattle.reader.specs.Stated.{Table}
-use Rattle.reader.specs.Readings.{nothing}
+use Rattle.item.specs.Stated.{Table}
+use Rattle.judging.specs.declared.answer.Verdict.{Verdict}
+use Rattle.judging.specs.Judging.{Step, next, stop, judge, afterStep, CURRENT-VERSION, versionOf, flagOf, flag, readWith}
+use Rattle.judging.specs.Sorts.{Sort, stepOf, rulesOf}
+use Rattle.judging.specs.Controls.{nothing}
 use Rattle.account.specs.Account.{tableOf, Accepts}
 use Rattle.account.proofs.Seats.{adding}
 use Rattle.account.proofs.Body.{Opens, plus, plus-done, plus-option, Allowed, allowed-done, allowed-option}

@@ -13,8 +13,7 @@ use Rattle.wire.specs.Options.{Options, done, cut, option}
 use Rattle.meaning.specs.declared.message.End.{End}
 use Rattle.meaning.specs.declared.message.Plane.{Plane}
 use Rattle.meaning.specs.Kinds.{among, standsLast, mustHold}
-use Rattle.reader.specs.Stated.{Table}
-use Rattle.reader.specs.Readings.{nothing}
+use Rattle.item.specs.Stated.{Table}
 use Rattle.account.specs.Account.{All, Listed, isAt, speaksFor, one, speaks, count, the, Ending, Filled, Paired, Ours}
 use Rattle.meaning.proofs.Amongst.{clash}
 use Rattle.account.proofs.Lists.{last-speaks}
@@ -34,7 +33,7 @@ or-none : (x : Option (List ℕ)) → or x none ≡ x
 or-none none = refl
 or-none (some content) = refl
 
-at-most : (x : Option (List ℕ)) → taken x + 0 ≤ 1
+pub at-most : (x : Option (List ℕ)) → taken x + 0 ≤ 1
 at-most none = omega arith
 at-most (some content) = omega arith
 
@@ -79,7 +78,7 @@ module _ (plane : Plane) (end : End) where
     unfolding the count
     plus-option f room = λ i k n. same (speaks plane end k n kind content) (τ k n) (the plane end k n f) content (count plane end k n f) (room k n) i
 
-    room-option : (f : Options) → Room τ (option kind content f) ↔ Free plane end kind content τ × Room (adding plane end kind content τ) f
+    pub room-option : (f : Options) → Room τ (option kind content f) ↔ Free plane end kind content τ × Room (adding plane end kind content τ) f
     unfolding count
     room-option f = ((λ room. ((λ k n. seat k n .0 (room k n) .0), λ k n. seat k n .0 (room k n) .1)), λ h k n. seat k n .1 (h .0 k n, h .1 k n))
       where
@@ -88,7 +87,7 @@ module _ (plane : Plane) (end : End) where
         seat k n = sits (speaks plane end k n kind content) (τ k n) content (count plane end k n f)
 
     -- no option stands behind one that stands last
-    still-open : (f : Options) → Open plane τ → (among kind (standsLast plane) ≡ true → f ≡ done) → Opens (adding plane end kind content τ) f
+    pub still-open : (f : Options) → Open plane τ → (among kind (standsLast plane) ≡ true → f ≡ done) → Opens (adding plane end kind content τ) f
     still-open done o h = tt
     still-open (cut rest) o h = tt
     still-open (option u d f) o h = λ k q. go k q (eqb k kind) refl
@@ -98,7 +97,7 @@ module _ (plane : Plane) (end : End) where
         go k q false e = o k q
         go k q true e = let x : option u d f ≡ done = h (rw (eqb-true k kind e) at q) in let z : _≡_ {A = ℕ} 0 1 = cc in absurd (omega arith)
 
-    ended : (f : Options) → All (Listed plane end) f → Opens (adding plane end kind content τ) f → among kind (standsLast plane) ≡ true → f ≡ done
+    pub ended : (f : Options) → All (Listed plane end) f → Opens (adding plane end kind content τ) f → among kind (standsLast plane) ≡ true → f ≡ done
     ended done l o h = refl
     ended (cut rest) l o h = absurd l
     ended (option u d f) l o h = taken-free (rw (last-speaks plane end content kind h, eq-eqb kind kind refl) at (o kind h))

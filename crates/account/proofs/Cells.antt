@@ -15,11 +15,11 @@ use Rattle.quantity.specs.Refusals.{LENGTH, VALUE, UNLISTED, REPEATED, BEHIND-P
 use Rattle.meaning.specs.declared.message.End.{End}
 use Rattle.meaning.specs.declared.message.Plane.{Plane}
 use Rattle.meaning.specs.Kinds.{among, known, naming, lengthListed, valueListed, mayHold, oneForEach, mustHold}
-use Rattle.reader.specs.declared.answer.Verdict.{Verdict}
-use Rattle.reader.specs.Judging.{Step, next, stop}
-use Rattle.reader.specs.Sorts.{Sort, faultOf, channelOf, stepOf, missing, finishOf}
-use Rattle.reader.specs.Stated.{Table}
-use Rattle.reader.specs.Readings.{nothing}
+use Rattle.item.specs.Stated.{Table}
+use Rattle.judging.specs.declared.answer.Verdict.{Verdict}
+use Rattle.judging.specs.Judging.{Step, next, stop}
+use Rattle.judging.specs.Sorts.{Sort, faultOf, channelOf, stepOf, missing, finishOf}
+use Rattle.judging.specs.Controls.{nothing}
 use Rattle.account.specs.Account.{Listed, Filled, Paired, Ours}
 use Rattle.meaning.proofs.Amongst.{clash, Each}
 use Rattle.account.proofs.Lists.{each-names, must-may, unknown-listed}
@@ -53,7 +53,7 @@ module _ (plane : Plane) (end : End) (kind : ℕ) (content : List ℕ) where
       go false p = refl
       go true p = rw (l .kind-listed p, l .length-listed p, l .value-listed p)
 
-  listed : faultOf (mayHold plane end) kind content ≡ 0 → Listed plane end kind content
+  pub listed : faultOf (mayHold plane end) kind content ≡ 0 → Listed plane end kind content
   unfolding faultOf
   listed e = go (among kind known) refl (among kind (mayHold plane end)) refl (lengthListed kind (length content)) refl (valueListed kind content) refl e
     where
@@ -67,7 +67,7 @@ module _ (plane : Plane) (end : End) (kind : ℕ) (content : List ℕ) where
       go true p false q w r x s z = absurd (omega arith)
 
   -- its channel is one of a table's places
-  in-range : Listed plane end kind content → among kind known ≡ true → channelOf plane kind content < CHANNEL-IDS
+  pub in-range : Listed plane end kind content → among kind known ≡ true → channelOf plane kind content < CHANNEL-IDS
   unfolding valueListed
   in-range l u = go (among kind (oneForEach plane)) refl
     where

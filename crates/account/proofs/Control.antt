@@ -20,11 +20,12 @@ use Rattle.meaning.specs.declared.message.StatusCell.{StatusCell}
 use Rattle.meaning.specs.declared.message.SequenceCell.{SequenceCell}
 use Rattle.meaning.specs.declared.message.WindowCell.{WindowCell}
 use Rattle.meaning.specs.Kinds.{among, mayHold, DATALINK-IDENTIFIER, LINK-INSTANCE, DATALINK-CONTEXT, CHANNEL-STATUS, FLOW-WINDOW, FLOW-SEQUENCE}
-use Rattle.reader.specs.declared.answer.Verdict.{Verdict}
-use Rattle.reader.specs.Judging.{CURRENT-VERSION, versionOf, flagOf, flag}
-use Rattle.reader.specs.Sorts.{channelOf}
-use Rattle.reader.specs.Stated.{Table, datalinkFrom, instanceFrom, contextFrom, statusFrom, sequenceFrom, windowFrom, controlStated, tabulate}
-use Rattle.reader.specs.Readings.{unstatedDatalink, unstatedInstance, unstatedContext, unstatedStatus, unstatedSequence, unstatedWindow, statusAbsent, sequenceAbsent, windowAbsent, controlUnstated, controlState, blankControl, controlRefused, controlAccepted, controlOther, controlSort, readControl}
+use Rattle.item.specs.Stated.{Table, datalinkFrom, instanceFrom, contextFrom, statusFrom, sequenceFrom, windowFrom, controlStated, tabulate}
+use Rattle.judging.specs.declared.answer.Verdict.{Verdict}
+use Rattle.judging.specs.Judging.{CURRENT-VERSION, versionOf, flagOf, flag}
+use Rattle.judging.specs.Sorts.{channelOf}
+use Rattle.judging.specs.Controls.{unstatedDatalink, unstatedInstance, unstatedContext, unstatedStatus, unstatedSequence, unstatedWindow, statusAbsent, sequenceAbsent, windowAbsent, controlUnstated, controlState, blankControl, controlRefused, controlAccepted, controlOther, controlSort}
+use Rattle.reader.specs.Readings.{readControl}
 use Rattle.account.specs.Account.{Ending, Accepts, controlMeaning, Shuffled}
 use Rattle.meaning.proofs.Amongst.{clash, Each, amongst}
 use Rattle.account.proofs.Seats.{vacant, put}
@@ -87,7 +88,7 @@ control-alike τ σ alike = λ i. record {
 }
 
 module _ (end : End) (id : DatalinkId) where
-  cells : Cells (controlSort end id) id controlStated
+  pub cells : Cells (controlSort end id) id controlStated
   unfolding blankControl controlStated controlRefused controlAccepted controlOther
   cells = record {
     verdict = λ r. r .verdict;

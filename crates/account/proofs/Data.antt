@@ -17,11 +17,12 @@ use Rattle.meaning.specs.declared.message.End.{End}
 use Rattle.meaning.specs.declared.message.End.the-variants.{Ips, Radio}
 use Rattle.meaning.specs.declared.message.Plane.the-variants as planes
 use Rattle.meaning.specs.Kinds.{among, mayHold, standsLast, DATALINK-IDENTIFIER, PACKET-DATA, CHANNEL-IDENTIFIER, EXPIRATION-TIME, FLOW-SEQUENCE}
-use Rattle.reader.specs.declared.answer.Verdict.{Verdict}
-use Rattle.reader.specs.Judging.{CURRENT-VERSION, versionOf, flagOf, flag}
-use Rattle.reader.specs.Sorts.{channelOf}
-use Rattle.reader.specs.Stated.{Table, datalinkFrom, channelFrom, expirationFrom, countedFrom, dataStated}
-use Rattle.reader.specs.Readings.{unstatedDatalink, unstatedCounted, unstatedChannel, unstatedExpiration, Gathered, given, dataUnstated, dataState, pairs, blankData, dataRefused, dataAccepted, dataOther, dataSort, readData, packetIn, packetOf}
+use Rattle.item.specs.Stated.{Table, datalinkFrom, channelFrom, expirationFrom, countedFrom, dataStated}
+use Rattle.judging.specs.declared.answer.Verdict.{Verdict}
+use Rattle.judging.specs.Judging.{CURRENT-VERSION, versionOf, flagOf, flag}
+use Rattle.judging.specs.Sorts.{channelOf}
+use Rattle.judging.specs.Controls.{unstatedDatalink}
+use Rattle.reader.specs.Readings.{unstatedCounted, unstatedChannel, unstatedExpiration, Gathered, given, dataUnstated, dataState, pairs, blankData, dataRefused, dataAccepted, dataOther, dataSort, readData, packetIn, packetOf}
 use Rattle.account.specs.Account.{speaks, the, tableOf, Ending, SameChannel, Accepts, dataMeaning, Shuffled}
 use Rattle.meaning.proofs.Amongst.{clash, Each, amongst}
 use Rattle.account.proofs.Lists.{last-speaks}
@@ -84,7 +85,7 @@ data-alike τ σ alike = λ i. record {
 }
 
 module _ (end : End) (id : DatalinkId) where
-  cells : Cells (dataSort end id) id gathered
+  pub cells : Cells (dataSort end id) id gathered
   unfolding blankData dataStated dataRefused dataAccepted dataOther
   cells = record {
     verdict = λ r. r .verdict;

@@ -2,7 +2,7 @@
 use Rattle.quantity.specs.Distance.{distanceOf, fitsOf}
 use Rattle.wire.specs.Numbers.{numberFrom}
 use Rattle.meaning.specs.Kinds.{lengthListed, valueListed}
-use Rattle.reader.specs.Items.{itemOf, statedOf, answerOf}
+use Rattle.item.specs.Items.{itemOf, statedOf, answerOf}
 use Rattle.account.specs.Examples.{AllRight, table}
 
 pub table-right : AllRight table

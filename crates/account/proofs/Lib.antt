@@ -1,5 +1,6 @@
 -- The account of an accepted message. The promises: in Control and Data, what is accepted, what it means, and that order, unused bits and skipped
--- options carry no meaning; in Own, that its options are unique; in Standing, that what is looked up stands there; in Examples, the starred rows.
+-- options carry no meaning; in Own, that its options are unique; in Standing, that what is looked up stands there; in Examples, the starred rows;
+-- in Verdicts, by which numbers a message is refused; in Places, at which place; in OnePlace, that no other place would do.
 pub mod Lists
 pub mod Seats
 pub mod Body
@@ -13,3 +14,6 @@ pub mod Ours
 pub mod Control
 pub mod Data
 pub mod Examples
+pub mod Verdicts
+pub mod Places
+pub mod OnePlace

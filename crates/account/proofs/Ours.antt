@@ -5,7 +5,7 @@ use mathlib.Core.Bool.{true}
 use borrow.Author.Tests.{eq-eqb, eqb-true}
 use Rattle.quantity.specs.declared.count.DatalinkId.{DatalinkId}
 use Rattle.meaning.specs.declared.message.Datalink.{Datalink}
-use Rattle.reader.specs.Readings.{isOurs}
+use Rattle.judging.specs.Controls.{isOurs}
 use Rattle.meaning.proofs.Amongst.{clash}
 
 pub ours : (id : DatalinkId) (x : Datalink) → x ≡ Datalink.Given id ↔ isOurs id x ≡ true

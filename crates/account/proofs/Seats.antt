@@ -10,8 +10,8 @@ use lib.Dec.{eqb}
 use Rattle.meaning.specs.declared.message.End.{End}
 use Rattle.meaning.specs.declared.message.Plane.{Plane}
 use Rattle.meaning.specs.Kinds.{among, known, mayHold}
-use Rattle.reader.specs.Sorts.{channelOf}
-use Rattle.reader.specs.Stated.{Table}
+use Rattle.item.specs.Stated.{Table}
+use Rattle.judging.specs.Sorts.{channelOf}
 use Rattle.account.specs.Account.{speaks}
 use Rattle.meaning.proofs.Amongst.{clash}
 

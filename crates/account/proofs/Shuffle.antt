@@ -16,9 +16,9 @@ use Rattle.meaning.specs.declared.message.Plane.{Plane}
 use Rattle.meaning.specs.declared.message.Plane.the-variants as planes
 use Rattle.meaning.specs.declared.message.Status.{Status}
 use Rattle.meaning.specs.Kinds.{valueListed, mustHold, DATALINK-IDENTIFIER, CHANNEL-STATUS, CHANNEL-IDENTIFIER, FLOW-SEQUENCE}
-use Rattle.reader.specs.Judging.{CURRENT-VERSION, versionOf, flagOf, flag, readWith}
-use Rattle.reader.specs.Sorts.{Sort, rulesOf}
-use Rattle.reader.specs.Stated.{Table, statusFrom}
+use Rattle.item.specs.Stated.{Table, statusFrom}
+use Rattle.judging.specs.Judging.{CURRENT-VERSION, versionOf, flagOf, flag, readWith}
+use Rattle.judging.specs.Sorts.{Sort, rulesOf}
 use Rattle.account.specs.Account.{All, Listed, isAt, speaksFor, one, speaks, count, the, tableOf, Ending, Filled, Paired, Accepts, Shuffled}
 use Rattle.account.proofs.Lists.{unknown-listed}
 use Rattle.account.proofs.Seats.{taken-free, silent}

@@ -7,7 +7,7 @@ use mathlib.Core.Bool.{Bool, true, false, cond}
 use native.Mathlib.Omega.{arith}
 use lib.Dec.{eqb, eqb·zero-suc, eqb·suc-zero, eqb·suc-suc}
 use lib.ListN.{getD, set}
-use Rattle.reader.specs.Stated.{tabulate}
+use Rattle.item.specs.Stated.{tabulate}
 use Rattle.account.proofs.Seats.{vacant}
 
 -- a test that holds of what no content states, and of no other

@@ -17,9 +17,9 @@ use Rattle.meaning.specs.declared.message.Datalink.{Datalink}
 use Rattle.meaning.specs.declared.message.Control.{Control}
 use Rattle.meaning.specs.declared.message.Data.{Data}
 use Rattle.meaning.specs.Kinds.{among, known, lengthListed, valueListed, mayHold, mustHold, standsLast, DATALINK-IDENTIFIER, CHANNEL-STATUS, CHANNEL-IDENTIFIER, FLOW-SEQUENCE}
-use Rattle.reader.specs.Judging.{CURRENT-VERSION, versionOf, flagOf, flag}
-use Rattle.reader.specs.Sorts.{channelOf}
-use Rattle.reader.specs.Stated.{Table, datalinkFrom, controlStated, dataStated}
+use Rattle.item.specs.Stated.{Table, datalinkFrom, controlStated, dataStated}
+use Rattle.judging.specs.Judging.{CURRENT-VERSION, versionOf, flagOf, flag}
+use Rattle.judging.specs.Sorts.{channelOf}
 
 -- every option has the property, and nothing is cut off
 abbrev pub All : (ℕ → List ℕ → Type 0) → Options → Type 0

@@ -10,10 +10,10 @@ use Rattle.meaning.specs.declared.message.Status.{Status}
 use Rattle.meaning.specs.declared.message.Window.{Window}
 use Rattle.meaning.specs.Kinds.{CHANNEL-STATUS, FLOW-WINDOW}
 use Rattle.meaning.specs.Statuses.{operational, unknown}
-use Rattle.reader.specs.declared.answer.Item.{Item}
-use Rattle.reader.specs.declared.answer.OptionAnswer.{OptionAnswer}
-use Rattle.reader.specs.declared.answer.OptionAnswer.the-variants.{Took, Refused}
-use Rattle.reader.specs.Items.{answerOf}
+use Rattle.item.specs.declared.answer.Item.{Item}
+use Rattle.item.specs.declared.answer.OptionAnswer.{OptionAnswer}
+use Rattle.item.specs.declared.answer.OptionAnswer.the-variants.{Took, Refused}
+use Rattle.item.specs.Items.{answerOf}
 
 pub data Row : Type 0 where
   counting : counts.Row → Row

@@ -1,2 +1,4 @@
 pub mod Account
+pub mod Numbers
+pub mod Places
 pub mod Examples
