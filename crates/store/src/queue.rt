@@ -74,6 +74,7 @@ pub(crate) fn append(queue: Queue, entry: Entry) -> Queue
 }
 
 // The entries from an index on that are not expired, in their order.
+// Each is stored in place: `append` would copy the queue at each turn.
 pub(crate) fn keep(queue: Queue, index: usize, time: u64) -> Queue
     requires { ⌜ queue .count ≤ MOST-WAITING ⌝ }
     ensures { λ r. ⌜ r ≡ listed (kept time (drop index (waiting queue))) ⌝ }
@@ -85,7 +86,9 @@ pub(crate) fn keep(queue: Queue, index: usize, time: u64) -> Queue
         let entry = queue.entries[at];
         at += 1;
         if lasts(entry, time) {
-            left = append(left, entry);
+            let kept = left.count;
+            left.entries[kept] = entry;
+            left.count = kept + 1;
         }
     }
     left

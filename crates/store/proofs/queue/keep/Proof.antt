@@ -1,10 +1,11 @@
 -- `queue::keep` meets its contract: the law of each turn is `Keeping`'s. Assumes nothing.
-use mathlib.Core.Path.{sym, _∙_}
+use mathlib.Core.Path.{refl, sym, _∙_}
 use Prim.Native.Nat.{_-_}
 use native.Mathlib.Omega.{arith}
 use borrow.Author.Needs.{needs}
 use lib.ListN.{drop}
 use Rattle.store.specs.Waiting.{waiting}
+use Rattle.store.specs.Parts.{appended}
 use Rattle.store.proofs.Entries.{length-mapped, Upcoming, upcoming, nothing-left}
 use Rattle.store.proofs.Turns.{Keeping, keep-start, keep-more, keep-same, keep-end}
 use Rattle.store.proofs.queue.keep.Statement.{statement}
@@ -37,17 +38,23 @@ add-at c = search needs
 lasts-requires : tie.Need-lasts-requires Inv-loop μ-loop
 lasts-requires c κs = search needs
 
-append-requires : tie.Need-append-requires Inv-loop μ-loop
-append-requires c κs = search needs
+mul-entry-2 : tie.Need-mul-entry-2 Inv-loop μ-loop
+mul-entry-2 c = search needs
+
+element-set-from-entry : tie.Need-element-set-from-entry Inv-loop μ-loop
+element-set-from-entry c = search needs
+
+add-left : tie.Need-add-left Inv-loop μ-loop
+add-left c = search needs
 
 loop-less : tie.Need-loop-less Inv-loop μ-loop
 loop-less c = search needs
 
 loop-again : tie.Need-loop-again Inv-loop μ-loop
+unfolding appended
 loop-again c =
-    let tested = c .before in
-    let turn = tested .before .before .before in
-    keep-more _ _ _ _ _ _ (turn .before .loop .at) (step turn) (turn .before .loop .inv) _ (sym (tested .before .lasts .ensures) ∙ tested .if1 .taken) (c .append .ensures) (omega arith)
+    let turn = c .before .before .before in
+    keep-more _ _ _ _ _ _ (turn .before .loop .at) (step turn) (turn .before .loop .inv) _ (sym (c .before .lasts .ensures) ∙ c .if1 .taken) refl (omega arith)
 
 loop-less-2 : tie.Need-loop-less-2 Inv-loop μ-loop
 loop-less-2 c = search needs
@@ -72,7 +79,9 @@ keep-spec =
     element-copy-out-entry
     add-at
     lasts-requires
-    append-requires
+    mul-entry-2
+    element-set-from-entry
+    add-left
     loop-less
     loop-again
     loop-less-2
