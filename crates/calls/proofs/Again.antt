@@ -21,7 +21,8 @@ use Rattle.store.proofs.Held.{Fit, packets-of, waiting-of, holds-well, holds-le
 use Rattle.flow.specs.Counting.{flowAfter}
 use Rattle.life.specs.Life.{Event, offer, next, withdraw, Answer, Setting, State, step, radioAt}
 use Rattle.life.specs.Machine.{Meter, machine, freshMachine}
-use Rattle.life.proofs.Exact.{Did, did, offered-not-ipv6, offered-long, offered-early, offered-past, offered-full, offered-taken, asked-early, asked-nothing, asked-not-operational, asked-shut, asked-no-room, asked-sent, withdrew, heard}
+use Rattle.life.specs.Given.{Did, offered-not-ipv6, offered-long, offered-early, offered-past, offered-full, offered-taken, asked-early, asked-nothing, asked-not-operational, asked-shut, asked-no-room, asked-sent, withdrew, heard}
+use Rattle.life.proofs.Exact.{did}
 use Rattle.channel.specs.declared.state.Channel.{Channel}
 use Rattle.calls.specs.declared.offering.OfferAnswer.{OfferAnswer}
 use Rattle.calls.specs.declared.offering.Offered.{Offered}

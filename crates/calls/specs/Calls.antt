@@ -1,26 +1,22 @@
 -- What each call on one channel and its store does, by the rules of `Life`: the answer, the channel and every byte of the store.
 use Prim.Native.Nat.{ℕ, _<_}
-use mathlib.Core.Bool.{Bool, true, cond}
-use mathlib.Core.List.{List, []}
+use mathlib.Core.Bool.{true}
+use mathlib.Core.List.{List}
 use mathlib.Core.Path.{_≡_}
 use lib.ListN.{length}
 use Rattle.quantity.specs.declared.count.DatalinkId.{DatalinkId}
 use Rattle.quantity.specs.declared.count.FlowSequence.{FlowSequence}
-use Rattle.quantity.specs.declared.count.ByteCount.{ByteCount}
 use Rattle.quantity.specs.Limits.{RESERVED-CHANNEL}
-use Rattle.meaning.specs.declared.message.Status.{Status}
-use Rattle.meaning.specs.declared.message.Window.{Window}
 use Rattle.wire.specs.Options.{over}
-use Rattle.store.specs.declared.queue.Queue.{Queue}
 use Rattle.store.specs.Packets.{Packet}
-use Rattle.store.specs.Waiting.{packetsOf, queueOf, storeOf, wellFormed}
+use Rattle.store.specs.Waiting.{storeOf, wellFormed}
 use Rattle.channel.specs.declared.state.Channel.{Channel}
 use Rattle.calls.specs.declared.offering.OfferAnswer.{OfferAnswer}
 use Rattle.calls.specs.declared.asking.NextAnswer.{NextAnswer}
 use Rattle.calls.specs.declared.offering.Offered.{Offered}
 use Rattle.calls.specs.declared.asking.Asked.{Asked}
 use Rattle.life.specs.Machine.{machine}
-use Rattle.life.specs.Life.{State, Result, Answer, taken, nothingWaiting, notOperational, windowShut, done, sent, refused, messageBytes, offerAt, nextAt, withdrawAt}
+use Rattle.life.specs.Life.{Result, Answer, taken, nothingWaiting, notOperational, windowShut, done, sent, refused, messageBytes, offerAt, nextAt, withdrawAt}
 use Rattle.channel.specs.Channel.{stateOf, channelOf}
 
 -- "changes no state and no lent byte": after a refusal what was there, else what the result leaves

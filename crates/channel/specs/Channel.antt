@@ -1,23 +1,17 @@
 -- The code's channel: from a channel and its store to a state of the rules, and back; how it starts, and what it hears.
-use Prim.Native.Nat.{ℕ, _<_}
-use mathlib.Core.Bool.{Bool, true, cond}
+use Prim.Native.Nat.{ℕ}
+use mathlib.Core.Bool.{Bool, cond}
 use mathlib.Core.List.{List, []}
-use mathlib.Core.Path.{_≡_}
-use lib.ListN.{length}
-use Rattle.quantity.specs.declared.count.DatalinkId.{DatalinkId}
 use Rattle.quantity.specs.declared.count.FlowSequence.{FlowSequence}
 use Rattle.quantity.specs.declared.count.ByteCount.{ByteCount}
-use Rattle.quantity.specs.Limits.{RESERVED-CHANNEL}
 use Rattle.meaning.specs.declared.message.Status.{Status}
 use Rattle.meaning.specs.declared.message.Window.{Window}
-use Rattle.wire.specs.Options.{over}
 use Rattle.store.specs.declared.queue.Queue.{Queue}
-use Rattle.store.specs.Packets.{Packet}
-use Rattle.store.specs.Waiting.{packetsOf, queueOf, storeOf, wellFormed}
+use Rattle.store.specs.Waiting.{packetsOf, queueOf}
 use Rattle.channel.specs.declared.state.Channel.{Channel}
 use Rattle.flow.specs.Counting.{flowAfter, firstFlow}
 use Rattle.life.specs.Machine.{machine}
-use Rattle.life.specs.Life.{State, Result, Answer, taken, nothingWaiting, notOperational, windowShut, done, sent, refused, messageBytes, offerAt, nextAt, withdrawAt}
+use Rattle.life.specs.Life.{State}
 
 -- ---- a channel and its store as a state, however untidy they are behind what waits
 unfoldable pub stateOf : Channel → List ℕ → State machine

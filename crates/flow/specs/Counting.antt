@@ -1,8 +1,6 @@
 -- Document 01, "Counting", as the code counts: in words of 32 bits.
-use Prim.Native.Nat.{ℕ}
 use mathlib.Core.Bool.{Bool, true, false, cond}
 use Rattle.quantity.specs.declared.count.FlowSequence.{FlowSequence}
-use Rattle.quantity.specs.declared.count.FlowWindow.{FlowWindow}
 use Rattle.quantity.specs.declared.count.ByteCount.{ByteCount}
 use Rattle.quantity.specs.Distance.{fitsOf, advanceOf}
 use Rattle.meaning.specs.declared.message.Sequence.{Sequence}

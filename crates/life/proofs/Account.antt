@@ -1,7 +1,7 @@
 -- The account of the code's own channel after any calls. Assumes nothing.
 use Prim.Native.Nat.{_^_, _<_}
 use mathlib.Core.List.{List, [], _∷_, _++_}
-use mathlib.Core.Path.{sym}
+use mathlib.Core.Path.{_≡_, refl, sym}
 use Rattle.quantity.specs.declared.count.FlowSequence.{FlowSequence}
 use Rattle.life.specs.Life.{Event, Setting, step, answers, final}
 use Rattle.life.specs.Machine.{machine, freshMachine}
@@ -30,6 +30,12 @@ module _ (k : Setting) (first : FlowSequence) (small : first .0 < 2 ^ 32) (es : 
         of-waiting = sym (where-it-ends .waiting);
         of-time = rw (where-it-ends .latest) (fair-always k es start tt);
       }
+
+-- its ledger is the simple channel's
+pub account-ledger : (k : Setting) (first : FlowSequence) (small : first .0 < 2 ^ 32) (es : List Event)
+    → account k first small es .ledger ≡ final simple k es (freshSimple (k .controlled) first) .book
+unfolding account
+account-ledger k first small es = refl
 
 -- a packet that has its fate keeps it, and none leaves the ledger, whatever is called next
 pub account-later : (k : Setting) (first : FlowSequence) (small : first .0 < 2 ^ 32) (es fs : List Event)

@@ -17,6 +17,7 @@ use Rattle.writer.specs.Written.{noRoom}
 use Rattle.store.specs.Packets.{Packet, joined, isFull}
 use Rattle.ipv6.specs.Ipv6.{isIpv6}
 use Rattle.life.specs.Life.{Event, offer, next, withdraw, radio, Answer, taken, nothingWaiting, notOperational, windowShut, done, sent, refused, Parts, Setting, State, Result, messageBytes, refusal, left, offerAt, grown, tryFirst, nextAt, withdrawAt, radioAt, step}
+use Rattle.life.specs.Given.{Did, offered-not-ipv6, offered-long, offered-early, offered-past, offered-full, offered-taken, asked-early, asked-nothing, asked-not-operational, asked-shut, asked-no-room, asked-sent, withdrew, heard}
 
 -- ---- given the conditions, the result
 module _ (P : Parts) where
@@ -113,51 +114,15 @@ module _ (P : Parts) where
 
 -- ---- given a result, the conditions
 module _ (P : Parts) (k : Setting) where
-  -- every result of a step, with what held when it came
-  pub data Did : Event → State P → Answer → State P → Type 0 where
-    offered-not-ipv6 : {p : Packet} {time : ℕ} {st : State P} → isIpv6 (p .bytes) ≡ false → Did (offer p time) st (refused NOT-IPV6) st
-    offered-long : {p : Packet} {time : ℕ} {st : State P} → isIpv6 (p .bytes) ≡ true → LONGEST-PACKET < length (p .bytes) → Did (offer p time) st (refused LONG-PACKET) st
-    offered-early : {p : Packet} {time : ℕ} {st : State P} → isIpv6 (p .bytes) ≡ true → length (p .bytes) ≤ LONGEST-PACKET → time < st .latest
-        → Did (offer p time) st (refused EARLIER-TIME) st
-    offered-past : {p : Packet} {time : ℕ} {st : State P} → isIpv6 (p .bytes) ≡ true → length (p .bytes) ≤ LONGEST-PACKET → st .latest ≤ time → p .expiry ≤ time
-        → Did (offer p time) st (refused EXPIRY-PAST) st
-    offered-full : {p : Packet} {time : ℕ} {st : State P} → isIpv6 (p .bytes) ≡ true → length (p .bytes) ≤ LONGEST-PACKET → st .latest ≤ time → time < p .expiry
-        → isFull (k .size) (P .waiting (P .expire time (st .book))) p ≡ true → Did (offer p time) st (refused FULL) st
-    offered-taken : {p : Packet} {time : ℕ} {st : State P} → isIpv6 (p .bytes) ≡ true → length (p .bytes) ≤ LONGEST-PACKET → st .latest ≤ time → time < p .expiry
-        → isFull (k .size) (P .waiting (P .expire time (st .book))) p ≡ false
-        → Did (offer p time) st taken (left P taken (st .meter) (P .join p (P .expire time (st .book))) time st .state)
-    asked-early : {time room : ℕ} {st : State P} → time < st .latest → Did (next time room) st (refused EARLIER-TIME) st
-    asked-nothing : {time room : ℕ} {st : State P} → st .latest ≤ time → P .waiting (P .expire time (st .book)) ≡ []
-        → Did (next time room) st nothingWaiting (left P nothingWaiting (st .meter) (P .expire time (st .book)) time st .state)
-    asked-not-operational : {time room : ℕ} {st : State P} {p : Packet} {ps : List Packet} → st .latest ≤ time → P .waiting (P .expire time (st .book)) ≡ p ∷ ps
-        → operational (st .status) ≡ false
-        → Did (next time room) st notOperational (left P notOperational (st .meter) (P .expire time (st .book)) time st .state)
-    asked-shut : {time room : ℕ} {st : State P} {p : Packet} {ps : List Packet} → st .latest ≤ time → P .waiting (P .expire time (st .book)) ≡ p ∷ ps
-        → operational (st .status) ≡ true → P .fits (st .meter) (record { 0 = length (p .bytes) }) ≡ false
-        → Did (next time room) st windowShut (left P windowShut (st .meter) (P .expire time (st .book)) time st .state)
-    asked-no-room : {time room : ℕ} {st : State P} {p : Packet} {ps : List Packet} → st .latest ≤ time → P .waiting (P .expire time (st .book)) ≡ p ∷ ps
-        → operational (st .status) ≡ true → P .fits (st .meter) (record { 0 = length (p .bytes) }) ≡ true
-        → noRoom (length (messageBytes (k .datalink) (k .id) (P .carried (grown P (p .bytes) st)) (p .bytes))) room ≡ true
-        → Did (next time room) st (refused NO-ROOM) st
-    asked-sent : {time room : ℕ} {st : State P} {p : Packet} {ps : List Packet} → st .latest ≤ time → P .waiting (P .expire time (st .book)) ≡ p ∷ ps
-        → operational (st .status) ≡ true → P .fits (st .meter) (record { 0 = length (p .bytes) }) ≡ true
-        → noRoom (length (messageBytes (k .datalink) (k .id) (P .carried (grown P (p .bytes) st)) (p .bytes))) room ≡ false
-        → Did (next time room) st (sent (p .bytes) (P .carried (grown P (p .bytes) st)))
-        (left P done (grown P (p .bytes) st) (P .send (P .expire time (st .book))) time st .state)
-    withdrew : {st : State P} → Did withdraw st done (left P done (st .meter) (P .clear (st .book)) (st .latest) st .state)
-    heard : {status : Status} {window : Window} {st : State P}
-        → Did (radio status window) st done
-        (record { meter = cond (k .controlled) (P .hear window (st .meter)) (st .meter); book = st .book; status = status; latest = st .latest })
-
   module _ {e : Event} {st : State P} where
     -- a test, with what it tells in each case
-    either : (t : Bool) {u v : Result P} → (t ≡ true → Did e st (u .answer) (u .state)) → (t ≡ false → Did e st (v .answer) (v .state))
-        → Did e st (cond t u v .answer) (cond t u v .state)
+    either : (t : Bool) {u v : Result P} → (t ≡ true → Did P k e st (u .answer) (u .state)) → (t ≡ false → Did P k e st (v .answer) (v .state))
+        → Did P k e st (cond t u v .answer) (cond t u v .state)
     either true f g = f refl
     either false f g = g refl
 
   tried : (time room : ℕ) (st : State P) → st .latest ≤ time → (ps : List Packet) → P .waiting (P .expire time (st .book)) ≡ ps
-      → Did (next time room) st (tryFirst P (k .datalink) (k .id) ps time room st .answer) (tryFirst P (k .datalink) (k .id) ps time room st .state)
+      → Did P k (next time room) st (tryFirst P (k .datalink) (k .id) ps time room st .answer) (tryFirst P (k .datalink) (k .id) ps time room st .state)
   unfolding tryFirst
   tried time room st t [] w = asked-nothing t w
   tried time room st t (p ∷ ps) w =
@@ -166,7 +131,7 @@ module _ (P : Parts) (k : Setting) where
       either _ (λ r. asked-no-room t w (not-false _ o) (not-false _ f) r) (λ r. asked-sent t w (not-false _ o) (not-false _ f) r)))
 
   -- "Given exactly when"
-  pub did : (e : Event) (st : State P) → Did e st (step P k e st .answer) (step P k e st .state)
+  pub did : (e : Event) (st : State P) → Did P k e st (step P k e st .answer) (step P k e st .state)
   unfolding offerAt nextAt withdrawAt radioAt
   did (offer p time) st =
       either _ (λ v. offered-not-ipv6 (not-true _ v)) (λ v.
@@ -180,7 +145,7 @@ module _ (P : Parts) (k : Setting) where
   did (radio status window) st = heard
 
   module _ (p : Packet) (time : ℕ) (st : State P) where
-    full-when : {a : Answer} {st′ : State P} → Did (offer p time) st a st′ → a ≡ refused FULL → isFull (k .size) (P .waiting (P .expire time (st .book))) p ≡ true
+    full-when : {a : Answer} {st′ : State P} → Did P k (offer p time) st a st′ → a ≡ refused FULL → isFull (k .size) (P .waiting (P .expire time (st .book))) p ≡ true
     full-when (offered-not-ipv6 v) e = cc
     full-when (offered-long v l) e = cc
     full-when (offered-early v l t) e = cc

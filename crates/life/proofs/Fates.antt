@@ -12,7 +12,8 @@ use Rattle.life.specs.Simple.{Fate, waits, expired, withdrawn, Entry, is
 use Rattle.life.specs.Fates.{byTime, becomes, comes, Settled, behind, had, gets, goes, Settles}
 use Rattle.life.specs.Account.{Later, new, same, settled}
 use Rattle.life.proofs.Entries.{entry, by-entry, due-by-time}
-use Rattle.life.proofs.Exact.{Did, offered-not-ipv6, offered-long, offered-early, offered-past, offered-full, offered-taken, asked-early, asked-nothing, asked-not-operational, asked-shut, asked-no-room, asked-sent, withdrew, heard, did}
+use Rattle.life.specs.Given.{Did, offered-not-ipv6, offered-long, offered-early, offered-past, offered-full, offered-taken, asked-early, asked-nothing, asked-not-operational, asked-shut, asked-no-room, asked-sent, withdrew, heard}
+use Rattle.life.proofs.Exact.{did}
 
 -- ---- one call
 

@@ -9,7 +9,8 @@ use Rattle.meaning.specs.declared.message.Window.{Window}
 use Rattle.store.specs.Packets.{Packet}
 use Rattle.life.specs.Life.{Event, offer, next, withdraw, radio, Answer, taken, done, sent, refused, Parts, Setting, State, left, grown, step, final}
 use Rattle.life.specs.Account.{handedBy}
-use Rattle.life.proofs.Exact.{Did, offered-not-ipv6, offered-long, offered-early, offered-past, offered-full, offered-taken, asked-early, asked-nothing, asked-not-operational, asked-shut, asked-no-room, asked-sent, withdrew, heard, did}
+use Rattle.life.specs.Given.{Did, offered-not-ipv6, offered-long, offered-early, offered-past, offered-full, offered-taken, asked-early, asked-nothing, asked-not-operational, asked-shut, asked-no-room, asked-sent, withdrew, heard}
+use Rattle.life.proofs.Exact.{did}
 
 module _ (P : Parts) (k : Setting) where
   pub data Leaves : Event → State P → Answer → State P → Type 0 where

@@ -25,6 +25,7 @@ use Rattle.life.specs.Machine.{machine, freshMachine}
 use Rattle.life.specs.Simple.{Limit, upTo, Counter, limitAt, simple, freshSimple}
 use Rattle.life.specs.Agreement.{SameFlow, both-free, both-none, both-in-force, Agrees}
 use Rattle.life.specs.Account.{handedBy, handedOver, bytesOver, quietly, Quiet}
+use Rattle.life.specs.Windows.{under, Under, Within}
 use Rattle.life.proofs.Leaves.{Leaves, stays, joins, looks, sends, clears, hears, leaves}
 use Rattle.life.proofs.Agree.{agrees-step, agrees-answers, same-end}
 
@@ -91,14 +92,6 @@ none-sends k c e fs quiet = nothing-goes machine k fs quiet c (λ n. rw e)
 
 -- ---- under a window, in numbers that never wrap
 
-abbrev pub under : ℕ → ℤ → Counter
-under count number = record { count = count; limit = upTo number }
-
--- from a count under a number, so many bytes went: the count grew by them and, if there were any, is at most the number
-pub record Under (count : ℕ) (number : ℤ) (bytes : ℕ) (x : Counter) : Type 0 where
-  pub counted : x ≡ under (count + bytes) number
-  pub within : (bytes ≡ 0) ⊎ (pos (count + bytes) ≤ℤ number)
-
 module _ (count : ℕ) (number : ℤ) where
   under-none : (x : Counter) → x ≡ under count number → Under count number 0 x
   under-none x e = let n : count ≡ count + 0 = omega arith in record { counted = e ∙ ap (λ (c : ℕ). under c number) n; within = inl refl }
@@ -139,15 +132,6 @@ no-past k number (v ∷ es) q count st e =
     (under-more count number _ _ _ _ u (no-past k number es (q .1) _ _ (u .counted)))
 
 -- ---- under a window, in the code's words
-
--- so many bytes went since a moment: the window stood then for the number that is the limit (`fixed`: since it arrived); the bytes together don't go past it, and
--- fit the window as it stood
-pub record Within (x : Counter) (sequence : FlowSequence) (window : FlowWindow) (bytes : ℕ) : Type 0 where
-  pub number : ℤ
-  pub limit : x .limit ≡ upTo number
-  pub stands : Stands (x .count) window number
-  pub below : (bytes ≡ 0) ⊎ (pos (x .count + bytes) ≤ℤ number)
-  pub fits : (bytes ≡ 0) ⊎ (fitsOf sequence window (record { 0 = bytes }) ≡ true)
 
 -- where the code's flow state is a window in force, the simple channel has the number that it stands for
 standing : (count : ℕ) (f : Flow) (l : Limit) → SameFlow count f l → (w : FlowWindow) → f ≡ Flow.InForce w → (number : ℤ) × (l ≡ upTo number) × Stands count w number

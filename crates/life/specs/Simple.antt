@@ -6,7 +6,6 @@ use mathlib.Core.List.{List, [], _∷_, _++_, map}
 use lib.IntN.{ℤ, pos}
 use lib.Signed.{leZ}
 use Rattle.quantity.specs.declared.count.FlowSequence.{FlowSequence}
-use Rattle.quantity.specs.declared.count.ByteCount.{ByteCount}
 use Rattle.quantity.specs.Window.{sequenceAt, standingAt}
 use Rattle.meaning.specs.declared.message.Status.the-variants as statuses
 use Rattle.meaning.specs.declared.message.Sequence.{Sequence}

@@ -1,6 +1,6 @@
 -- The endpoint's state: its channels in configuration order, and a fresh start.
 use Prim.Native.Nat.{ℕ, _-_}
-use mathlib.Core.Bool.{Bool, false}
+use mathlib.Core.Bool.{false}
 use mathlib.Core.List.{List, [], _++_, map}
 use lib.ListN.{length, take, set, getD, replicate}
 use Rattle.quantity.specs.Limits.{MOST-CHANNELS}

@@ -2,7 +2,7 @@
 ghost use mathlib.Core.Path.{_≡_};
 ghost use Prim.Native.Nat.{_<_};
 ghost use Rattle.quantity.specs.Limits.{MOST-CHANNELS};
-ghost use Rattle.table.specs.Table.{blankChannel, freshOf, freshChannels, freshState, blankState, channelAt, withChannel};
+ghost use Rattle.table.specs.Table.{blankChannel, freshOf, freshChannels, freshState, blankState, channelAt};
 use channel::state;
 use channel::state::Channel;
 use meaning::message::Context;
@@ -100,14 +100,4 @@ pub fn channel_at(state: State, index: usize) -> Channel
     ensures { λ r. ⌜ r ≡ channelAt state index ⌝ }
 {
     state.channels[index]
-}
-
-// The state with one channel replaced.
-pub fn with_channel(state: State, index: usize, channel: Channel) -> State
-    requires { ⌜ index < MOST-CHANNELS ⌝ }
-    ensures { λ r. ⌜ r ≡ withChannel state index channel ⌝ }
-{
-    let mut changed = state;
-    changed.channels[index] = channel;
-    changed
 }
