@@ -4,7 +4,7 @@ use mathlib.Core.List.{List}
 use mathlib.Core.Path.{_≡_, refl, ap, _∙_}
 use native.Mathlib.Omega.{arith}
 use borrow.Rule.Slice.PartMut.{putMid}
-use lib.ListN.{length, take, drop}
+use lib.ListN.{length, take, drop, getD}
 use lib.Seq.{drop-drop}
 use Rattle.quantity.specs.Limits.{MOST-CHANNELS}
 use Rattle.life.specs.Machine.{machine}
@@ -18,7 +18,7 @@ use Rattle.calls.specs.declared.asking.Asked.{Asked}
 use Rattle.calls.specs.Calls as calls
 use Rattle.calls.specs.Calls.{Ready, channelAfter, storeAfter, withdrawResult}
 use Rattle.table.specs.declared.state.State.{State}
-use Rattle.table.specs.Table.{channelAt, withChannel}
+use Rattle.table.specs.Table.{noChannel, channelAt, withChannel}
 use Rattle.table.specs.Memory.{storeAt, withStore}
 use Rattle.table.proofs.Channels.{Fitting}
 use Rattle.table.proofs.Places.{fit, channel-fitting-at, store-room, store-length}
@@ -30,6 +30,11 @@ use Rattle.endpoint.specs.declared.call.Asked as call-asked
 use Rattle.endpoint.specs.declared.call.Emptied.{Emptied}
 use Rattle.endpoint.specs.Calls.{placeOf, Stands, Offers, OffersAt, Asks, AsksAt, Withdraws, WithdrawsAt}
 use Rattle.endpoint.proofs.Finding.{Finds, place-refused}
+
+-- the channel as the calls read it
+pub read : (s : State) (index : ℕ) → getD (s .channels) index noChannel ≡ channelAt s index
+unfolding channelAt
+read s index = refl
 
 -- ---- the store that is lent
 module _ (s : State) (memory : List ℕ) (index start : ℕ) (w : Stands s memory index start) (full : length (s .channels) ≡ MOST-CHANNELS) where

@@ -1,62 +1,71 @@
--- A query states the count of each flow-controlled channel, whatever was called before; and what Next hands over is read back as that packet, that channel and that
--- Flow Sequence. Assumes nothing.
-use Prim.Native.Nat.{ℕ, _<_, _≤_, _^_}
-use mathlib.Core.Bool.{Bool, true, false, _&&_, _||_}
-use mathlib.Core.List.{List, _∷_}
+-- A query states the count of each flow-controlled channel, whatever was called before, and is read back so; what Next hands over is read back as that packet, that
+-- channel and that Flow Sequence. Assumes nothing.
+use Prim.Native.Nat.{ℕ, zero, suc, _<_, _≤_, _^_}
+use mathlib.Core.Bool.{Bool, true, false, cond, _&&_, _||_}
+use mathlib.Core.List.{List, [], _∷_}
 use mathlib.Core.Path.{_≡_, refl, sym, ap, _∙_}
 use native.Mathlib.Omega.{arith}
 use borrow.Author.Tests.{ltb-false}
-use lib.ListN.{length, take, drop, getD}
+use lib.ListN.{length, take, drop, getD, replicate, length-replicate, getD-replicate}
 use lib.Seq.{take-at}
-use lib.Dec.{ltb}
+use lib.Dec.{eqb, ltb}
 use Rattle.quantity.specs.declared.count.DatalinkId.{DatalinkId}
+use Rattle.quantity.specs.declared.count.FlowSequence.{FlowSequence}
+use Rattle.quantity.specs.declared.count.ByteCount.{ByteCount}
 use Rattle.quantity.specs.Limits.{MOST-CHANNELS, CHANNEL-IDS, RESERVED-CHANNEL, LONGEST-PACKET, LONGEST-DATAGRAM}
 use Rattle.quantity.specs.Window.{sequenceAt}
 use Rattle.meaning.specs.declared.message.End.the-variants as ends
 use Rattle.meaning.specs.declared.message.Sequence.{Sequence}
-use Rattle.meaning.proofs.Tables.{noSequence}
+use Rattle.meaning.specs.declared.message.SequenceCell.{SequenceCell}
+use Rattle.meaning.specs.declared.message.WindowCell.{WindowCell}
+use Rattle.meaning.proofs.Tables.{noStatus, noWindow}
 use Rattle.meaning.proofs.Amongst.{clash}
-use Rattle.reader.specs.declared.answer.Verdict.{Verdict}
-use Rattle.reader.specs.Readings.{readData, packetOf}
-use Rattle.writer.specs.Written.{noRoom}
-use Rattle.roundtrip.specs.Values.{SequenceWord, DataValue}
+use Rattle.judging.specs.declared.answer.Verdict.{Verdict}
+use Rattle.judging.specs.Controls.{sequenceAbsent, windowAbsent, controlAccepted}
+use Rattle.reader.specs.Readings.{readControl, readData, packetOf}
+use Rattle.allowed.specs.Allowed.{controlAllowed}
+use Rattle.writer.specs.declared.answer.WriteAnswer.{WriteAnswer}
+use Rattle.writer.specs.Written as writer
+use Rattle.writer.specs.Written.{noRoom, controlWritten}
+use Rattle.roundtrip.specs.Values.{SequenceWord, WindowWord, ControlValue, DataValue}
 use Rattle.roundtrip.proofs.Data.{data-round, packet-round}
+use Rattle.roundtrip.proofs.Returned.{control-returned}
 use Rattle.store.specs.Packets.{alive}
 use Rattle.store.proofs.Entries.{within-limits}
 use Rattle.store.proofs.Held.{Fit, fit-first}
+use Rattle.flow.specs.declared.Flow.{Flow}
+use Rattle.flow.specs.Counting.{sequenceOn, carriedBy}
 use Rattle.life.specs.Machine.{machine}
 use Rattle.life.specs.Simple.{simple}
 use Rattle.life.specs.Life as life
 use Rattle.life.specs.Life.{Answer, sent, final, messageOf, messageBytes}
-use Rattle.life.proofs.Exact.{Did, did, asked-early, asked-nothing, asked-not-operational, asked-shut, asked-no-room, asked-sent}
+use Rattle.life.specs.Given.{Did, asked-early, asked-nothing, asked-not-operational, asked-shut, asked-no-room, asked-sent}
+use Rattle.life.proofs.Exact.{did}
 use Rattle.channel.specs.declared.state.Channel.{Channel}
 use Rattle.channel.specs.Channel.{stateOf}
-use Rattle.calls.specs.declared.asking.NextAnswer.{NextAnswer}
 use Rattle.calls.specs.Calls.{Ready, nextResult}
 use Rattle.calls.proofs.Leaving.{ready-alive}
 use Rattle.calls.proofs.Message.{carrier-allowed}
 use Rattle.table.specs.declared.state.Configuration.{Configuration}
 use Rattle.table.specs.declared.state.State.{State}
-use Rattle.table.specs.Table.{configured, channelAt}
+use Rattle.table.specs.Table.{configured, channelAt, noChannel}
 use Rattle.table.specs.Limits.{stateFits, configurationFits}
 use Rattle.table.specs.Memory.{memoryFits, storeAt}
 use Rattle.table.proofs.Channels.{both}
-use Rattle.table.proofs.Places.{fit, found, channel-fitting-at, store-length}
-use Rattle.query.specs.Query.{sequenceFor, queryOf}
-use Rattle.query.proofs.Queries.{query-place, sequence-controlled, sequence-plain}
-use Rattle.run.specs.Calling.{Outcome, placeIn, calling, asking}
+use Rattle.table.proofs.Places.{fit, found, configured-few, configured-at, channel-fitting-at, store-length}
+use Rattle.query.specs.Query.{sequenceFor, sequencesOf, queryOf}
+use Rattle.query.proofs.Queries.{query-place, query-allowed, sequences-length, sequence-controlled, sequence-plain}
+use Rattle.run.specs.Calling.{Outcome, placeIn, calling, asking, Called, outside, unknown, served}
 use Rattle.run.specs.Run.{Call}
 use Rattle.run.specs.Demand.{BytesIn, settingAt, reached, ruled, seen, simplyAt}
-use Rattle.run.proofs.Exact.{Called, outside, unknown, served, called}
+use Rattle.run.proofs.Exact.{called}
 use Rattle.run.proofs.Whole.{whole-holds, reached-fits}
 use Rattle.endpoint.specs.declared.call.Asked.{Asked}
 use Rattle.endpoint.specs.Calls.{Asks}
+use Rattle.endpoint.specs.Query.{Queries, statedFor}
+use Rattle.endpoint.specs.ReadBack.{ReadBack, SequenceWords}
 
 -- ---- the query
--- the Flow Sequence that the query of a state states for a Channel ID
-abbrev pub statedFor : State → ℕ → Sequence
-statedFor s id = getD (queryOf s .sequences) id noSequence .sequence
-
 stated-is : (s : State) (id : ℕ) → id < CHANNEL-IDS → statedFor s id ≡ sequenceFor id (configured s)
 unfolding queryOf
 stated-is s id h = query-place (configured s) id h
@@ -98,12 +107,75 @@ module _ (k : Configuration) (full : length (k .settings) ≡ MOST-CHANNELS) (fi
       let order = reached-fits k full fits cs bytes .order in
       stated-at ∙ sequence-plain s (order .full) (order .state-fits) index within (controlled-is ∙ plain)
 
+-- ---- the message of a query
+-- what holds of each place of a list, and of an absent one
+each-place : {C : Type 0} (P : C → Type 0) (absent : C) → P absent → (cells : List C) → ((n : ℕ) → n < length cells → P (getD cells n absent)) → (n : ℕ) → P (getD cells n absent)
+each-place P absent p [] h n = p
+each-place P absent p (cell ∷ cells) h zero = h 0 (omega arith)
+each-place P absent p (cell ∷ cells) h (suc n) = each-place P absent p cells (λ m inside. h (suc m) (omega arith)) n
+
+sequence-word : (id : ℕ) (cs : List Channel) → ((n : ℕ) → n < length cs → getD cs n noChannel .sequence .0 < 2 ^ 32) → SequenceWord (sequenceFor id cs)
+unfolding sequenceFor
+sequence-word id [] h = tt
+sequence-word id (c ∷ cs) h = go (c .controlled && eqb (c .id) id) (sequence-word id cs (λ m inside. h (suc m) (omega arith)))
+  where
+    go : (b : Bool) → SequenceWord (sequenceFor id cs) → SequenceWord (cond b (Sequence.Given (c .sequence)) (sequenceFor id cs))
+    go true more = h 0 (omega arith)
+    go false more = more
+
+module _ (s : State) (words : SequenceWords s) where
+  configured-words : (n : ℕ) → n < length (configured s) → getD (configured s) n noChannel .sequence .0 < 2 ^ 32
+  configured-words n inside =
+      let here : n < s .count = omega (arith, configured-few s) in
+      rw (configured-at s n here) (words n here)
+
+  query-value : ControlValue (queryOf s)
+  unfolding queryOf
+  query-value = record {
+    statuses-long = length-replicate CHANNEL-IDS noStatus;
+    sequences-long = sequences-length (configured s);
+    windows-long = length-replicate CHANNEL-IDS noWindow;
+    sequence-words = each-place (λ (cell : SequenceCell). SequenceWord (cell .sequence)) sequenceAbsent tt (sequencesOf (configured s)) (λ n inside.
+        let place : n < CHANNEL-IDS = omega (arith, sequences-length (configured s)) in
+        rw (query-place (configured s) n place) (sequence-word n (configured s) configured-words));
+    window-words = each-place (λ (cell : WindowCell). WindowWord (cell .window)) windowAbsent tt (replicate CHANNEL-IDS noWindow) (λ n inside.
+        rw (getD-replicate CHANNEL-IDS n noWindow windowAbsent (omega (arith, length-replicate CHANNEL-IDS noWindow))) tt);
+  }
+
+  -- what a query wrote is read back with the query's meaning, by a reader configured with the state's Datalink ID
+  module _ (out : List ℕ) (r : WriteAnswer) (out′ : List ℕ) (h : Queries s out r out′) where
+    query-outcome : stateFits s ≡ true → writer.Outcome (controlAllowed ends.Ips (queryOf s)) (controlWritten (queryOf s)) out r out′
+    query-outcome f = rw (query-allowed s) (record { answers = rw f at (h .answer-is); bytes-are = rw f at (h .out-is) })
+
+    pub query-reads-back : (count : ByteCount) → r ≡ WriteAnswer.Wrote count → readControl ends.Ips (s .datalink) (take (count .0) out′) ≡ controlAccepted (queryOf s)
+    unfolding queryOf
+    query-reads-back count wrote = go (stateFits s) refl
+      where
+        go : (fits : Bool) → stateFits s ≡ fits → readControl ends.Ips (s .datalink) (take (count .0) out′) ≡ controlAccepted (queryOf s)
+        go false f = let refused = rw f at (h .answer-is) in clash (cc)
+        go true f = control-returned ends.Ips (queryOf s) query-value out r out′ (query-outcome f) (s .datalink) count refl wrote
+
+-- the sequences of every state reached are such words
+pub reached-words : (k : Configuration) → length (k .settings) ≡ MOST-CHANNELS → configurationFits k ≡ true → ((index : ℕ) → index < k .count → settingAt k index .first .0 < 2 ^ 32)
+    → (cs : List Call) → BytesIn cs → SequenceWords (reached k cs .state)
+reached-words k full fits small cs bytes index there =
+    let inside : index < k .count = omega (arith, reached-fits k full fits cs bytes .order .counted) in
+    let w = reached k cs in
+    rw (← (channel-sequence (channelAt (w .state) index) (storeAt (w .state) index (w .memory))), whole-holds k full fits index inside (small index inside) cs bytes .sequence) (omega arith)
+
 -- ---- the message that Next hands over
--- what is sent goes on an unreserved channel, and is a packet and a message of lengths within the limits
+-- what is sent goes on an unreserved channel, is a packet and a message of lengths within the limits, and carries a Flow Sequence of 32 bits, if any
 record Goes (datalink : DatalinkId) (id : ℕ) (sequence : Sequence) (packet : List ℕ) : Type 0 where
   unreserved : id < RESERVED-CHANNEL
   packet-short : length packet ≤ LONGEST-PACKET
   message-short : length (messageBytes datalink id sequence packet) ≤ LONGEST-DATAGRAM
+  word : SequenceWord sequence
+
+-- "Sending under a window adds n to the sequence modulo 2^32, and the message carries the sum."
+carried-word : (flow : Flow) (sequence : FlowSequence) (bytes : ByteCount) → SequenceWord (carriedBy flow (sequenceOn flow sequence bytes))
+carried-word Flow.Free sequence bytes = tt
+carried-word Flow.NoWindow sequence bytes = tt
+carried-word (Flow.InForce window) sequence bytes = omega arith
 
 room-short : (size room : ℕ) → noRoom size room ≡ false → size ≤ LONGEST-DATAGRAM
 room-short size room e = go (ltb room size) e
@@ -128,6 +200,7 @@ module _ (k : life.Setting) (size : ℕ) (unreserved : k .id < RESERVED-CHANNEL)
         unreserved = unreserved;
         packet-short = rw (← same) (within-limits (length (p .bytes)) (fit-first size p ps first) .1);
         message-short = rw (← same, ← carried) (room-short _ room r);
+        word = rw (← carried) (carried-word (st .meter .flow) (st .meter .sequence) (record { 0 = length (p .bytes) }));
       }
 
 module _ (s : State) (full : length (s .channels) ≡ MOST-CHANNELS) (memory : List ℕ) (id time : ℕ) (room : ℕ) (packet : List ℕ) (sequence : Sequence) where
@@ -159,21 +232,14 @@ sent-value : (datalink : DatalinkId) (id : ℕ) (sequence : Sequence) → Sequen
 sent-value datalink id Sequence.Absent word = record { sequence-word = tt; expiration-word = tt }
 sent-value datalink id (Sequence.Given n) word = record { sequence-word = word; expiration-word = tt }
 
--- the count that was answered, and what a reader of the IPS end's messages finds in so many bytes of the output
-pub record ReadBack (datalink : DatalinkId) (id : ℕ) (packet : List ℕ) (sequence : Sequence) (answer : NextAnswer) (out′ : List ℕ) : Type 0 where
-  pub size : ℕ
-  pub counted : answer ≡ NextAnswer.Sent (record { 0 = size })
-  pub accepted : readData ends.Ips datalink (take size out′) ≡ record { verdict = Verdict.Accepted; message = messageOf datalink id sequence }
-  pub carries : packetOf (take size out′) ≡ packet
-
 module _ (s : State) (full : length (s .channels) ≡ MOST-CHANNELS) (memory : List ℕ) (id time : ℕ) (out : List ℕ) (packet : List ℕ) (sequence : Sequence)
-    (word : SequenceWord sequence) (answered : calling (asking (s .datalink) time (length out)) s memory id .answer ≡ sent packet sequence) where
+    (answered : calling (asking (s .datalink) time (length out)) s memory id .answer ≡ sent packet sequence) where
   message-read : (message : List ℕ) → message ≡ messageBytes (s .datalink) id sequence packet
       → (readData ends.Ips (s .datalink) message ≡ record { verdict = Verdict.Accepted; message = messageOf (s .datalink) id sequence }) × (packetOf message ≡ packet)
   unfolding messageBytes
   message-read message is =
       let goes = sent-goes s full memory id time (length out) packet sequence (called (asking (s .datalink) time (length out)) s memory id) answered in
-      let value = sent-value (s .datalink) id sequence word in
+      let value = sent-value (s .datalink) id sequence (goes .word) in
       let allowed = carrier-allowed (s .datalink) id sequence (length packet) (goes .unreserved) (goes .packet-short) in (
         rw is (data-round ends.Ips (s .datalink) (messageOf (s .datalink) id sequence) packet value allowed refl (goes .message-short)),
         rw is (packet-round ends.Ips (messageOf (s .datalink) id sequence) packet value allowed),

@@ -7,7 +7,7 @@ use Rattle.quantity.specs.declared.refusal.Refusal.{Refusal}
 use Rattle.quantity.specs.Refusals.{CONFIGURATION}
 use Rattle.meaning.specs.declared.message.End.the-variants as ends
 use Rattle.meaning.specs.declared.message.Control.{Control}
-use Rattle.reader.specs.declared.answer.ControlReading.{ControlReading}
+use Rattle.judging.specs.declared.answer.ControlReading.{ControlReading}
 use Rattle.reader.specs.declared.answer.DataReading.{DataReading}
 use Rattle.reader.specs.declared.answer.PlaneAnswer.{PlaneAnswer}
 use Rattle.reader.specs.Readings.{readControl, readData, planeOf}

@@ -7,3 +7,8 @@ pub mod Querying
 pub mod Refused
 pub mod Ran
 pub mod Counted
+pub mod Coincide
+pub mod Exactly
+pub mod Due
+pub mod Others
+pub mod Own

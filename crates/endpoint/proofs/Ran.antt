@@ -8,9 +8,9 @@ use borrow.Author.Tests.{eqb-true}
 use lib.ListN.{length, take}
 use Rattle.quantity.specs.Limits.{MOST-CHANNELS}
 use Rattle.meaning.specs.declared.message.End.the-variants as ends
-use Rattle.reader.specs.declared.answer.Verdict.{Verdict}
+use Rattle.judging.specs.declared.answer.Verdict.{Verdict}
+use Rattle.judging.specs.declared.answer.ControlReading.{ControlReading}
 use Rattle.reader.specs.declared.answer.PlaneAnswer.{PlaneAnswer}
-use Rattle.reader.specs.declared.answer.ControlReading.{ControlReading}
 use Rattle.reader.specs.Readings.{readControl, planeOf}
 use Rattle.writer.specs.declared.answer.WriteAnswer.{WriteAnswer}
 use Rattle.store.specs.Packets.{Packet}
@@ -29,7 +29,7 @@ use Rattle.endpoint.specs.declared.start.Begun.{Begun}
 use Rattle.endpoint.specs.Calls.{Offers, Asks, Withdraws, Starts, startFits, settingSizes}
 use Rattle.endpoint.specs.Radio.{handedIn, controlHeard}
 use Rattle.endpoint.specs.Query.{Queries}
-use Rattle.endpoint.specs.Ran.{Reply, offered, asked, emptied, heard, queried, Ran, over, ran-offer, ran-next, ran-withdraw, ran-radio, ran-query, replyTo, repliesOf}
+use Rattle.endpoint.specs.Ran.{Reply, offered, asked, emptied, heard, queried, lending, Ran, over, ran-offer, ran-next, ran-withdraw, ran-radio, ran-query, replyTo, repliesOf}
 use Rattle.endpoint.proofs.Refused.{radio-data-same}
 
 -- ---- a radio message handed in leaves what the run has: its message heard, if it is accepted
@@ -57,29 +57,26 @@ record Does (c : Call) (w : World) (x : Reply) (w′ : World) : Type 0 where
   reply-is : x ≡ replyTo c w
   world-is : w′ ≡ after c w
 
-abbrev world : State → List ℕ → World
-world s memory = record { state = s; memory = memory }
-
 module _ (w : World) where
   offer-does : (id : ℕ) (p : Packet) (time : ℕ) (r : Offered) (memory′ : List ℕ) → Offers (w .state) (w .memory) id p time r memory′
-      → Does (offer id p time) w (offered (r .answer)) (world (r .state) memory′)
+      → Does (offer id p time) w (offered (r .answer)) (lending (r .state) memory′)
   unfolding after
-  offer-does id p time r memory′ h = record { reply-is = ap offered (h .answer-is); world-is = ap₂ world (h .state-is) (h .memory-is) }
+  offer-does id p time r memory′ h = record { reply-is = ap offered (h .answer-is); world-is = ap₂ lending (h .state-is) (h .memory-is) }
 
   next-does : (id time : ℕ) (out : List ℕ) (r : Asked) (memory′ out′ : List ℕ) → Asks (w .state) (w .memory) id time out r memory′ out′
-      → Does (next id time out) w (asked (r .answer) out′) (world (r .state) memory′)
+      → Does (next id time out) w (asked (r .answer) out′) (lending (r .state) memory′)
   unfolding after
-  next-does id time out r memory′ out′ h = record { reply-is = ap₂ asked (h .answer-is) (h .out-is); world-is = ap₂ world (h .state-is) (h .memory-is) }
+  next-does id time out r memory′ out′ h = record { reply-is = ap₂ asked (h .answer-is) (h .out-is); world-is = ap₂ lending (h .state-is) (h .memory-is) }
 
-  withdraw-does : (id : ℕ) (r : Emptied) (memory′ : List ℕ) → Withdraws (w .state) (w .memory) id r memory′ → Does (withdraw id) w (emptied (r .answer)) (world (r .state) memory′)
+  withdraw-does : (id : ℕ) (r : Emptied) (memory′ : List ℕ) → Withdraws (w .state) (w .memory) id r memory′ → Does (withdraw id) w (emptied (r .answer)) (lending (r .state) memory′)
   unfolding after
-  withdraw-does id r memory′ h = record { reply-is = ap emptied (h .answer-is); world-is = ap₂ world (h .state-is) (h .memory-is) }
+  withdraw-does id r memory′ h = record { reply-is = ap emptied (h .answer-is); world-is = ap₂ lending (h .state-is) (h .memory-is) }
 
-  radio-does : (datagram : List ℕ) (r : Heard) → r ≡ handedIn (w .state) datagram → Does (radio datagram) w (heard (r .answer)) (world (r .state) (w .memory))
+  radio-does : (datagram : List ℕ) (r : Heard) → r ≡ handedIn (w .state) datagram → Does (radio datagram) w (heard (r .answer)) (lending (r .state) (w .memory))
   unfolding after
   radio-does datagram r h = record {
     reply-is = ap (λ (x : Heard). heard (x .answer)) h;
-    world-is = ap (λ (x : Heard). world (x .state) (w .memory)) h ∙ ap (λ (s : State). world s (w .memory)) (handed-state (w .state) datagram);
+    world-is = ap (λ (x : Heard). lending (x .state) (w .memory)) h ∙ ap (λ (s : State). lending s (w .memory)) (handed-state (w .state) datagram);
   }
 
   query-does : (out : List ℕ) (r : WriteAnswer) (out′ : List ℕ) → Queries (w .state) out r out′ → Does (query out) w (queried r out′) w
@@ -127,6 +124,6 @@ module _ (k : Configuration) (full : length (k .settings) ≡ MOST-CHANNELS) (me
   unfolding settingSizes freshState
   memory-length = rw (fresh-configured k full (fit (freshState k) (fresh-fits k full ∙ start-configured) .few)) (start-parts .1)
 
-  pub begins : (r : Begun) (memory′ : List ℕ) → Starts k memory r memory′ → world (r .state) memory′ ≡ freshWorld k
+  pub begins : (r : Begun) (memory′ : List ℕ) → Starts k memory r memory′ → lending (r .state) memory′ ≡ freshWorld k
   unfolding freshWorld
-  begins r memory′ h = ap₂ world (ap (λ (x : Begun). x .state) (h .begins) ∙ rw fits) (h .memory-is ∙ rw (fits, memory-length))
+  begins r memory′ h = ap₂ lending (ap (λ (x : Begun). x .state) (h .begins) ∙ rw fits) (h .memory-is ∙ rw (fits, memory-length))

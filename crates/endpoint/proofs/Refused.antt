@@ -1,15 +1,14 @@
 -- Promise: a refusal "gives its number and a place, changes no state and no lent byte". Assumes nothing.
 use Prim.Native.Nat.{ℕ}
-use mathlib.Core.Bool.{Bool, true, false, cond, _&&_}
+use mathlib.Core.Bool.{Bool, true, false, cond}
 use mathlib.Core.List.{List}
 use mathlib.Core.Path.{_≡_, refl, sym, ap, _∙_}
 use lib.ListN.{length}
 use Rattle.quantity.specs.declared.refusal.Refusal.{Refusal}
 use Rattle.quantity.specs.declared.count.DatalinkId.{DatalinkId}
-use Rattle.meaning.specs.Kinds.{among}
 use Rattle.meaning.specs.declared.message.End.the-variants as ends
 use Rattle.meaning.proofs.Amongst.{clash}
-use Rattle.reader.specs.declared.answer.Verdict.{Verdict}
+use Rattle.judging.specs.declared.answer.Verdict.{Verdict}
 use Rattle.reader.specs.declared.answer.PlaneAnswer.{PlaneAnswer}
 use Rattle.reader.specs.Readings.{readControl, readData, planeOf}
 use Rattle.writer.specs.declared.answer.WriteAnswer.{WriteAnswer}
@@ -20,14 +19,12 @@ use Rattle.life.specs.Life.{Result, Answer, refused, taken, nothingWaiting, not
 use Rattle.channel.specs.declared.state.Channel.{Channel}
 use Rattle.calls.specs.declared.offering.OfferAnswer.{OfferAnswer}
 use Rattle.calls.specs.declared.asking.NextAnswer.{NextAnswer}
-use Rattle.calls.specs.Calls.{channelAfter, storeAfter, offerAnswer, nextAnswer, withdrawResult}
+use Rattle.calls.specs.Calls.{offerAnswer, nextAnswer, withdrawResult}
 use Rattle.table.specs.declared.state.Configuration.{Configuration}
 use Rattle.table.specs.declared.state.State.{State}
-use Rattle.table.specs.Table.{configured}
-use Rattle.table.specs.Limits.{ids, stateFits}
-use Rattle.table.specs.Memory.{memoryFits}
-use Rattle.table.proofs.Places.{with-back, store-back}
-use Rattle.run.specs.Calling.{atChannel, placeIn, calling, offering, asking}
+use Rattle.table.specs.Limits.{stateFits}
+use Rattle.run.specs.Calling.{calling, offering, asking}
+use Rattle.run.proofs.Exact as rules
 use Rattle.hearing.specs.Heard.{dueOf}
 use Rattle.query.specs.Query.{queryOf}
 use Rattle.answer.specs.declared.WithdrawAnswer.{WithdrawAnswer}
@@ -38,30 +35,14 @@ use Rattle.endpoint.specs.declared.call.Asked.{Asked}
 use Rattle.endpoint.specs.declared.call.Emptied.{Emptied}
 use Rattle.endpoint.specs.declared.radio.Heard.{Heard}
 use Rattle.endpoint.specs.declared.start.Begun.{Begun}
-use Rattle.endpoint.specs.Calls.{Offers, Asks, Withdraws, withdrawAnswer, startFits, Starts}
+use Rattle.endpoint.specs.Calls.{Same, Offers, Asks, Withdraws, withdrawAnswer, startFits, Starts}
 use Rattle.endpoint.specs.Radio.{byVerdict, heardControl, unchanged, handedIn}
 use Rattle.endpoint.specs.Query.{Queries}
 
-pub record Same (s s′ : State) (memory memory′ : List ℕ) : Type 0 where
-  pub state-same : s′ ≡ s
-  pub memory-same : memory′ ≡ memory
-
 -- ---- any call that the rules refuse
 module _ (call : Channel → List ℕ → Result machine) (s : State) (memory : List ℕ) (number : ℕ) where
-  at-refused : (index : ℕ) → atChannel call s memory index .answer ≡ refused number
-      → Same s (atChannel call s memory index .state) memory (atChannel call s memory index .memory)
-  unfolding channelAfter storeAfter
-  at-refused index e = record { state-same = rw e (with-back s index); memory-same = rw e (store-back s index memory) }
-
   pub refused-same : (id : ℕ) → calling call s memory id .answer ≡ refused number → Same s (calling call s memory id .state) memory (calling call s memory id .memory)
-  unfolding calling
-  refused-same id e = go (stateFits s && memoryFits s memory) refl (among id (ids (configured s))) refl
-    where
-      go : (fits : Bool) → (stateFits s && memoryFits s memory) ≡ fits → (there : Bool) → among id (ids (configured s)) ≡ there
-          → Same s (calling call s memory id .state) memory (calling call s memory id .memory)
-      go false f there t = record { state-same = rw f; memory-same = rw f }
-      go true f false t = record { state-same = rw (f, t); memory-same = rw (f, t) }
-      go true f true t = rw (f, t) (at-refused (placeIn s id) (rw (f, t) at e))
+  refused-same id e = let same = rules.refused-same call s memory id number e in record { state-same = same .0; memory-same = same .1 }
 
 -- ---- the code's answers: only a refusal of the rules is told as one
 offer-told : (a : Answer) (refusal : Refusal) → offerAnswer a ≡ OfferAnswer.Refused refusal → a ≡ refused (refusal .number)
@@ -122,7 +103,7 @@ module _ (s : State) where
   control-same Verdict.OtherPlane accepted refusal other e = refl
   control-same (Verdict.Refused why) accepted refusal other e = refl
 
-  not-refused : (due : Bool) (refusal : Refusal) → cond due RadioAnswer.Due RadioAnswer.Accepted ≡ RadioAnswer.Refused refusal → ⊥
+  pub not-refused : (due : Bool) (refusal : Refusal) → cond due RadioAnswer.Due RadioAnswer.Accepted ≡ RadioAnswer.Refused refusal → ⊥
   not-refused true refusal e = clash (cc)
   not-refused false refusal e = clash (cc)
 

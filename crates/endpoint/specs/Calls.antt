@@ -37,6 +37,11 @@ pub record Stands (s : State) (memory : List ℕ) (index start : ℕ) : Type 0 w
   pub within : index < s .count
   pub starts : start ≡ startOf s index
 
+-- ---- a refusal "changes no state and no lent byte"
+pub record Same (s s′ : State) (memory memory′ : List ℕ) : Type 0 where
+  pub state-same : s′ ≡ s
+  pub memory-same : memory′ ≡ memory
+
 -- ---- Offer
 pub record OffersAt (s : State) (memory : List ℕ) (index : ℕ) (p : Packet) (time : ℕ) (r : Offered) (memory′ : List ℕ) : Type 0 where
   pub answer-is : r .answer ≡ offerAnswer (atChannel (offering p time) s memory index .answer)

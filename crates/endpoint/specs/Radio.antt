@@ -2,12 +2,14 @@
 use Prim.Native.Nat.{ℕ}
 use mathlib.Core.Bool.{cond}
 use mathlib.Core.List.{List}
+use mathlib.Core.Path.{_≡_}
+use Rattle.quantity.specs.declared.count.DatalinkId.{DatalinkId}
 use Rattle.quantity.specs.declared.refusal.Refusal.{Refusal}
 use Rattle.quantity.specs.Refusals.{CONFIGURATION}
 use Rattle.meaning.specs.declared.message.End.the-variants as ends
 use Rattle.meaning.specs.declared.message.Control.{Control}
-use Rattle.reader.specs.declared.answer.Verdict.{Verdict}
-use Rattle.reader.specs.declared.answer.ControlReading.{ControlReading}
+use Rattle.judging.specs.declared.answer.Verdict.{Verdict}
+use Rattle.judging.specs.declared.answer.ControlReading.{ControlReading}
 use Rattle.reader.specs.declared.answer.DataReading.{DataReading}
 use Rattle.reader.specs.declared.answer.PlaneAnswer.{PlaneAnswer}
 use Rattle.reader.specs.Readings.{readControl, readData, planeOf}
@@ -49,3 +51,9 @@ handedIn s datagram =
     cond (stateFits s)
     (byPlane (planeOf datagram) s (controlHeard (readControl ends.Radio (s .datalink) datagram) s) (dataHeard (readData ends.Radio (s .datalink) datagram) s))
     (refusedHeard (record { number = CONFIGURATION; place = 0 }) s)
+
+-- ---- "A radio message handed in: as for reading": what reading the datagram refuses it by, number and place
+pub data ReadingRefuses (datalink : DatalinkId) (datagram : List ℕ) (refusal : Refusal) : Type 0 where
+  by-header : planeOf datagram ≡ PlaneAnswer.Refused refusal → ReadingRefuses datalink datagram refusal
+  by-control : planeOf datagram ≡ PlaneAnswer.Control → readControl ends.Radio datalink datagram .verdict ≡ Verdict.Refused refusal → ReadingRefuses datalink datagram refusal
+  by-data : planeOf datagram ≡ PlaneAnswer.Data → readData ends.Radio datalink datagram .verdict ≡ Verdict.Refused refusal → ReadingRefuses datalink datagram refusal

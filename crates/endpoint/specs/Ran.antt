@@ -13,6 +13,7 @@ use Rattle.store.specs.Packets.{Packet}
 use Rattle.calls.specs.declared.offering.OfferAnswer.{OfferAnswer}
 use Rattle.calls.specs.declared.asking.NextAnswer.{NextAnswer}
 use Rattle.calls.specs.Calls.{offerAnswer, nextAnswer, outAfter, withdrawResult}
+use Rattle.table.specs.declared.state.State.{State}
 use Rattle.table.specs.Limits.{stateFits}
 use Rattle.query.specs.Query.{queryOf}
 use Rattle.run.specs.Calling.{calling, offering, asking}
@@ -34,6 +35,10 @@ pub data Reply : Type 0 where
   emptied : WithdrawAnswer → Reply
   heard : RadioAnswer → Reply
   queried : WriteAnswer → (out′ : List ℕ) → Reply
+
+-- a state, and the memory that is lent with it
+abbrev pub lending : State → List ℕ → World
+lending s memory = record { state = s; memory = memory }
 
 -- ---- from a world: the calls, the replies, and the world that was left
 pub data Ran : World → List Call → List Reply → World → Type 0 where

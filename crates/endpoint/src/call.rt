@@ -10,7 +10,6 @@ use calls::asking::NextAnswer;
 use calls::offering;
 use calls::offering::OfferAnswer;
 use quantity::refusal::Refusal;
-use table::state;
 use table::state::State;
 
 // The answer, and the state then.
@@ -42,15 +41,17 @@ fn offer_at(
     requires { ⌜ Stands state (now memory) index start ⌝ }
     ensures { λ r. ⌜ OffersAt state (now (memory .entry)) index (packetFor (now (packet .entry)) expiry) time r (now (memory .exit)) ⌝ }
 {
-    let channel = state::channel_at(state, index);
+    let mut changed = state;
+    let channel = changed.channels[index];
     let size = channel.size;
     let end = start + size.0;
     let offered = offering::offer(channel, &mut memory[start..end], packet, expiry, time);
     let answer = offered.answer;
     let after = offered.channel;
+    changed.channels[index] = after;
     Offered {
         answer,
-        state: state::with_channel(state, index, after),
+        state: changed,
     }
 }
 
@@ -85,16 +86,18 @@ fn next_at(
     requires { ⌜ Stands state (now memory) index start ⌝ }
     ensures { λ r. ⌜ AsksAt state (now (memory .entry)) index time (now (out .entry)) r (now (memory .exit)) (now (out .exit)) ⌝ }
 {
-    let channel = state::channel_at(state, index);
+    let mut changed = state;
+    let channel = changed.channels[index];
     let size = channel.size;
     let end = start + size.0;
-    let datalink = state.datalink;
+    let datalink = changed.datalink;
     let asked = asking::next(channel, &mut memory[start..end], datalink, time, out);
     let answer = asked.answer;
     let after = asked.channel;
+    changed.channels[index] = after;
     Asked {
         answer,
-        state: state::with_channel(state, index, after),
+        state: changed,
     }
 }
 
@@ -115,13 +118,15 @@ fn withdraw_at(state: State, memory: &mut [u8], index: usize, start: usize) -> E
     requires { ⌜ Stands state (now memory) index start ⌝ }
     ensures { λ r. ⌜ WithdrawsAt state (now (memory .entry)) index r (now (memory .exit)) ⌝ }
 {
-    let channel = state::channel_at(state, index);
+    let mut changed = state;
+    let channel = changed.channels[index];
     let size = channel.size;
     let end = start + size.0;
     let after = offering::withdraw(channel, &mut memory[start..end]);
+    changed.channels[index] = after;
     Emptied {
         answer: WithdrawAnswer::Withdrawn,
-        state: state::with_channel(state, index, after),
+        state: changed,
     }
 }
 

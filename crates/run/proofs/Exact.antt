@@ -11,14 +11,14 @@ use Rattle.quantity.specs.Limits.{MOST-CHANNELS}
 use Rattle.quantity.specs.Refusals.{NO-CHANNEL, CONFIGURATION}
 use Rattle.meaning.specs.Kinds.{among}
 use Rattle.meaning.specs.declared.message.End.the-variants as ends
-use Rattle.reader.specs.declared.answer.Verdict.{Verdict}
+use Rattle.judging.specs.declared.answer.Verdict.{Verdict}
 use Rattle.reader.specs.declared.answer.PlaneAnswer.{PlaneAnswer}
 use Rattle.reader.specs.Readings.{readControl, planeOf}
 use Rattle.life.specs.Machine.{machine}
 use Rattle.life.specs.Life.{Event, Answer, refused, Setting, State, Result, step}
-use Rattle.life.proofs.Exact.{Did, did, offered-not-ipv6, offered-long, offered-early, offered-past, offered-full, offered-taken, asked-early, asked-nothing, asked-not-operational, asked-shut, asked-no-room, asked-sent, withdrew, heard}
+use Rattle.life.specs.Given.{Did, offered-not-ipv6, offered-long, offered-early, offered-past, offered-full, offered-taken, asked-early, asked-nothing, asked-not-operational, asked-shut, asked-no-room, asked-sent, withdrew, heard}
+use Rattle.life.proofs.Exact.{did}
 use Rattle.channel.specs.declared.state.Channel.{Channel}
-use Rattle.channel.specs.Channel.{stateOf}
 use Rattle.calls.specs.Calls.{channelAfter, storeAfter}
 use Rattle.table.specs.declared.state.State as table
 use Rattle.table.specs.Table.{configured, channelAt}
@@ -26,13 +26,9 @@ use Rattle.table.specs.Limits.{ids, stateFits}
 use Rattle.table.specs.Memory.{memoryFits, storeAt}
 use Rattle.table.proofs.Channels.{both, stands-among, ids-length, ids-at}
 use Rattle.table.proofs.Places.{fit, configured-length, configured-at, with-back, store-back, index-one}
-use Rattle.run.specs.Calling.{Outcome, refusing, atChannel, placeIn, calling}
+use Rattle.run.specs.Calling.{Outcome, refusing, atChannel, placeIn, calling, Called, outside, unknown, served}
 use Rattle.run.specs.Run.{radio, World, worldOf, ifAccepted, ifControl, acceptedIn, after}
-use Rattle.run.specs.Demand.{ruledBy}
-
--- a call as the rules of the channel's life have it
-abbrev pub stepping : DatalinkId → Event → Channel → List ℕ → Result machine
-stepping datalink e c store = step machine (ruledBy datalink c) e (stateOf c store)
+use Rattle.run.specs.Demand.{ruledBy, stepping}
 
 -- the ID of a configured channel is among the IDs
 pub named : (s : table.State) → length (s .channels) ≡ MOST-CHANNELS → stateFits s ≡ true → (index id : ℕ) → index < s .count → channelAt s index .id ≡ id → among id (ids (configured s)) ≡ true
@@ -63,22 +59,17 @@ module _ (call : Channel → List ℕ → Result machine) (s : table.State) (mem
         rw (← (index-one s full (both (stateFits s) (memoryFits s memory) fits .0) index id inside e)) (serves (named s full (both (stateFits s) (memoryFits s memory) fits .0) index id inside e))
 
   -- ---- given an outcome, the conditions
-  pub data Called : Outcome → Type 0 where
-    outside : (stateFits s && memoryFits s memory) ≡ false → Called (refusing CONFIGURATION s memory)
-    unknown : (stateFits s && memoryFits s memory) ≡ true → among id (ids (configured s)) ≡ false → Called (refusing NO-CHANNEL s memory)
-    served : (stateFits s && memoryFits s memory) ≡ true → among id (ids (configured s)) ≡ true → Called (atChannel call s memory (placeIn s id))
-
-  pub called : Called (calling call s memory id)
+  pub called : Called call s memory id (calling call s memory id)
   unfolding calling
   called = first (stateFits s && memoryFits s memory) refl
     where
       second : (t : Bool) → (stateFits s && memoryFits s memory) ≡ true → among id (ids (configured s)) ≡ t
-          → Called (cond (not t) (refusing NO-CHANNEL s memory) (atChannel call s memory (placeIn s id)))
+          → Called call s memory id (cond (not t) (refusing NO-CHANNEL s memory) (atChannel call s memory (placeIn s id)))
       second true f e = served f e
       second false f e = unknown f e
 
       first : (t : Bool) → (stateFits s && memoryFits s memory) ≡ t
-          → Called (cond (not t) (refusing CONFIGURATION s memory) (cond (not (among id (ids (configured s)))) (refusing NO-CHANNEL s memory) (atChannel call s memory (placeIn s id))))
+          → Called call s memory id (cond (not t) (refusing CONFIGURATION s memory) (cond (not (among id (ids (configured s)))) (refusing NO-CHANNEL s memory) (atChannel call s memory (placeIn s id))))
       first true f = second (among id (ids (configured s))) f refl
       first false f = outside f
 

@@ -7,7 +7,7 @@ use Rattle.quantity.specs.declared.count.DatalinkId.{DatalinkId}
 use Rattle.wire.specs.Numbers.{Octets}
 use Rattle.meaning.specs.declared.message.End.the-variants as ends
 use Rattle.meaning.specs.declared.message.Control.{Control}
-use Rattle.reader.specs.declared.answer.Verdict.{Verdict}
+use Rattle.judging.specs.declared.answer.Verdict.{Verdict}
 use Rattle.reader.specs.declared.answer.PlaneAnswer.{PlaneAnswer}
 use Rattle.reader.specs.Readings.{readControl, planeOf}
 use Rattle.allowed.specs.Allowed.{datalinkAllowed, instanceAllowed, contextAllowed, statusesAllowed, controlAllowed}

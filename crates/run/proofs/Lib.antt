@@ -5,4 +5,6 @@ pub mod Hearing
 pub mod Project
 pub mod Fresh
 pub mod Whole
+pub mod Kept
+pub mod Settling
 pub mod Example

@@ -20,10 +20,10 @@ use Rattle.table.specs.Table.{configured, channelAt}
 use Rattle.table.specs.Limits.{ids, stateFits}
 use Rattle.table.specs.Memory.{memoryFits}
 use Rattle.table.proofs.Places.{found}
-use Rattle.run.specs.Calling.{Outcome, placeIn, calling}
+use Rattle.run.specs.Calling.{Outcome, placeIn, calling, Called, outside, unknown, served}
 use Rattle.run.specs.Run.{Call, offer, next, withdraw, radio, query, World, worldOf, ifOwn, partOf, acceptedIn, hearEach, after, afterAll, sees, seesAll, answersOwn, answersAll}
-use Rattle.run.specs.Demand.{bytesIn, BytesIn, elsewhere, Placed, Follows, Untouched}
-use Rattle.run.proofs.Exact.{stepping, serves-at, Called, outside, unknown, served, called}
+use Rattle.run.specs.Demand.{bytesIn, BytesIn, elsewhere, stepping, Placed, Follows, Untouched}
+use Rattle.run.proofs.Exact.{serves-at, called}
 use Rattle.run.proofs.Serving.{here, served-order, seat-same, at-other, store-other, seat-other}
 use Rattle.run.proofs.Hearing.{Brings, nothing, message, brings, heard-order, seat-heard}
 

@@ -25,8 +25,7 @@ use Rattle.table.proofs.Channels.{Fitting, fitting-fits}
 use Rattle.table.proofs.Places.{fit, channel-fitting-at, with-full, with-count, at-with-same, at-with-other, fits-kept, memory-kept, store-at-kept, store-length, with-length, store-with-same, store-with-other}
 use Rattle.run.specs.Calling.{atChannel}
 use Rattle.run.specs.Run.{World, worldOf}
-use Rattle.run.specs.Demand.{ruledBy, InOrder, Seat}
-use Rattle.run.proofs.Exact.{stepping}
+use Rattle.run.specs.Demand.{ruledBy, stepping, InOrder, Seat}
 
 -- ---- one channel: a call other than a radio message leaves status and flow state
 record Calm (st st′ : State machine) : Type 0 where
@@ -53,23 +52,24 @@ state-flow c store e = ap (λ (st : State machine). st .meter .flow) e
 abbrev pub Tidy : Channel → List ℕ → Type 0
 Tidy c store = Holds (c .size .0) (packetsOf (c .queue) store) (c .queue) store
 
-module _ (c : Channel) (store : List ℕ) (t : Tidy c store) where
+module _ (c : Channel) (store : List ℕ) where
   made : (st : State machine) → Tidy (channelOf c st) (storeOf (c .size .0) (st .book))
   unfolding channelOf
   made st = rw (packets-of (c .size .0) (st .book)) (record { queue-is = refl; store-is = refl })
 
-  tidy-after : (r : Result machine) → Tidy (channelAfter c r) (storeAfter c store r)
+  -- a refusal leaves what was there; any other answer leaves the store so "even if other bytes stood there"
+  pub tidy-unless : (r : Result machine) → ((number : ℕ) → r .answer ≡ refused number → Tidy c store) → Tidy (channelAfter c r) (storeAfter c store r)
   unfolding channelAfter storeAfter
-  tidy-after r = by (r .answer)
+  tidy-unless r before = by (r .answer) before
     where
-      by : (a : Answer) → Tidy (unlessRefused a c (channelOf c (r .state))) (unlessRefused a store (storeOf (c .size .0) (r .state .book)))
-      by (refused number) = t
-      by (sent bytes sequence) = made (r .state)
-      by taken = made (r .state)
-      by nothingWaiting = made (r .state)
-      by notOperational = made (r .state)
-      by windowShut = made (r .state)
-      by done = made (r .state)
+      by : (a : Answer) → ((number : ℕ) → a ≡ refused number → Tidy c store) → Tidy (unlessRefused a c (channelOf c (r .state))) (unlessRefused a store (storeOf (c .size .0) (r .state .book)))
+      by (refused number) t = t number refl
+      by (sent bytes sequence) t = made (r .state)
+      by taken t = made (r .state)
+      by nothingWaiting t = made (r .state)
+      by notOperational t = made (r .state)
+      by windowShut t = made (r .state)
+      by done t = made (r .state)
 
 -- ---- a channel of a world that is in order
 module _ (count : ℕ) (w : World) (o : InOrder count w) (at : ℕ) (inside : at < count) where
@@ -137,10 +137,10 @@ module _ (count : ℕ) (w : World) (o : InOrder count w) (at : ℕ) (inside : at
     with-datalink = refl
 
     -- the channel itself
-    at-same : channelAt (served .state) at ≡ channelAfter c result
+    pub at-same : channelAt (served .state) at ≡ channelAfter c result
     at-same = at-with-same (w .state) at (channelAfter c result) (o .full) few here
 
-    store-same : storeAt (served .state) at (served .memory) ≡ storeAfter c store result
+    pub store-same : storeAt (served .state) at (served .memory) ≡ storeAfter c store result
     store-same =
         store-at-kept (w .state) at here (channelAfter c result) (again .size) at (served .memory)
         ∙ store-with-same (w .state) at (w .memory) (o .full) few (o .memory-fits) here (storeAfter c store result) long
@@ -152,7 +152,7 @@ module _ (count : ℕ) (w : World) (o : InOrder count w) (at : ℕ) (inside : at
         (record {
           setting = rw (again .id, again .controlled, again .size);
           view = again .state;
-          tidy = tidy-after c store (seat .tidy) result;
+          tidy = tidy-unless c store result (λ number e. seat .tidy);
         })
 
     -- any other channel

@@ -23,8 +23,9 @@ use Rattle.life.specs.Account.{takenIn, handedOver, bytesOver, Account, Later, 
 use Rattle.life.specs.Life as life
 use Rattle.life.specs.Life.{Event, State, answers, final}
 use Rattle.life.proofs.Agree.{same-answers, same-end}
-use Rattle.life.proofs.Account.{account, account-later}
-use Rattle.life.proofs.Within.{Within, Under, within-window, from-arrival, none-sends}
+use Rattle.life.proofs.Account.{account, account-ledger, account-later}
+use Rattle.life.specs.Windows.{Within, Under}
+use Rattle.life.proofs.Within.{within-window, from-arrival, none-sends}
 use Rattle.channel.specs.declared.state.Channel.{Channel}
 use Rattle.channel.specs.Channel.{stateOf}
 use Rattle.table.specs.declared.state.Configuration.{Configuration}
@@ -33,11 +34,12 @@ use Rattle.table.proofs.Places.{fit}
 use Rattle.hearing.specs.Heard.{statusIn, windowIn}
 use Rattle.run.specs.Run.{Call, offer, next, withdraw, radio, query, freshWorld, after, acceptedIn, ifOwn, sees, seesAll, answersAll}
 use Rattle.run.specs.Demand.{BytesIn, Silent, settingAt, reached, channelIn, storeIn, ruled, seen, said, freshAt, simplyAt, elsewhere, Follows, Untouched, Reached}
+use Rattle.run.specs.Settling.{ledgerAt}
 use Rattle.run.proofs.Project.{untouched, all-follow}
 use Rattle.run.proofs.Fresh.{fresh-order, fresh-placed}
 
 -- ---- what is seen and answered of some calls and then others
-sees-append : (datalink : DatalinkId) (own : ℕ) (cs ds : List Call) → seesAll datalink own (cs ++ ds) ≡ seesAll datalink own cs ++ seesAll datalink own ds
+pub sees-append : (datalink : DatalinkId) (own : ℕ) (cs ds : List Call) → seesAll datalink own (cs ++ ds) ≡ seesAll datalink own cs ++ seesAll datalink own ds
 sees-append datalink own [] ds = refl
 sees-append datalink own (c ∷ cs) ds = rw (sees-append datalink own cs ds) (sym (append-assoc (sees datalink own c) (seesAll datalink own cs) (seesAll datalink own ds)))
 
@@ -57,7 +59,7 @@ quiet-sees datalink own (withdraw id ∷ cs) s = quiet-own own id life.withdraw 
 quiet-sees datalink own (radio datagram ∷ cs) s = rw (s .0) (quiet-sees datalink own cs (s .1))
 quiet-sees datalink own (query out ∷ cs) s = quiet-sees datalink own cs (s .1)
 
-state-book : (c : Channel) (store : List ℕ) → stateOf c store .book ≡ packetsOf (c .queue) store
+pub state-book : (c : Channel) (store : List ℕ) → stateOf c store .book ≡ packetsOf (c .queue) store
 unfolding stateOf
 state-book c store = refl
 
@@ -116,6 +118,11 @@ module _ (k : Configuration) (full : length (k .settings) ≡ MOST-CHANNELS) (fi
             of-waiting = a .of-waiting ∙ sym (ap (λ (st : State machine). st .book) at) ∙ state-book (channelIn (reached k cs) index) (storeIn (reached k cs) index);
             of-time = rw (← (state-latest (channelIn (reached k cs) index) (storeIn (reached k cs) index)), at) (a .of-time);
           }
+
+    -- the account's ledger is the simple channel's, of which `Settling` says which call gave which fate
+    pub whole-ledger : (small : settingAt k index .first .0 < 2 ^ 32) (cs : List Call) (bytes : BytesIn cs) → whole-account small cs bytes .ledger ≡ ledgerAt k index cs
+    unfolding whole-account
+    whole-ledger small cs bytes = account-ledger (ruled k index) (settingAt k index .first) small (seen k index cs)
 
     -- a fate once given stays, whatever is called next
     pub whole-later : (small : settingAt k index .first .0 < 2 ^ 32) (cs ds : List Call) (bytes : BytesIn cs) (more : BytesIn (cs ++ ds))

@@ -1,8 +1,9 @@
 -- One call on one channel of the endpoint. "Calls on a state test 19 first. Then, offering a packet: 12, 13, 14, 15, 16, 17. Asking for the next: 12, 15, 18.
 -- Withdrawing: 12." From 13 on the channel judges.
 use Prim.Native.Nat.{ℕ}
-use mathlib.Core.Bool.{cond, not, _&&_}
+use mathlib.Core.Bool.{true, false, cond, not, _&&_}
 use mathlib.Core.List.{List}
+use mathlib.Core.Path.{_≡_}
 use Rattle.quantity.specs.declared.count.DatalinkId.{DatalinkId}
 use Rattle.quantity.specs.Refusals.{NO-CHANNEL, CONFIGURATION}
 use Rattle.meaning.specs.Kinds.{among}
@@ -42,6 +43,12 @@ unfoldable pub calling : (Channel → List ℕ → Result machine) → State →
 calling call s memory id =
     cond (not (stateFits s && memoryFits s memory)) (refusing CONFIGURATION s memory)
     (cond (not (among id (ids (configured s)))) (refusing NO-CHANNEL s memory) (atChannel call s memory (placeIn s id)))
+
+-- the same by what is given: number 19, number 12, or what the channel judges
+pub data Called (call : Channel → List ℕ → Result machine) (s : State) (memory : List ℕ) (id : ℕ) : Outcome → Type 0 where
+  outside : (stateFits s && memoryFits s memory) ≡ false → Called call s memory id (refusing CONFIGURATION s memory)
+  unknown : (stateFits s && memoryFits s memory) ≡ true → among id (ids (configured s)) ≡ false → Called call s memory id (refusing NO-CHANNEL s memory)
+  served : (stateFits s && memoryFits s memory) ≡ true → among id (ids (configured s)) ≡ true → Called call s memory id (atChannel call s memory (placeIn s id))
 
 abbrev pub offering : Packet → ℕ → Channel → List ℕ → Result machine
 offering p time c store = offerResult c store p time

@@ -62,6 +62,10 @@ lifeOf datalink k = record { datalink = datalink; id = k .id; controlled = k .co
 abbrev pub ruledBy : DatalinkId → Channel → life.Setting
 ruledBy datalink c = record { datalink = datalink; id = c .id; controlled = c .controlled; size = c .size .0 }
 
+-- a call as the rules of the channel's life have it
+abbrev pub stepping : DatalinkId → life.Event → Channel → List ℕ → life.Result machine
+stepping datalink e c store = life.step machine (ruledBy datalink c) e (stateOf c store)
+
 -- ---- a run from a fresh start, and the channel at an index of the configuration in it
 abbrev pub reached : Configuration → List Call → World
 reached k cs = afterAll cs (freshWorld k)
@@ -115,6 +119,10 @@ pub record Follows (k : life.Setting) (count index : ℕ) (w : World) (given : L
 pub record Untouched (index : ℕ) (w w′ : World) : Type 0 where
   pub channel : channelAt (w′ .state) index ≡ channelAt (w .state) index
   pub store : storeAt (w′ .state) index (w′ .memory) ≡ storeAt (w .state) index (w .memory)
+
+-- a channel's queue and its store hold the packets that wait and nothing else
+abbrev pub Tidied : ℕ → World → Type 0
+Tidied index w = Holds (channelIn w index .size .0) (packetsOf (channelIn w index .queue) (storeIn w index)) (channelIn w index .queue) (storeIn w index)
 
 -- where any calls lead from a fresh start: 19 refuses nothing of it, and all that is configured is as it was
 pub record Reached (k : Configuration) (w : World) : Type 0 where

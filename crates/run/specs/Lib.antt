@@ -1,3 +1,5 @@
 pub mod Calling
 pub mod Run
 pub mod Demand
+pub mod Kept
+pub mod Settling

@@ -7,7 +7,7 @@ use lib.Dec.{eqb}
 use Rattle.quantity.specs.declared.count.DatalinkId.{DatalinkId}
 use Rattle.meaning.specs.declared.message.End.the-variants as ends
 use Rattle.meaning.specs.declared.message.Control.{Control}
-use Rattle.reader.specs.declared.answer.Verdict.{Verdict}
+use Rattle.judging.specs.declared.answer.Verdict.{Verdict}
 use Rattle.reader.specs.declared.answer.PlaneAnswer.{PlaneAnswer}
 use Rattle.reader.specs.Readings.{readControl, planeOf}
 use Rattle.store.specs.Packets.{Packet}
@@ -77,6 +77,7 @@ ifOwn own id x = cond (eqb own id) (x ∷ []) []
 abbrev pub partOf : ℕ → Control → Event
 partOf id message = life.radio (statusIn message id) (windowIn message id)
 
+-- no world that calls reach from a fresh start is refused by 19 (`reached-fits`), so a radio message is not tested for it here, nor in `answersOwn`
 abbrev pub sees : DatalinkId → ℕ → Call → List Event
 sees datalink own (offer id p time) = ifOwn own id (life.offer p time)
 sees datalink own (next id time out) = ifOwn own id (life.next time (length out))

@@ -1,29 +1,33 @@
 -- `call::next_at` meets its contract. Assumes nothing.
-use Prim.Native.Nat.{_+_, _≤_}
-use mathlib.Core.Path.{_≡_}
+use Prim.Native.Nat.{_+_, _≤_, _<_}
+use mathlib.Core.Path.{_≡_, refl}
 use native.Mathlib.Omega.{arith}
 use borrow.Author.Needs.{needs}
-use lib.ListN.{length}
+use lib.ListN.{length, getD}
 use Rattle.quantity.specs.Limits.{MOST-CHANNELS}
 use Rattle.meaning.proofs.Tables.{length-mapped}
-use Rattle.endpoint.proofs.Calling.{inside-table, store-ends, ready, asks-at}
+use Rattle.table.specs.Table.{noChannel, withChannel}
+use Rattle.endpoint.proofs.Calling.{read, inside-table, store-ends, ready, asks-at}
 use Rattle.endpoint.proofs.call.next_at.Statement.{statement}
 use Rattle.endpoint.proofs.call.next_at.Tie as tie
 
 full : (c : tie.Start) → length (c .args .state .channels) ≡ MOST-CHANNELS
 full c = search (length-mapped, needs)
 
-abbrev start : tie.After-channel-at → tie.Start
-start c = c .before .before .before
+inside : (c : tie.Start) → c .args .index < MOST-CHANNELS
+inside c = inside-table _ _ _ _ (c .pre) (full c)
 
-ends : (c : tie.After-channel-at) → start c .args .start + c .channel-at .result .size .0 ≤ length (start c .args .memory .now)
-ends c = store-ends _ _ _ _ (start c .pre) (full (start c)) _ (c .channel-at .ensures)
+ends : (c : tie.Start) → c .args .start + getD (c .args .state .channels) (c .args .index) noChannel .size .0 ≤ length (c .args .memory .now)
+ends c = store-ends _ _ _ _ (c .pre) (full c) _ (read _ _)
 
-channel-at-requires : tie.Need-channel-at-requires
-channel-at-requires c κs = let start = c .before .before in inside-table _ _ _ _ (start .pre) (full start)
+mul-channel : tie.Need-mul-channel
+mul-channel c = omega (arith, inside (c .before .before))
+
+element-copy-out-channel : tie.Need-element-copy-out-channel
+element-copy-out-channel c = inside (c .before .before)
 
 add-end : tie.Need-add-end
-add-end c = omega (arith, ends (c .before .before))
+add-end c = omega (arith, ends (c .before .before .before .before .before))
 
 sub-next : tie.Need-sub-next
 sub-next c = search needs
@@ -32,13 +36,16 @@ part-next-start : tie.Need-part-next-start
 part-next-start c = search needs
 
 part-next-end : tie.Need-part-next-end
-part-next-end c = ends (c .before .before .before)
+part-next-end c = ends (c .before .before .before .before .before .before)
 
 next-requires : tie.Need-next-requires
-next-requires c κs = let found = c .before .before .before .before .before in ready _ _ _ _ (start found .pre) (full (start found)) _ (found .channel-at .ensures)
+next-requires c κs = let start = c .before .before .before .before .before .before .before .before in ready _ _ _ _ (start .pre) (full start) _ (read _ _)
 
-with-channel-requires : tie.Need-with-channel-requires
-with-channel-requires c κs = let found = start (c .before .before .before .before .before .before .before .before .before .before .before) in inside-table _ _ _ _ (found .pre) (full found)
+mul-after : tie.Need-mul-after
+mul-after c = omega (arith, inside (c .before .before .before .before .before .before .before .before .before .before .before .before .before .before))
+
+element-set-from-after : tie.Need-element-set-from-after
+element-set-from-after c = inside (c .before .before .before .before .before .before .before .before .before .before .before .before .before .before)
 
 same-length : tie.Need-same-length
 same-length c = search needs
@@ -47,22 +54,25 @@ same-length-2 : tie.Need-same-length-2
 same-length-2 c = search needs
 
 returns : tie.Need-returns
+unfolding withChannel
 returns c =
-    let called = c .before .before .before .before .before .before in
-    let found = called .before .before .before .before .before .before in
-    asks-at _ _ _ _ (start found .pre) (full (start found)) _ (found .channel-at .ensures) _ _ _ _ _ (called .next .ensures) _ (c .with-channel .ensures)
+    let called = c .before .before .before .before .before in
+    let start = called .before .before .before .before .before .before .before .before .before in
+    asks-at _ _ _ _ (start .pre) (full start) _ (read _ _) _ _ _ _ _ (called .next .ensures) _ refl
 
 pub next-at-spec : {M : Type 1} → statement M
 next-at-spec =
     tie.close
     (tie.spec
-    channel-at-requires
+    mul-channel
+    element-copy-out-channel
     add-end
     sub-next
     part-next-start
     part-next-end
     next-requires
-    with-channel-requires
+    mul-after
+    element-set-from-after
     same-length
     same-length-2
     returns)

@@ -1,0 +1,52 @@
+-- "A mobility message is reported due when a Context comes that differs from the last Context received (in length or bytes), or is the first": over any calls
+-- from a fresh start. Assumes nothing.
+use Prim.Native.Nat.{ℕ}
+use mathlib.Core.Bool.{Bool, true, false, cond}
+use mathlib.Core.List.{List, [], _∷_}
+use mathlib.Core.Logic.{_↔_}
+use mathlib.Core.Path.{_≡_, refl, ap, _∙_}
+use lib.ListN.{length}
+use Rattle.quantity.specs.declared.count.DatalinkId.{DatalinkId}
+use Rattle.quantity.specs.Limits.{MOST-CHANNELS}
+use Rattle.meaning.specs.declared.message.Context.{Context}
+use Rattle.meaning.specs.declared.message.Control.{Control}
+use Rattle.meaning.proofs.Amongst.{clash}
+use Rattle.table.specs.declared.state.Configuration.{Configuration}
+use Rattle.table.specs.declared.state.State.{State}
+use Rattle.table.specs.Limits.{stateFits, configurationFits}
+use Rattle.run.specs.Run.{Call, acceptedIn}
+use Rattle.run.specs.Demand.{BytesIn, reached}
+use Rattle.run.specs.Kept.{acceptedAll, lastContext, Comes}
+use Rattle.run.proofs.Whole.{reached-fits}
+use Rattle.run.proofs.Kept.{whole-context, due-when}
+use Rattle.answer.specs.declared.RadioAnswer.{RadioAnswer}
+use Rattle.endpoint.specs.declared.radio.Heard.{Heard}
+use Rattle.endpoint.specs.Radio.{handedIn}
+use Rattle.endpoint.proofs.Exactly.{Handed, outside, unread, heard, passed, handed, radio-heard}
+
+-- the answers to an accepted message
+due-true : (due : Bool) → cond due RadioAnswer.Due RadioAnswer.Accepted ≡ RadioAnswer.Due → due ≡ true
+due-true true e = refl
+due-true false e = clash (cc)
+
+module _ (s : State) (datagram : List ℕ) where
+  brought : {h : Heard} → Handed s datagram h → h .answer ≡ RadioAnswer.Due → (m : Control) × (acceptedIn (s .datalink) datagram ≡ m ∷ []) × Comes (s .context) (m .context)
+  brought (outside f) e = clash (cc)
+  brought (unread refusal f w) e = clash (cc)
+  brought (heard m f a) e = (m, a, due-when (s .context) (m .context) .0 (due-true _ e))
+  brought (passed f p v) e = clash (cc)
+
+  -- by the Context that the state keeps
+  pub due-by-state : stateFits s ≡ true → (datalink : DatalinkId) → s .datalink ≡ datalink → (last : Context) → s .context ≡ last
+      → (handedIn s datagram .answer ≡ RadioAnswer.Due) ↔ ((m : Control) × (acceptedIn datalink datagram ≡ m ∷ []) × Comes last (m .context))
+  due-by-state fits datalink own last kept =
+      rw (← own, ← kept)
+      (brought (handed s datagram), λ h. ap (λ (r : Heard). r .answer) (radio-heard s datagram fits (h .0) (h .1)) ∙ rw (due-when (s .context) (h .0 .context) .1 (h .2)))
+
+module _ (k : Configuration) (full : length (k .settings) ≡ MOST-CHANNELS) (fits : configurationFits k ≡ true) (cs : List Call) (bytes : BytesIn cs) where
+  -- by the messages accepted before
+  pub due-exactly : (datagram : List ℕ) → (handedIn (reached k cs .state) datagram .answer ≡ RadioAnswer.Due)
+      ↔ ((m : Control) × (acceptedIn (k .datalink) datagram ≡ m ∷ []) × Comes (lastContext (acceptedAll (k .datalink) cs)) (m .context))
+  due-exactly datagram =
+      let there = reached-fits k full fits cs bytes in
+      due-by-state (reached k cs .state) datagram (there .order .state-fits) (k .datalink) (there .datalink) (lastContext (acceptedAll (k .datalink) cs)) (whole-context k full fits cs bytes)

@@ -1,0 +1,25 @@
+-- Demand 2: "What we write reads back, by a reader configured with its Datalink ID": of what the calls hand over, in the output's first bytes, as the IPS end's.
+use Prim.Native.Nat.{ℕ, _<_, _^_}
+use mathlib.Core.List.{List}
+use mathlib.Core.Path.{_≡_}
+use lib.ListN.{take}
+use Rattle.quantity.specs.declared.count.DatalinkId.{DatalinkId}
+use Rattle.meaning.specs.declared.message.End.the-variants as ends
+use Rattle.meaning.specs.declared.message.Sequence.{Sequence}
+use Rattle.judging.specs.declared.answer.Verdict.{Verdict}
+use Rattle.reader.specs.Readings.{readData, packetOf}
+use Rattle.life.specs.Life.{messageOf}
+use Rattle.calls.specs.declared.asking.NextAnswer.{NextAnswer}
+use Rattle.table.specs.declared.state.State.{State}
+use Rattle.table.specs.Table.{channelAt}
+
+-- Next: the count that was answered, and in so many bytes that packet, that channel and that Flow Sequence
+pub record ReadBack (datalink : DatalinkId) (id : ℕ) (packet : List ℕ) (sequence : Sequence) (answer : NextAnswer) (out′ : List ℕ) : Type 0 where
+  pub size : ℕ
+  pub counted : answer ≡ NextAnswer.Sent (record { 0 = size })
+  pub accepted : readData ends.Ips datalink (take size out′) ≡ record { verdict = Verdict.Accepted; message = messageOf datalink id sequence }
+  pub carries : packetOf (take size out′) ≡ packet
+
+-- what a state has as a value of its struct: the sequences of its channels have 32 bits
+abbrev pub SequenceWords : State → Type 0
+SequenceWords s = (index : ℕ) → index < s .count → channelAt s index .sequence .0 < 2 ^ 32
