@@ -2,6 +2,14 @@
 // It shares no code with the proved one, but its writer knew that one: the second opinion on the papers is second/.
 use std::hint::black_box;
 
+#[path = "common/message.rs"]
+mod message;
+#[path = "common/timing.rs"]
+mod timing;
+
+use message::*;
+use timing::*;
+
 // ---- the proved reader, behind its exports
 
 extern "C" {
@@ -27,274 +35,10 @@ fn proved_packet(datagram: &[u8], end: End, id: u8) -> u64 {
     unsafe { nespovarda_packet_digest(datagram.as_ptr(), datagram.len(), end == End::Radio, id) }
 }
 
-// ---- the plain reader
-
-const CHANNELS: usize = 255;
-const LONGEST: usize = 65507;
-
-#[derive(Clone, Copy, PartialEq)]
-enum End {
-    Ips,
-    Radio,
-}
-
-#[derive(Clone, Copy)]
-enum Window {
-    Absent,
-    Empty,
-    Given(u32),
-}
-
-struct Control {
-    datalink: u8,
-    instance: Option<(u64, usize)>,
-    context: Option<(u64, usize)>,
-    statuses: [Option<u8>; CHANNELS],
-    sequences: [Option<u32>; CHANNELS],
-    windows: [Window; CHANNELS],
-}
-
-struct Data<'a> {
-    datalink: u8,
-    sequence: Option<(u8, u32)>,
-    channel: Option<u8>,
-    expiration: Option<u32>,
-    packet: &'a [u8],
-}
-
-enum Fault {
-    OtherPlane,
-    Refused(u8, usize),
-}
-
-use Fault::{OtherPlane, Refused};
-
-const CONTROL: u8 = 0;
-const DATA: u8 = 1;
-
-// 1, 2, and the Data Plane flag.
-fn header(datagram: &[u8], plane: u8) -> Result<(), Fault> {
-    if datagram.len() > LONGEST {
-        return Err(Refused(1, 0));
-    }
-    match datagram.first() {
-        Some(byte) if byte >> 4 == 1 => {
-            if byte >> 3 & 1 == plane {
-                Ok(())
-            } else {
-                Err(OtherPlane)
-            }
-        }
-        _ => Err(Refused(2, 0)),
-    }
-}
-
-// The type and the content of the option at a place, or 3.
-fn option(datagram: &[u8], at: usize) -> Result<(u8, &[u8]), Fault> {
-    let rest = &datagram[at..];
-    if rest.len() < 3 {
-        return Err(Refused(3, at));
-    }
-    let length = u16::from_be_bytes([rest[1], rest[2]]) as usize;
-    match rest[3..].get(..length) {
-        Some(content) => Ok((rest[0], content)),
-        None => Err(Refused(3, at)),
-    }
-}
-
-// A channel, or 5.
-fn channel(content: &[u8], at: usize) -> Result<u8, Fault> {
-    if content[0] == 255 {
-        Err(Refused(5, at))
-    } else {
-        Ok(content[0])
-    }
-}
-
-fn number(content: &[u8]) -> u64 {
-    content.iter().fold(0, |sum, byte| sum << 8 | *byte as u64)
-}
-
-fn word(content: &[u8]) -> u32 {
-    u32::from_be_bytes([content[0], content[1], content[2], content[3]])
-}
-
-fn is_known(kind: u8) -> bool {
-    matches!(kind, 1 | 3..=6 | 128..=130 | 134)
-}
-
-fn read_control(datagram: &[u8], end: End, id: u8) -> Result<Control, Fault> {
-    header(datagram, CONTROL)?;
-    let mut datalink = None;
-    let mut instance = None;
-    let mut context = None;
-    let mut statuses = [None; CHANNELS];
-    let mut sequences = [None; CHANNELS];
-    let mut windows = [Window::Absent; CHANNELS];
-    let mut at = 1;
-    while at < datagram.len() {
-        let (kind, content) = option(datagram, at)?;
-        let length = content.len();
-        match (kind, end) {
-            (1, _) => {
-                if length != 1 {
-                    return Err(Refused(4, at));
-                }
-                if datalink.is_some() {
-                    return Err(Refused(7, at));
-                }
-                datalink = Some(content[0]);
-            }
-            (3, End::Radio) => {
-                if length < 1 || length > 8 {
-                    return Err(Refused(4, at));
-                }
-                if instance.is_some() {
-                    return Err(Refused(7, at));
-                }
-                instance = Some((number(content), length));
-            }
-            (4, End::Radio) => {
-                if length < 1 || length > 8 {
-                    return Err(Refused(4, at));
-                }
-                if context.is_some() {
-                    return Err(Refused(7, at));
-                }
-                context = Some((number(content), length));
-            }
-            (5, End::Radio) => {
-                if length != 2 {
-                    return Err(Refused(4, at));
-                }
-                let status = &mut statuses[channel(content, at)? as usize];
-                if status.is_some() {
-                    return Err(Refused(7, at));
-                }
-                *status = Some(content[1] & 15);
-            }
-            (6, End::Radio) => {
-                if length != 1 && length != 5 {
-                    return Err(Refused(4, at));
-                }
-                let window = &mut windows[channel(content, at)? as usize];
-                let Window::Absent = window else {
-                    return Err(Refused(7, at));
-                };
-                *window = if length == 1 { Window::Empty } else { Window::Given(word(&content[1..])) };
-            }
-            (134, End::Ips) => {
-                if length != 5 {
-                    return Err(Refused(4, at));
-                }
-                let sequence = &mut sequences[channel(content, at)? as usize];
-                if sequence.is_some() {
-                    return Err(Refused(7, at));
-                }
-                *sequence = Some(word(&content[1..]));
-            }
-            _ if is_known(kind) => return Err(Refused(6, at)),
-            _ => {}
-        }
-        at += 3 + length;
-    }
-    let Some(datalink) = datalink else {
-        return Err(Refused(9, at));
-    };
-    if end == End::Radio && statuses[0].is_none() {
-        return Err(Refused(9, at));
-    }
-    if datalink != id {
-        return Err(Refused(11, at));
-    }
-    Ok(Control { datalink, instance, context, statuses, sequences, windows })
-}
-
-fn read_data(datagram: &[u8], end: End, id: u8) -> Result<Data<'_>, Fault> {
-    header(datagram, DATA)?;
-    let mut datalink = None;
-    let mut sequence = None;
-    let mut named = None;
-    let mut expiration = None;
-    let mut packet = None;
-    let mut at = 1;
-    while at < datagram.len() {
-        let (kind, content) = option(datagram, at)?;
-        if packet.is_some() {
-            return Err(Refused(8, at));
-        }
-        let length = content.len();
-        match (kind, end) {
-            (1, _) => {
-                if length != 1 {
-                    return Err(Refused(4, at));
-                }
-                if datalink.is_some() {
-                    return Err(Refused(7, at));
-                }
-                datalink = Some(content[0]);
-            }
-            (128, _) => packet = Some(content),
-            (129, _) => {
-                if length != 1 {
-                    return Err(Refused(4, at));
-                }
-                let id = channel(content, at)?;
-                if named.is_some() {
-                    return Err(Refused(7, at));
-                }
-                named = Some(id);
-            }
-            (130, End::Ips) => {
-                if length != 4 {
-                    return Err(Refused(4, at));
-                }
-                let time = word(content);
-                if time == 0 {
-                    return Err(Refused(5, at));
-                }
-                if expiration.is_some() {
-                    return Err(Refused(7, at));
-                }
-                expiration = Some(time);
-            }
-            (134, End::Ips) => {
-                if length != 5 {
-                    return Err(Refused(4, at));
-                }
-                let id = channel(content, at)?;
-                if sequence.is_some() {
-                    return Err(Refused(7, at));
-                }
-                sequence = Some((id, word(&content[1..])));
-            }
-            _ if is_known(kind) => return Err(Refused(6, at)),
-            _ => {}
-        }
-        at += 3 + length;
-    }
-    let (Some(datalink), Some(packet)) = (datalink, packet) else {
-        return Err(Refused(9, at));
-    };
-    if let Some((counted, _)) = sequence {
-        if named != Some(counted) {
-            return Err(Refused(10, at));
-        }
-    }
-    if datalink != id {
-        return Err(Refused(11, at));
-    }
-    Ok(Data { datalink, sequence, channel: named, expiration, packet })
-}
-
 // ---- digests, as crates/bench/specs/Digests.antt defines them
 
 const ABSENT: u64 = 1 << 32;
 const EMPTY: u64 = ABSENT + 1;
-
-fn mixed(sum: u64, part: u64) -> u64 {
-    sum.rotate_left(17).wrapping_add(part)
-}
 
 fn mixed_all<const N: usize>(sum: u64, parts: [u64; N]) -> u64 {
     parts.into_iter().fold(sum, mixed)
@@ -375,22 +119,10 @@ fn plain_packet(datagram: &[u8], end: End, id: u8) -> u64 {
 
 const ID: u8 = 7;
 
-fn put(message: &mut Vec<u8>, kind: u8, content: &[u8]) {
-    message.push(kind);
-    message.extend_from_slice(&(content.len() as u16).to_be_bytes());
-    message.extend_from_slice(content);
-}
-
 fn begin(plane: u8) -> Vec<u8> {
     let mut message = vec![16 + 8 * plane];
     put(&mut message, 1, &[ID]);
     message
-}
-
-fn with_word(channel: u8, word: u32) -> Vec<u8> {
-    let mut content = vec![channel];
-    content.extend_from_slice(&word.to_be_bytes());
-    content
 }
 
 fn radio_control(channels: usize) -> Vec<u8> {
@@ -596,18 +328,6 @@ fn agree(tally: &mut Tally, datagram: &[u8], id: u8) {
     }
 }
 
-// xorshift64: the same variants in every run.
-struct Dice(u64);
-
-impl Dice {
-    fn roll(&mut self, below: usize) -> usize {
-        self.0 ^= self.0 << 13;
-        self.0 ^= self.0 >> 7;
-        self.0 ^= self.0 << 17;
-        (self.0 % below as u64) as usize
-    }
-}
-
 const BYTES: [u8; 16] = [0, 1, 2, 3, 4, 5, 6, 7, 8, 127, 128, 129, 130, 134, 254, 255];
 
 // An option from the middle of a message, moved or doubled elsewhere, a byte changed, added or lost, the end cut, or a long tail.
@@ -709,65 +429,16 @@ fn check(cases: &[Case]) {
 
 // ---- timing
 
-const ROUNDS: usize = 101;
-const ROUND_SECONDS: f64 = 0.002;
-
-#[repr(C)]
-struct Time {
-    seconds: i64,
-    nanoseconds: i64,
-}
-
-extern "C" {
-    fn clock_gettime(clock: i32, time: *mut Time) -> i32;
-}
-
-const PROCESS_TIME: i32 = 2;
-
-// The time that this process had a core, so that others on the machine count less. Linux on 64 bits.
-fn process_seconds() -> f64 {
-    let mut time = Time { seconds: 0, nanoseconds: 0 };
-    assert_eq!(unsafe { clock_gettime(PROCESS_TIME, &mut time) }, 0);
-    time.seconds as f64 + time.nanoseconds as f64 / 1e9
-}
-
-fn seconds(turns: usize, call: &dyn Fn() -> u64) -> f64 {
-    let begin = process_seconds();
-    for _ in 0..turns {
-        black_box(call());
-    }
-    process_seconds() - begin
-}
-
-fn median(mut times: Vec<f64>) -> f64 {
-    times.sort_by(f64::total_cmp);
-    times[times.len() / 2]
-}
-
-// The two take turns, so that both meet the same machine.
-fn timed(proved: &dyn Fn() -> u64, plain: &dyn Fn() -> u64) -> (f64, f64) {
-    let mut turns = 1;
-    while seconds(turns, plain) < ROUND_SECONDS {
-        turns *= 2;
-    }
-    let mut times = (Vec::new(), Vec::new());
-    for _ in 0..ROUNDS {
-        times.0.push(seconds(turns, proved) / turns as f64);
-        times.1.push(seconds(turns, plain) / turns as f64);
-    }
-    (median(times.0) * 1e9, median(times.1) * 1e9)
-}
-
-fn measure(case: &Case) -> (f64, f64) {
+fn measure(case: &Case) -> [f64; 2] {
     let bytes = &case.bytes[..];
     let end = case.end;
     // The channel is unknown to the compiler, so that no reader leaves a table out.
     let channel = black_box(0);
     match case.call {
-        Call::Plane => timed(&|| proved_plane(black_box(bytes)), &|| plain_plane(black_box(bytes))),
-        Call::Control => timed(&|| proved_control(black_box(bytes), end, ID, channel), &|| plain_control(black_box(bytes), end, ID, channel)),
-        Call::Data => timed(&|| proved_data(black_box(bytes), end, ID), &|| plain_data(black_box(bytes), end, ID)),
-        Call::Packet => timed(&|| proved_packet(black_box(bytes), end, ID), &|| plain_packet(black_box(bytes), end, ID)),
+        Call::Plane => timed([&mut || proved_plane(black_box(bytes)), &mut || plain_plane(black_box(bytes))]),
+        Call::Control => timed([&mut || proved_control(black_box(bytes), end, ID, channel), &mut || plain_control(black_box(bytes), end, ID, channel)]),
+        Call::Data => timed([&mut || proved_data(black_box(bytes), end, ID), &mut || plain_data(black_box(bytes), end, ID)]),
+        Call::Packet => timed([&mut || proved_packet(black_box(bytes), end, ID), &mut || plain_packet(black_box(bytes), end, ID)]),
     }
 }
 
@@ -778,7 +449,7 @@ fn main() {
     println!("| message | bytes | proved, ns | plain Rust, ns | ratio |");
     println!("|---|---|---|---|---|");
     for case in &cases {
-        let (proved, plain) = measure(case);
+        let [proved, plain] = measure(case);
         println!("| {} | {} | {proved:.1} | {plain:.1} | {:.2} |", case.name, case.bytes.len(), proved / plain);
     }
 }
