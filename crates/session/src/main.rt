@@ -1,12 +1,15 @@
 // The session script: reads a line, writes its answer, and never stops early.
 ghost use Prim.Native.Nat.{_≤_};
+use channel::state::Channel;
 use endpoint::call;
 use endpoint::queries;
 use endpoint::radio;
 use endpoint::start;
 use libc::STDOUT_FILENO;
 use lines::Found;
+use quantity::count::ByteCount;
 use quantity::limit::LONGEST_DATAGRAM;
+use quantity::limit::MOST_CHANNELS;
 use quantity::refusal;
 use quantity::refusal::Refusal;
 use table::state;
@@ -27,7 +30,7 @@ const LONGEST_LINE: usize = 140000;
 // It stands in the buffer with its newline.
 const ROOM: usize = 140001;
 
-// The longest answer is a message of 65,507 bytes in hexadecimal, with a few words before it; a store has no more.
+// The longest answer is a store of 65,536 bytes in hexadecimal, with a word before it.
 const ANSWER: usize = 140000;
 
 // The bytes of a packet or a datagram have half the line's length at most.
@@ -195,44 +198,67 @@ fn unknown_channel(out: &mut [u8]) -> usize {
     )
 }
 
-fn shown(state: State, id: u8, out: &mut [u8]) -> usize {
-    let found = survey::look(state, id);
-    let index = found.index;
-    if index >= state.count {
-        return unknown_channel(out);
-    }
-    if index >= quantity::limit::MOST_CHANNELS {
-        return unknown_channel(out);
-    }
-    saying::channel(out, 0, state::channel_at(state, index))
-}
-
-fn stored(state: State, memory: &[u8], id: u8, out: &mut [u8]) -> usize {
-    let found = survey::look(state, id);
-    let index = found.index;
-    if index >= state.count {
-        return unknown_channel(out);
-    }
-    if index >= quantity::limit::MOST_CHANNELS {
-        return unknown_channel(out);
-    }
-    let channel = state::channel_at(state, index);
+// Every byte of a channel's store, which starts there in the memory.
+fn stored(channel: Channel, memory: &[u8], start: ByteCount, out: &mut [u8]) -> usize {
     let size = channel.size;
-    let begin = found.start;
-    let from = least(begin.0, memory.len());
+    let from = least(start.0, memory.len());
     let long = least(size.0, memory.len() - from);
     saying::held(out, 0, &memory[from..from + long])
 }
 
+// `show CHANNEL`, or `store CHANNEL`
 fn show_line(held: Held, memory: &[u8], rest: &[u8], whole: bool, out: &mut [u8]) -> Turn {
     let Number::Value(id) = only(rest, wording::HIGHEST_ID) else {
         return bad_line(held, out);
     };
     let state = held.state;
-    if whole {
-        return kept(held, stored(state, memory, id as u8, out));
+    let found = survey::look(state, id as u8);
+    let index = found.index;
+    if index >= state.count || index >= MOST_CHANNELS {
+        return kept(held, unknown_channel(out));
     }
-    kept(held, shown(state, id as u8, out))
+    let channel = state::channel_at(state, index);
+    if whole {
+        return kept(held, stored(channel, memory, found.start, out));
+    }
+    kept(held, saying::channel(out, 0, channel))
+}
+
+// What a line is about, by its first word.
+enum Asked {
+    Offer,
+    Next,
+    Withdraw,
+    Radio,
+    Query,
+    Show,
+    Store,
+    Message,
+}
+
+fn asked_by(name: &[u8]) -> Asked {
+    if is(name, b"offer") {
+        return Asked::Offer;
+    }
+    if is(name, b"next") {
+        return Asked::Next;
+    }
+    if is(name, b"withdraw") {
+        return Asked::Withdraw;
+    }
+    if is(name, b"radio") {
+        return Asked::Radio;
+    }
+    if is(name, b"query") {
+        return Asked::Query;
+    }
+    if is(name, b"show") {
+        return Asked::Show;
+    }
+    if is(name, b"store") {
+        return Asked::Store;
+    }
+    Asked::Message
 }
 
 // A line about a state that was started, on the memory that is lent with it.
@@ -244,30 +270,17 @@ fn serve_line(
     output: &mut [u8],
     out: &mut [u8],
 ) -> Turn {
-    let name = head(line);
     let rest = tail(line);
-    if is(name, b"offer") {
-        return offer_line(held, memory, rest, lent, out);
+    match asked_by(head(line)) {
+        Asked::Offer => offer_line(held, memory, rest, lent, out),
+        Asked::Next => next_line(held, memory, rest, output, out),
+        Asked::Withdraw => withdraw_line(held, memory, rest, out),
+        Asked::Radio => radio_line(held, rest, lent, out),
+        Asked::Query => query_line(held, rest, output, out),
+        Asked::Show => show_line(held, memory, rest, false, out),
+        Asked::Store => show_line(held, memory, rest, true, out),
+        Asked::Message => kept(held, script::answer(line, out)),
     }
-    if is(name, b"next") {
-        return next_line(held, memory, rest, output, out);
-    }
-    if is(name, b"withdraw") {
-        return withdraw_line(held, memory, rest, out);
-    }
-    if is(name, b"radio") {
-        return radio_line(held, rest, lent, out);
-    }
-    if is(name, b"query") {
-        return query_line(held, rest, output, out);
-    }
-    if is(name, b"show") {
-        return show_line(held, memory, rest, false, out);
-    }
-    if is(name, b"store") {
-        return show_line(held, memory, rest, true, out);
-    }
-    kept(held, script::answer(line, out))
 }
 
 // Any line: about messages, a start, or about the state that is held.

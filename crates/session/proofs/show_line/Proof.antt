@@ -1,9 +1,9 @@
 -- `show_line` is safe: a Channel ID fits a byte. Assumes nothing.
-use Rattle.session.proofs.Laws.{only-below}
 use borrow.Author.Needs.{needs}
 use mathlib.Core.Path.{sym, _∙_}
 use native.Mathlib.Omega.{arith}
 use Rattle.wording.specs.Wording.{HIGHEST-ID}
+use Rattle.session.proofs.Laws.{only-below}
 use Rattle.session.proofs.show_line.Statement.{statement}
 use Rattle.session.proofs.show_line.Tie as tie
 
@@ -25,11 +25,14 @@ same-length c = search needs
 returns : tie.Need-returns
 returns c = search needs
 
-cast-stored : tie.Need-cast-stored
-cast-stored c = omega (arith, only-below HIGHEST-ID _ (sym (c .before .before .before .before .before .only .ensures) ∙ c .before .before .before .id .given .1))
+cast-look : tie.Need-cast-look
+cast-look c = omega (arith, only-below HIGHEST-ID _ (sym (c .before .before .before .before .only .ensures) ∙ c .before .before .id .given .1))
 
-stored-requires : tie.Need-stored-requires
-stored-requires c κs = search needs
+look-requires : tie.Need-look-requires
+look-requires c κs = search needs
+
+unknown-channel-requires : tie.Need-unknown-channel-requires
+unknown-channel-requires c κs = search needs
 
 kept-requires : tie.Need-kept-requires
 kept-requires c κs = search needs
@@ -40,11 +43,11 @@ same-length-2 c = search needs
 returns-2 : tie.Need-returns-2
 returns-2 c = search needs
 
-cast-shown : tie.Need-cast-shown
-cast-shown c = omega (arith, only-below HIGHEST-ID _ (sym (c .before .before .before .before .before .only .ensures) ∙ c .before .before .before .id .given .1))
+channel-at-requires : tie.Need-channel-at-requires
+channel-at-requires c κs = search needs
 
-shown-requires : tie.Need-shown-requires
-shown-requires c κs = search needs
+stored-requires : tie.Need-stored-requires
+stored-requires c κs = search needs
 
 kept-requires-2 : tie.Need-kept-requires-2
 kept-requires-2 c κs = search needs
@@ -54,6 +57,18 @@ same-length-3 c = search needs
 
 returns-3 : tie.Need-returns-3
 returns-3 c = search needs
+
+channel-requires : tie.Need-channel-requires
+channel-requires c κs = search needs
+
+kept-requires-3 : tie.Need-kept-requires-3
+kept-requires-3 c κs = search needs
+
+same-length-4 : tie.Need-same-length-4
+same-length-4 c = search needs
+
+returns-4 : tie.Need-returns-4
+returns-4 c = search needs
 
 pub show-line-spec : {M : Type 1} → statement M
 show-line-spec =
@@ -65,13 +80,18 @@ show-line-spec =
     bad-line-requires
     same-length
     returns
-    cast-stored
-    stored-requires
+    cast-look
+    look-requires
+    unknown-channel-requires
     kept-requires
     same-length-2
     returns-2
-    cast-shown
-    shown-requires
+    channel-at-requires
+    stored-requires
     kept-requires-2
     same-length-3
-    returns-3)
+    returns-3
+    channel-requires
+    kept-requires-3
+    same-length-4
+    returns-4)
