@@ -8,7 +8,6 @@ use endpoint::start;
 use libc::STDOUT_FILENO;
 use lines::Found;
 use quantity::count::ByteCount;
-use quantity::limit::LONGEST_DATAGRAM;
 use quantity::limit::MOST_CHANNELS;
 use quantity::refusal;
 use quantity::refusal::Refusal;
@@ -33,7 +32,7 @@ const ROOM: usize = 140001;
 // The longest answer is a store of 65,536 bytes in hexadecimal, with a word before it.
 const ANSWER: usize = 140000;
 
-// The bytes of a packet or a datagram have half the line's length at most.
+// The bytes that a line says have half its length at most; the message that is written for it stands there too, and is no longer.
 const LENT: usize = 70000;
 
 // All stores that the endpoint takes.
@@ -262,21 +261,14 @@ fn asked_by(name: &[u8]) -> Asked {
 }
 
 // A line about a state that was started, on the memory that is lent with it.
-fn serve_line(
-    held: Held,
-    memory: &mut [u8],
-    line: &[u8],
-    lent: &mut [u8],
-    output: &mut [u8],
-    out: &mut [u8],
-) -> Turn {
+fn serve_line(held: Held, memory: &mut [u8], line: &[u8], lent: &mut [u8], out: &mut [u8]) -> Turn {
     let rest = tail(line);
     match asked_by(head(line)) {
         Asked::Offer => offer_line(held, memory, rest, lent, out),
-        Asked::Next => next_line(held, memory, rest, output, out),
+        Asked::Next => next_line(held, memory, rest, lent, out),
         Asked::Withdraw => withdraw_line(held, memory, rest, out),
         Asked::Radio => radio_line(held, rest, lent, out),
-        Asked::Query => query_line(held, rest, output, out),
+        Asked::Query => query_line(held, rest, lent, out),
         Asked::Show => show_line(held, memory, rest, false, out),
         Asked::Store => show_line(held, memory, rest, true, out),
         Asked::Message => kept(held, script::answer(line, out)),
@@ -289,7 +281,6 @@ fn answer_line(
     memory: &mut [u8],
     line: &[u8],
     lent: &mut [u8],
-    output: &mut [u8],
     out: &mut [u8],
 ) -> Turn {
     if line.len() > LONGEST_LINE {
@@ -302,19 +293,12 @@ fn answer_line(
         return kept(held, script::answer(line, out));
     }
     let size = least(held.size, memory.len());
-    serve_line(held, &mut memory[0..size], line, lent, output, out)
+    serve_line(held, &mut memory[0..size], line, lent, out)
 }
 
 // Prints the answer to a line.
-fn say(
-    held: Held,
-    memory: &mut [u8],
-    line: &[u8],
-    lent: &mut [u8],
-    output: &mut [u8],
-    out: &mut [u8],
-) -> Held {
-    let turn = answer_line(held, memory, line, lent, output, out);
+fn say(held: Held, memory: &mut [u8], line: &[u8], lent: &mut [u8], out: &mut [u8]) -> Held {
+    let turn = answer_line(held, memory, line, lent, out);
     let end = text::put(out, turn.count, b"\n");
     if end <= out.len() {
         io::write_all(STDOUT_FILENO, &out[0..end]);
@@ -323,7 +307,7 @@ fn say(
 }
 
 // Answers line after line. Nothing says that an input ends, so the turns are counted.
-fn serve(buffer: &mut [u8], memory: &mut [u8], lent: &mut [u8], output: &mut [u8], out: &mut [u8]) {
+fn serve(buffer: &mut [u8], memory: &mut [u8], lent: &mut [u8], out: &mut [u8]) {
     let mut held = nothing();
     let mut input = lines::start();
     let mut turns = u64::MAX;
@@ -333,11 +317,11 @@ fn serve(buffer: &mut [u8], memory: &mut [u8], lent: &mut [u8], output: &mut [u8
             Found::More => input = lines::fill(buffer, input),
             Found::End => return,
             Found::Line { from, to, rest } => {
-                held = say(held, memory, &buffer[from..to], lent, output, out);
+                held = say(held, memory, &buffer[from..to], lent, out);
                 input = rest;
             }
             Found::Over(rest) => {
-                held = say(held, memory, b"", lent, output, out);
+                held = say(held, memory, b"", lent, out);
                 input = rest;
             }
         }
@@ -349,17 +333,15 @@ fn hold(
     buffer: &mut [u8; ROOM],
     memory: &mut [u8; MEMORY],
     lent: &mut [u8; LENT],
-    output: &mut [u8; LONGEST_DATAGRAM],
     out: &mut [u8; ANSWER],
 ) {
-    serve(buffer, memory, lent, output, out);
+    serve(buffer, memory, lent, out);
 }
 
 fn main() {
     let mut buffer = [0u8; ROOM];
     let mut memory = [0u8; MEMORY];
     let mut lent = [0u8; LENT];
-    let mut output = [0u8; LONGEST_DATAGRAM];
     let mut out = [0u8; ANSWER];
-    hold(&mut buffer, &mut memory, &mut lent, &mut output, &mut out);
+    hold(&mut buffer, &mut memory, &mut lent, &mut out);
 }
