@@ -8,8 +8,8 @@ const ROOM: usize = 65536;
 
 // Prints the answer to a line.
 fn say(line: &[u8]) {
-    let mut out = [0u8; counting::ANSWER];
-    let n = counting::answer(line, &mut out);
+    let mut out = [0u8; distance_line::ANSWER];
+    let n = distance_line::answer(line, &mut out);
     let end = text::put(&mut out, n, b"\n");
     io::write_all(STDOUT_FILENO, &out[0..end]);
 }

@@ -7,22 +7,22 @@ use borrow.Rule.Slice.PartMut.{putMid}
 use lib.ListN.{length, take, drop, getD}
 use lib.Seq.{drop-drop}
 use Rattle.quantity.specs.Limits.{MOST-CHANNELS}
-use Rattle.life.specs.Machine.{machine}
-use Rattle.life.specs.Life.{Result, withdrawAt}
+use Rattle.ips_channel_rules.specs.Machine.{machine}
+use Rattle.ips_channel_rules.specs.Life.{Result, withdrawAt}
 use Rattle.store.specs.Packets.{Packet}
-use Rattle.channel.specs.declared.state.Channel.{Channel}
-use Rattle.calls.specs.declared.offering.OfferAnswer.{OfferAnswer}
-use Rattle.calls.specs.declared.offering.Offered.{Offered}
-use Rattle.calls.specs.declared.asking.NextAnswer.{NextAnswer}
-use Rattle.calls.specs.declared.asking.Asked.{Asked}
-use Rattle.calls.specs.Calls as calls
-use Rattle.calls.specs.Calls.{Ready, channelAfter, storeAfter, withdrawResult}
-use Rattle.table.specs.declared.state.State.{State}
-use Rattle.table.specs.Table.{noChannel, channelAt, withChannel}
-use Rattle.table.specs.Memory.{storeAt, withStore}
-use Rattle.table.proofs.Channels.{Fitting}
-use Rattle.table.proofs.Places.{fit, channel-fitting-at, store-room, store-length}
-use Rattle.run.specs.Calling.{atChannel, offering, asking}
+use Rattle.ips_channel.specs.declared.state.Channel.{Channel}
+use Rattle.ips_channel_calls.specs.declared.offering.OfferAnswer.{OfferAnswer}
+use Rattle.ips_channel_calls.specs.declared.offering.Offered.{Offered}
+use Rattle.ips_channel_calls.specs.declared.asking.NextAnswer.{NextAnswer}
+use Rattle.ips_channel_calls.specs.declared.asking.Asked.{Asked}
+use Rattle.ips_channel_calls.specs.Calls as calls
+use Rattle.ips_channel_calls.specs.Calls.{Ready, channelAfter, storeAfter, withdrawResult}
+use Rattle.ips_state.specs.declared.state.State.{State}
+use Rattle.ips_state.specs.Table.{noChannel, channelAt, withChannel}
+use Rattle.ips_state.specs.Memory.{storeAt, withStore}
+use Rattle.ips_state.proofs.Channels.{Fitting}
+use Rattle.ips_state.proofs.Places.{fit, channel-fitting-at, store-room, store-length}
+use Rattle.ips_run.specs.Calling.{atChannel, offering, asking}
 use Rattle.answer.specs.declared.WithdrawAnswer.{WithdrawAnswer}
 use Rattle.endpoint.specs.declared.place.Place.{Place}
 use Rattle.endpoint.specs.declared.call.Offered as call-offered

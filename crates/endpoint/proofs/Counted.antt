@@ -20,10 +20,10 @@ use Rattle.meaning.specs.declared.message.SequenceCell.{SequenceCell}
 use Rattle.meaning.specs.declared.message.WindowCell.{WindowCell}
 use Rattle.meaning.proofs.Tables.{noStatus, noWindow}
 use Rattle.meaning.proofs.Amongst.{clash}
-use Rattle.judging.specs.declared.answer.Verdict.{Verdict}
-use Rattle.judging.specs.Controls.{sequenceAbsent, windowAbsent, controlAccepted}
+use Rattle.read_rules.specs.declared.answer.Verdict.{Verdict}
+use Rattle.read_rules.specs.Controls.{sequenceAbsent, windowAbsent, controlAccepted}
 use Rattle.reader.specs.Readings.{readControl, readData, packetOf}
-use Rattle.allowed.specs.Allowed.{controlAllowed}
+use Rattle.writable.specs.Allowed.{controlAllowed}
 use Rattle.writer.specs.declared.answer.WriteAnswer.{WriteAnswer}
 use Rattle.writer.specs.Written as writer
 use Rattle.writer.specs.Written.{noRoom, controlWritten}
@@ -35,31 +35,31 @@ use Rattle.store.proofs.Entries.{within-limits}
 use Rattle.store.proofs.Held.{Fit, fit-first}
 use Rattle.flow.specs.declared.Flow.{Flow}
 use Rattle.flow.specs.Counting.{sequenceOn, carriedBy}
-use Rattle.life.specs.Machine.{machine}
-use Rattle.life.specs.Simple.{simple}
-use Rattle.life.specs.Life as life
-use Rattle.life.specs.Life.{Answer, sent, final, messageOf, messageBytes}
-use Rattle.life.specs.Given.{Did, asked-early, asked-nothing, asked-not-operational, asked-shut, asked-no-room, asked-sent}
-use Rattle.life.proofs.Exact.{did}
-use Rattle.channel.specs.declared.state.Channel.{Channel}
-use Rattle.channel.specs.Channel.{stateOf}
-use Rattle.calls.specs.Calls.{Ready, nextResult}
-use Rattle.calls.proofs.Leaving.{ready-alive}
-use Rattle.calls.proofs.Message.{carrier-allowed}
-use Rattle.table.specs.declared.state.Configuration.{Configuration}
-use Rattle.table.specs.declared.state.State.{State}
-use Rattle.table.specs.Table.{configured, channelAt, noChannel}
-use Rattle.table.specs.Limits.{stateFits, configurationFits}
-use Rattle.table.specs.Memory.{memoryFits, storeAt}
-use Rattle.table.proofs.Channels.{both}
-use Rattle.table.proofs.Places.{fit, found, configured-few, configured-at, channel-fitting-at, store-length}
-use Rattle.query.specs.Query.{sequenceFor, sequencesOf, queryOf}
-use Rattle.query.proofs.Queries.{query-place, query-allowed, sequences-length, sequence-controlled, sequence-plain}
-use Rattle.run.specs.Calling.{Outcome, placeIn, calling, asking, Called, outside, unknown, served}
-use Rattle.run.specs.Run.{Call}
-use Rattle.run.specs.Demand.{BytesIn, settingAt, reached, ruled, seen, simplyAt}
-use Rattle.run.proofs.Exact.{called}
-use Rattle.run.proofs.Whole.{whole-holds, reached-fits}
+use Rattle.ips_channel_rules.specs.Machine.{machine}
+use Rattle.ips_channel_rules.specs.Simple.{simple}
+use Rattle.ips_channel_rules.specs.Life as life
+use Rattle.ips_channel_rules.specs.Life.{Answer, sent, final, messageOf, messageBytes}
+use Rattle.ips_channel_rules.specs.Given.{Did, asked-early, asked-nothing, asked-not-operational, asked-shut, asked-no-room, asked-sent}
+use Rattle.ips_channel_rules.proofs.Exact.{did}
+use Rattle.ips_channel.specs.declared.state.Channel.{Channel}
+use Rattle.ips_channel.specs.Channel.{stateOf}
+use Rattle.ips_channel_calls.specs.Calls.{Ready, nextResult}
+use Rattle.ips_channel_calls.proofs.Leaving.{ready-alive}
+use Rattle.ips_channel_calls.proofs.Message.{carrier-allowed}
+use Rattle.ips_state.specs.declared.state.Configuration.{Configuration}
+use Rattle.ips_state.specs.declared.state.State.{State}
+use Rattle.ips_state.specs.Table.{configured, channelAt, noChannel}
+use Rattle.ips_state.specs.Limits.{stateFits, configurationFits}
+use Rattle.ips_state.specs.Memory.{memoryFits, storeAt}
+use Rattle.ips_state.proofs.Channels.{both}
+use Rattle.ips_state.proofs.Places.{fit, found, configured-few, configured-at, channel-fitting-at, store-length}
+use Rattle.ips_query.specs.Query.{sequenceFor, sequencesOf, queryOf}
+use Rattle.ips_query.proofs.Queries.{query-place, query-allowed, sequences-length, sequence-controlled, sequence-plain}
+use Rattle.ips_run.specs.Calling.{Outcome, placeIn, calling, asking, Called, outside, unknown, served}
+use Rattle.ips_run.specs.Run.{Call}
+use Rattle.ips_run.specs.Demand.{BytesIn, settingAt, reached, ruled, seen, simplyAt}
+use Rattle.ips_run.proofs.Exact.{called}
+use Rattle.ips_run.proofs.Whole.{whole-holds, reached-fits}
 use Rattle.endpoint.specs.declared.call.Asked.{Asked}
 use Rattle.endpoint.specs.Calls.{Asks}
 use Rattle.endpoint.specs.Query.{Queries, statedFor}

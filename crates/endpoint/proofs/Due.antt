@@ -11,14 +11,14 @@ use Rattle.quantity.specs.Limits.{MOST-CHANNELS}
 use Rattle.meaning.specs.declared.message.Context.{Context}
 use Rattle.meaning.specs.declared.message.Control.{Control}
 use Rattle.meaning.proofs.Amongst.{clash}
-use Rattle.table.specs.declared.state.Configuration.{Configuration}
-use Rattle.table.specs.declared.state.State.{State}
-use Rattle.table.specs.Limits.{stateFits, configurationFits}
-use Rattle.run.specs.Run.{Call, acceptedIn}
-use Rattle.run.specs.Demand.{BytesIn, reached}
-use Rattle.run.specs.Kept.{acceptedAll, lastContext, Comes}
-use Rattle.run.proofs.Whole.{reached-fits}
-use Rattle.run.proofs.Kept.{whole-context, due-when}
+use Rattle.ips_state.specs.declared.state.Configuration.{Configuration}
+use Rattle.ips_state.specs.declared.state.State.{State}
+use Rattle.ips_state.specs.Limits.{stateFits, configurationFits}
+use Rattle.ips_run.specs.Run.{Call, acceptedIn}
+use Rattle.ips_run.specs.Demand.{BytesIn, reached}
+use Rattle.ips_run.specs.Kept.{acceptedAll, lastContext, Comes}
+use Rattle.ips_run.proofs.Whole.{reached-fits}
+use Rattle.ips_run.proofs.Kept.{whole-context, due-when}
 use Rattle.answer.specs.declared.RadioAnswer.{RadioAnswer}
 use Rattle.endpoint.specs.declared.radio.Heard.{Heard}
 use Rattle.endpoint.specs.Radio.{handedIn}

@@ -17,25 +17,25 @@ use Rattle.wire.specs.Options.{over}
 use Rattle.meaning.specs.declared.message.End.the-variants as ends
 use Rattle.meaning.specs.declared.message.Control.{Control}
 use Rattle.meaning.proofs.Amongst.{clash}
-use Rattle.judging.specs.declared.answer.Verdict.{Verdict}
-use Rattle.judging.specs.declared.answer.ControlReading.{ControlReading}
+use Rattle.read_rules.specs.declared.answer.Verdict.{Verdict}
+use Rattle.read_rules.specs.declared.answer.ControlReading.{ControlReading}
 use Rattle.reader.specs.declared.answer.DataReading.{DataReading}
 use Rattle.reader.specs.declared.answer.PlaneAnswer.{PlaneAnswer}
 use Rattle.reader.specs.Readings.{readControl, readData, planeOf}
-use Rattle.account.specs.Numbers.{OfReading}
-use Rattle.account.proofs.Verdicts.{control-numbers, data-numbers, plane-numbers, control-own, data-own}
+use Rattle.acceptance.specs.Numbers.{OfReading}
+use Rattle.acceptance.proofs.Verdicts.{control-numbers, data-numbers, plane-numbers, control-own, data-own}
 use Rattle.writer.specs.declared.answer.WriteAnswer.{WriteAnswer}
 use Rattle.writer.specs.Written.{controlWritten}
 use Rattle.roundtrip.specs.Answers.{refusedBy}
-use Rattle.table.specs.declared.state.Configuration.{Configuration}
-use Rattle.table.specs.declared.state.State.{State}
-use Rattle.table.specs.Table.{freshState}
-use Rattle.table.specs.Limits.{stateFits, configurationFits}
-use Rattle.hearing.specs.Heard.{dueOf}
-use Rattle.query.specs.Query.{queryOf}
-use Rattle.query.proofs.Queries.{query-short}
-use Rattle.run.specs.Run.{acceptedIn}
-use Rattle.run.proofs.Exact.{heard-when}
+use Rattle.ips_state.specs.declared.state.Configuration.{Configuration}
+use Rattle.ips_state.specs.declared.state.State.{State}
+use Rattle.ips_state.specs.Table.{freshState}
+use Rattle.ips_state.specs.Limits.{stateFits, configurationFits}
+use Rattle.ips_radio.specs.Heard.{dueOf}
+use Rattle.ips_query.specs.Query.{queryOf}
+use Rattle.ips_query.proofs.Queries.{query-short}
+use Rattle.ips_run.specs.Run.{acceptedIn}
+use Rattle.ips_run.proofs.Exact.{heard-when}
 use Rattle.answer.specs.declared.RadioAnswer.{RadioAnswer}
 use Rattle.answer.specs.declared.StartAnswer.{StartAnswer}
 use Rattle.endpoint.specs.declared.radio.Heard.{Heard}

@@ -11,17 +11,17 @@ use Rattle.quantity.specs.Limits.{MOST-CHANNELS}
 use Rattle.quantity.specs.Refusals.{NO-CHANNEL, CONFIGURATION}
 use Rattle.meaning.specs.Kinds.{among}
 use Rattle.meaning.proofs.Amongst.{clash}
-use Rattle.life.specs.Machine.{machine}
-use Rattle.life.specs.Life.{Result}
-use Rattle.channel.specs.declared.state.Channel.{Channel}
-use Rattle.table.specs.declared.state.State.{State}
-use Rattle.table.specs.declared.survey.Survey.{Survey}
-use Rattle.table.specs.Table.{configured, channelAt}
-use Rattle.table.specs.Limits.{ids, sizes, stateFits, unfit, placed, surveyOf}
-use Rattle.table.specs.Memory.{memoryFits, startOf}
-use Rattle.table.proofs.Channels.{both}
-use Rattle.table.proofs.Places.{fit, found, lost, placed-start}
-use Rattle.run.specs.Calling.{refusing, atChannel, placeIn, calling}
+use Rattle.ips_channel_rules.specs.Machine.{machine}
+use Rattle.ips_channel_rules.specs.Life.{Result}
+use Rattle.ips_channel.specs.declared.state.Channel.{Channel}
+use Rattle.ips_state.specs.declared.state.State.{State}
+use Rattle.ips_state.specs.declared.survey.Survey.{Survey}
+use Rattle.ips_state.specs.Table.{configured, channelAt}
+use Rattle.ips_state.specs.Limits.{ids, sizes, stateFits, unfit, placed, surveyOf}
+use Rattle.ips_state.specs.Memory.{memoryFits, startOf}
+use Rattle.ips_state.proofs.Channels.{both}
+use Rattle.ips_state.proofs.Places.{fit, found, lost, placed-start}
+use Rattle.ips_run.specs.Calling.{refusing, atChannel, placeIn, calling}
 use Rattle.endpoint.specs.declared.place.Place.{Place}
 use Rattle.endpoint.specs.Calls.{placeOf, Stands}
 

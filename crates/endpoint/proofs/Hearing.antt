@@ -7,12 +7,12 @@ use Rattle.quantity.specs.declared.refusal.Refusal.{Refusal}
 use Rattle.quantity.specs.Refusals.{CONFIGURATION}
 use Rattle.meaning.specs.declared.message.End.the-variants as ends
 use Rattle.meaning.specs.declared.message.Control.{Control}
-use Rattle.judging.specs.declared.answer.ControlReading.{ControlReading}
+use Rattle.read_rules.specs.declared.answer.ControlReading.{ControlReading}
 use Rattle.reader.specs.declared.answer.DataReading.{DataReading}
 use Rattle.reader.specs.declared.answer.PlaneAnswer.{PlaneAnswer}
 use Rattle.reader.specs.Readings.{readControl, readData, planeOf}
-use Rattle.table.specs.declared.state.State.{State}
-use Rattle.table.specs.Limits.{stateFits}
+use Rattle.ips_state.specs.declared.state.State.{State}
+use Rattle.ips_state.specs.Limits.{stateFits}
 use Rattle.endpoint.specs.declared.radio.Heard.{Heard}
 use Rattle.endpoint.specs.Radio.{refusedHeard, controlHeard, dataHeard, handedIn}
 

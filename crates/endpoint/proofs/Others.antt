@@ -8,20 +8,20 @@ use lib.ListN.{length}
 use Rattle.quantity.specs.Limits.{MOST-CHANNELS}
 use Rattle.quantity.specs.Refusals.{NO-CHANNEL, CONFIGURATION}
 use Rattle.store.specs.Packets.{Packet}
-use Rattle.life.specs.Life as life
-use Rattle.life.specs.Life.{Event, refused}
-use Rattle.life.specs.Account.{quietly}
-use Rattle.table.specs.declared.state.State.{State}
-use Rattle.table.specs.Table.{channelAt}
-use Rattle.table.specs.Limits.{stateFits}
-use Rattle.table.specs.Memory.{memoryFits, storeAt}
-use Rattle.table.proofs.Channels.{both}
-use Rattle.table.proofs.Places.{found}
-use Rattle.run.specs.Calling.{Outcome, placeIn, calling, Called, outside, unknown, served}
-use Rattle.run.specs.Run.{worldOf}
-use Rattle.run.specs.Demand.{stepping, InOrder, Untouched, Tidied}
-use Rattle.run.proofs.Exact.{called}
-use Rattle.run.proofs.Serving.{tidy-unless, at-same, store-same, at-other, store-other}
+use Rattle.ips_channel_rules.specs.Life as life
+use Rattle.ips_channel_rules.specs.Life.{Event, refused}
+use Rattle.ips_channel_rules.specs.Account.{quietly}
+use Rattle.ips_state.specs.declared.state.State.{State}
+use Rattle.ips_state.specs.Table.{channelAt}
+use Rattle.ips_state.specs.Limits.{stateFits}
+use Rattle.ips_state.specs.Memory.{memoryFits, storeAt}
+use Rattle.ips_state.proofs.Channels.{both}
+use Rattle.ips_state.proofs.Places.{found}
+use Rattle.ips_run.specs.Calling.{Outcome, placeIn, calling, Called, outside, unknown, served}
+use Rattle.ips_run.specs.Run.{worldOf}
+use Rattle.ips_run.specs.Demand.{stepping, InOrder, Untouched, Tidied}
+use Rattle.ips_run.proofs.Exact.{called}
+use Rattle.ips_run.proofs.Serving.{tidy-unless, at-same, store-same, at-other, store-other}
 use Rattle.endpoint.specs.declared.call.Offered.{Offered}
 use Rattle.endpoint.specs.declared.call.Asked.{Asked}
 use Rattle.endpoint.specs.declared.call.Emptied.{Emptied}

@@ -11,18 +11,18 @@ use Rattle.quantity.specs.Limits.{MOST-CHANNELS}
 use Rattle.meaning.specs.declared.message.Control.{Control}
 use Rattle.meaning.proofs.Amongst.{clash}
 use Rattle.store.specs.Waiting.{Holds, packetsOf}
-use Rattle.life.specs.Machine.{machine}
-use Rattle.life.specs.Simple.{simple, isWaiting, having}
-use Rattle.life.specs.Life as life
-use Rattle.life.specs.Life.{Event, Answer, Setting, State, answers}
-use Rattle.table.specs.declared.state.Configuration.{Configuration}
-use Rattle.table.specs.Limits.{configurationFits}
-use Rattle.run.specs.Run.{Call, offer, next, withdraw, radio, query, World, ifOwn, partOf, acceptedIn, freshWorld, after, seesAll, answersAll}
-use Rattle.run.specs.Demand.{BytesIn, settingAt, reached, channelIn, storeIn, ruled, seen, freshAt, simplyAt, Placed}
-use Rattle.run.specs.Settling.{ledgerAt}
-use Rattle.run.proofs.Project.{step-follows}
-use Rattle.run.proofs.Fresh.{fresh-placed}
-use Rattle.run.proofs.Whole.{state-book, whole-answers, whole-holds, whole-tidy, reached-fits}
+use Rattle.ips_channel_rules.specs.Machine.{machine}
+use Rattle.ips_channel_rules.specs.Simple.{simple, isWaiting, having}
+use Rattle.ips_channel_rules.specs.Life as life
+use Rattle.ips_channel_rules.specs.Life.{Event, Answer, Setting, State, answers}
+use Rattle.ips_state.specs.declared.state.Configuration.{Configuration}
+use Rattle.ips_state.specs.Limits.{configurationFits}
+use Rattle.ips_run.specs.Run.{Call, offer, next, withdraw, radio, query, World, ifOwn, partOf, acceptedIn, freshWorld, after, seesAll, answersAll}
+use Rattle.ips_run.specs.Demand.{BytesIn, settingAt, reached, channelIn, storeIn, ruled, seen, freshAt, simplyAt, Placed}
+use Rattle.ips_run.specs.Settling.{ledgerAt}
+use Rattle.ips_run.proofs.Project.{step-follows}
+use Rattle.ips_run.proofs.Fresh.{fresh-placed}
+use Rattle.ips_run.proofs.Whole.{state-book, whole-answers, whole-holds, whole-tidy, reached-fits}
 use Rattle.answer.specs.declared.StartAnswer.{StartAnswer}
 use Rattle.endpoint.specs.declared.start.Begun.{Begun}
 use Rattle.endpoint.specs.Calls.{startFits, notStarted, Starts}

@@ -6,13 +6,13 @@ use mathlib.Core.Path.{_≡_}
 use Rattle.quantity.specs.Refusals.{CONFIGURATION}
 use Rattle.meaning.specs.declared.message.End.the-variants as ends
 use Rattle.meaning.specs.declared.message.Control.{Control}
-use Rattle.allowed.specs.Allowed.{controlAllowed}
+use Rattle.writable.specs.Allowed.{controlAllowed}
 use Rattle.writer.specs.declared.answer.WriteAnswer.{WriteAnswer}
 use Rattle.writer.specs.Written.{controlWritten, Outcome}
-use Rattle.table.specs.declared.state.State.{State}
-use Rattle.table.specs.Limits.{stateFits}
-use Rattle.query.specs.Query.{queryOf}
-use Rattle.query.proofs.Queries.{query-allowed}
+use Rattle.ips_state.specs.declared.state.State.{State}
+use Rattle.ips_state.specs.Limits.{stateFits}
+use Rattle.ips_query.specs.Query.{queryOf}
+use Rattle.ips_query.proofs.Queries.{query-allowed}
 use Rattle.endpoint.specs.Query.{Queries}
 
 module _ (s : State) (out : List ℕ) (r : WriteAnswer) where

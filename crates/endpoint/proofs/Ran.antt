@@ -8,19 +8,19 @@ use borrow.Author.Tests.{eqb-true}
 use lib.ListN.{length, take}
 use Rattle.quantity.specs.Limits.{MOST-CHANNELS}
 use Rattle.meaning.specs.declared.message.End.the-variants as ends
-use Rattle.judging.specs.declared.answer.Verdict.{Verdict}
-use Rattle.judging.specs.declared.answer.ControlReading.{ControlReading}
+use Rattle.read_rules.specs.declared.answer.Verdict.{Verdict}
+use Rattle.read_rules.specs.declared.answer.ControlReading.{ControlReading}
 use Rattle.reader.specs.declared.answer.PlaneAnswer.{PlaneAnswer}
 use Rattle.reader.specs.Readings.{readControl, planeOf}
 use Rattle.writer.specs.declared.answer.WriteAnswer.{WriteAnswer}
 use Rattle.store.specs.Packets.{Packet}
-use Rattle.table.specs.declared.state.Configuration.{Configuration}
-use Rattle.table.specs.declared.state.State.{State}
-use Rattle.table.specs.Table.{configured, freshState}
-use Rattle.table.specs.Limits.{sizes, stateFits, configurationFits}
-use Rattle.table.proofs.Channels.{both}
-use Rattle.table.proofs.Places.{fit, fresh-fits, fresh-configured}
-use Rattle.run.specs.Run.{Call, offer, next, withdraw, radio, query, World, ifAccepted, acceptedIn, hearEach, after, afterAll, freshWorld}
+use Rattle.ips_state.specs.declared.state.Configuration.{Configuration}
+use Rattle.ips_state.specs.declared.state.State.{State}
+use Rattle.ips_state.specs.Table.{configured, freshState}
+use Rattle.ips_state.specs.Limits.{sizes, stateFits, configurationFits}
+use Rattle.ips_state.proofs.Channels.{both}
+use Rattle.ips_state.proofs.Places.{fit, fresh-fits, fresh-configured}
+use Rattle.ips_run.specs.Run.{Call, offer, next, withdraw, radio, query, World, ifAccepted, acceptedIn, hearEach, after, afterAll, freshWorld}
 use Rattle.endpoint.specs.declared.call.Offered.{Offered}
 use Rattle.endpoint.specs.declared.call.Asked.{Asked}
 use Rattle.endpoint.specs.declared.call.Emptied.{Emptied}

@@ -8,25 +8,25 @@ use Rattle.quantity.specs.declared.refusal.Refusal.{Refusal}
 use Rattle.quantity.specs.declared.count.DatalinkId.{DatalinkId}
 use Rattle.meaning.specs.declared.message.End.the-variants as ends
 use Rattle.meaning.proofs.Amongst.{clash}
-use Rattle.judging.specs.declared.answer.Verdict.{Verdict}
+use Rattle.read_rules.specs.declared.answer.Verdict.{Verdict}
 use Rattle.reader.specs.declared.answer.PlaneAnswer.{PlaneAnswer}
 use Rattle.reader.specs.Readings.{readControl, readData, planeOf}
 use Rattle.writer.specs.declared.answer.WriteAnswer.{WriteAnswer}
 use Rattle.writer.specs.Written.{noRoom, controlWritten}
 use Rattle.store.specs.Packets.{Packet}
-use Rattle.life.specs.Machine.{machine}
-use Rattle.life.specs.Life.{Result, Answer, refused, taken, nothingWaiting, notOperational, windowShut, done, sent}
-use Rattle.channel.specs.declared.state.Channel.{Channel}
-use Rattle.calls.specs.declared.offering.OfferAnswer.{OfferAnswer}
-use Rattle.calls.specs.declared.asking.NextAnswer.{NextAnswer}
-use Rattle.calls.specs.Calls.{offerAnswer, nextAnswer, withdrawResult}
-use Rattle.table.specs.declared.state.Configuration.{Configuration}
-use Rattle.table.specs.declared.state.State.{State}
-use Rattle.table.specs.Limits.{stateFits}
-use Rattle.run.specs.Calling.{calling, offering, asking}
-use Rattle.run.proofs.Exact as rules
-use Rattle.hearing.specs.Heard.{dueOf}
-use Rattle.query.specs.Query.{queryOf}
+use Rattle.ips_channel_rules.specs.Machine.{machine}
+use Rattle.ips_channel_rules.specs.Life.{Result, Answer, refused, taken, nothingWaiting, notOperational, windowShut, done, sent}
+use Rattle.ips_channel.specs.declared.state.Channel.{Channel}
+use Rattle.ips_channel_calls.specs.declared.offering.OfferAnswer.{OfferAnswer}
+use Rattle.ips_channel_calls.specs.declared.asking.NextAnswer.{NextAnswer}
+use Rattle.ips_channel_calls.specs.Calls.{offerAnswer, nextAnswer, withdrawResult}
+use Rattle.ips_state.specs.declared.state.Configuration.{Configuration}
+use Rattle.ips_state.specs.declared.state.State.{State}
+use Rattle.ips_state.specs.Limits.{stateFits}
+use Rattle.ips_run.specs.Calling.{calling, offering, asking}
+use Rattle.ips_run.proofs.Exact as rules
+use Rattle.ips_radio.specs.Heard.{dueOf}
+use Rattle.ips_query.specs.Query.{queryOf}
 use Rattle.answer.specs.declared.WithdrawAnswer.{WithdrawAnswer}
 use Rattle.answer.specs.declared.RadioAnswer.{RadioAnswer}
 use Rattle.answer.specs.declared.StartAnswer.{StartAnswer}

@@ -6,12 +6,12 @@ use mathlib.Core.Path.{_≡_, sym, _∙_}
 use borrow.Author.Tests.{eq-eqb, ne-eqb}
 use lib.ListN.{length, take, replicate}
 use Rattle.quantity.specs.Limits.{MOST-CHANNELS}
-use Rattle.table.specs.declared.state.Configuration.{Configuration}
-use Rattle.table.specs.declared.state.State.{State}
-use Rattle.table.specs.declared.survey.Survey.{Survey}
-use Rattle.table.specs.Table.{freshState}
-use Rattle.table.specs.Limits.{stateFits, placed, surveyOf}
-use Rattle.table.proofs.Places.{fit, fresh-fits, fresh-configured}
+use Rattle.ips_state.specs.declared.state.Configuration.{Configuration}
+use Rattle.ips_state.specs.declared.state.State.{State}
+use Rattle.ips_state.specs.declared.survey.Survey.{Survey}
+use Rattle.ips_state.specs.Table.{freshState}
+use Rattle.ips_state.specs.Limits.{stateFits, placed, surveyOf}
+use Rattle.ips_state.proofs.Places.{fit, fresh-fits, fresh-configured}
 use Rattle.answer.specs.declared.StartAnswer.{StartAnswer}
 use Rattle.endpoint.specs.declared.start.Begun.{Begun}
 use Rattle.endpoint.specs.Calls.{settingSizes, startFits, notStarted, Starts}

@@ -8,15 +8,15 @@ use lib.Dec.{eqb}
 use Rattle.quantity.specs.Refusals.{NO-CHANNEL, CONFIGURATION}
 use Rattle.meaning.specs.Kinds.{among}
 use Rattle.store.specs.Packets.{Packet}
-use Rattle.life.specs.Life.{Answer, refused}
-use Rattle.calls.specs.Calls.{offerAnswer, nextAnswer, outAfter, withdrawResult}
-use Rattle.run.specs.Calling.{atChannel, placeIn, calling, offering, asking}
-use Rattle.table.specs.declared.state.Setting.{Setting}
-use Rattle.table.specs.declared.state.Configuration.{Configuration}
-use Rattle.table.specs.declared.state.State.{State}
-use Rattle.table.specs.Table.{configured, channelAt, freshOf, freshState, blankState}
-use Rattle.table.specs.Limits.{ids, sizes, stateFits, configurationFits}
-use Rattle.table.specs.Memory.{memoryFits, startOf}
+use Rattle.ips_channel_rules.specs.Life.{Answer, refused}
+use Rattle.ips_channel_calls.specs.Calls.{offerAnswer, nextAnswer, outAfter, withdrawResult}
+use Rattle.ips_run.specs.Calling.{atChannel, placeIn, calling, offering, asking}
+use Rattle.ips_state.specs.declared.state.Setting.{Setting}
+use Rattle.ips_state.specs.declared.state.Configuration.{Configuration}
+use Rattle.ips_state.specs.declared.state.State.{State}
+use Rattle.ips_state.specs.Table.{configured, channelAt, freshOf, freshState, blankState}
+use Rattle.ips_state.specs.Limits.{ids, sizes, stateFits, configurationFits}
+use Rattle.ips_state.specs.Memory.{memoryFits, startOf}
 use Rattle.endpoint.specs.declared.place.Place.{Place}
 use Rattle.endpoint.specs.declared.call.Offered.{Offered}
 use Rattle.endpoint.specs.declared.call.Asked.{Asked}

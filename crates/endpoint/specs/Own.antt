@@ -5,16 +5,16 @@ use mathlib.Core.List.{List, [], _∷_, _++_}
 use mathlib.Core.Path.{_≡_}
 use Rattle.quantity.specs.declared.count.DatalinkId.{DatalinkId}
 use Rattle.store.specs.Waiting.{Holds}
-use Rattle.life.specs.Life as life
-use Rattle.life.specs.Life.{Event, Answer, answers, final}
-use Rattle.life.specs.Simple.{simple, isWaiting, having}
-use Rattle.life.specs.Agreement.{Agrees}
-use Rattle.channel.specs.Channel.{stateOf}
-use Rattle.calls.specs.Calls.{offerAnswer, nextAnswer, outAfter}
-use Rattle.table.specs.declared.state.Configuration.{Configuration}
-use Rattle.run.specs.Run.{Call, offer, next, withdraw, radio, query, World, ifOwn}
-use Rattle.run.specs.Demand.{settingAt, channelIn, storeIn, ruled, seen, simplyAt}
-use Rattle.run.specs.Settling.{ledgerAt}
+use Rattle.ips_channel_rules.specs.Life as life
+use Rattle.ips_channel_rules.specs.Life.{Event, Answer, answers, final}
+use Rattle.ips_channel_rules.specs.Simple.{simple, isWaiting, having}
+use Rattle.ips_channel_rules.specs.Agreement.{Agrees}
+use Rattle.ips_channel.specs.Channel.{stateOf}
+use Rattle.ips_channel_calls.specs.Calls.{offerAnswer, nextAnswer, outAfter}
+use Rattle.ips_state.specs.declared.state.Configuration.{Configuration}
+use Rattle.ips_run.specs.Run.{Call, offer, next, withdraw, radio, query, World, ifOwn}
+use Rattle.ips_run.specs.Demand.{settingAt, channelIn, storeIn, ruled, seen, simplyAt}
+use Rattle.ips_run.specs.Settling.{ledgerAt}
 use Rattle.endpoint.specs.Calls.{withdrawAnswer}
 use Rattle.endpoint.specs.Ran.{Reply, offered, asked, emptied}
 

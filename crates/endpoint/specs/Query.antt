@@ -6,12 +6,12 @@ use mathlib.Core.Path.{_≡_}
 use lib.ListN.{length, getD}
 use Rattle.quantity.specs.Refusals.{CONFIGURATION}
 use Rattle.meaning.specs.declared.message.Sequence.{Sequence}
-use Rattle.judging.specs.Controls.{sequenceAbsent}
+use Rattle.read_rules.specs.Controls.{sequenceAbsent}
 use Rattle.writer.specs.declared.answer.WriteAnswer.{WriteAnswer}
 use Rattle.writer.specs.Written.{controlWritten, answerTo, outAfter}
-use Rattle.table.specs.declared.state.State.{State}
-use Rattle.table.specs.Limits.{stateFits}
-use Rattle.query.specs.Query.{queryOf}
+use Rattle.ips_state.specs.declared.state.State.{State}
+use Rattle.ips_state.specs.Limits.{stateFits}
+use Rattle.ips_query.specs.Query.{queryOf}
 
 pub record Queries (s : State) (out : List ℕ) (r : WriteAnswer) (out′ : List ℕ) : Type 0 where
   pub answer-is : r ≡ cond (stateFits s) (answerTo true (controlWritten (queryOf s)) (length out)) (WriteAnswer.Refused (record { number = CONFIGURATION; place = 0 }))

@@ -10,14 +10,14 @@ use Rattle.writer.specs.declared.answer.WriteAnswer.{WriteAnswer}
 use Rattle.writer.specs.Written as writer
 use Rattle.writer.specs.Written.{controlWritten, answerTo}
 use Rattle.store.specs.Packets.{Packet}
-use Rattle.calls.specs.declared.offering.OfferAnswer.{OfferAnswer}
-use Rattle.calls.specs.declared.asking.NextAnswer.{NextAnswer}
-use Rattle.calls.specs.Calls.{offerAnswer, nextAnswer, outAfter, withdrawResult}
-use Rattle.table.specs.declared.state.State.{State}
-use Rattle.table.specs.Limits.{stateFits}
-use Rattle.query.specs.Query.{queryOf}
-use Rattle.run.specs.Calling.{calling, offering, asking}
-use Rattle.run.specs.Run.{Call, offer, next, withdraw, radio, query, World, after}
+use Rattle.ips_channel_calls.specs.declared.offering.OfferAnswer.{OfferAnswer}
+use Rattle.ips_channel_calls.specs.declared.asking.NextAnswer.{NextAnswer}
+use Rattle.ips_channel_calls.specs.Calls.{offerAnswer, nextAnswer, outAfter, withdrawResult}
+use Rattle.ips_state.specs.declared.state.State.{State}
+use Rattle.ips_state.specs.Limits.{stateFits}
+use Rattle.ips_query.specs.Query.{queryOf}
+use Rattle.ips_run.specs.Calling.{calling, offering, asking}
+use Rattle.ips_run.specs.Run.{Call, offer, next, withdraw, radio, query, World, after}
 use Rattle.answer.specs.declared.WithdrawAnswer.{WithdrawAnswer}
 use Rattle.answer.specs.declared.RadioAnswer.{RadioAnswer}
 use Rattle.endpoint.specs.declared.call.Offered.{Offered}

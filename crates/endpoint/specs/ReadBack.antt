@@ -6,12 +6,12 @@ use lib.ListN.{take}
 use Rattle.quantity.specs.declared.count.DatalinkId.{DatalinkId}
 use Rattle.meaning.specs.declared.message.End.the-variants as ends
 use Rattle.meaning.specs.declared.message.Sequence.{Sequence}
-use Rattle.judging.specs.declared.answer.Verdict.{Verdict}
+use Rattle.read_rules.specs.declared.answer.Verdict.{Verdict}
 use Rattle.reader.specs.Readings.{readData, packetOf}
-use Rattle.life.specs.Life.{messageOf}
-use Rattle.calls.specs.declared.asking.NextAnswer.{NextAnswer}
-use Rattle.table.specs.declared.state.State.{State}
-use Rattle.table.specs.Table.{channelAt}
+use Rattle.ips_channel_rules.specs.Life.{messageOf}
+use Rattle.ips_channel_calls.specs.declared.asking.NextAnswer.{NextAnswer}
+use Rattle.ips_state.specs.declared.state.State.{State}
+use Rattle.ips_state.specs.Table.{channelAt}
 
 -- Next: the count that was answered, and in so many bytes that packet, that channel and that Flow Sequence
 pub record ReadBack (datalink : DatalinkId) (id : ℕ) (packet : List ℕ) (sequence : Sequence) (answer : NextAnswer) (out′ : List ℕ) : Type 0 where

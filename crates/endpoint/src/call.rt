@@ -5,12 +5,12 @@ ghost use Rattle.endpoint.specs.Calls.{Stands, Offers, OffersAt, Asks, A
 use crate::place;
 use crate::place::Place;
 use answer::WithdrawAnswer;
-use calls::asking;
-use calls::asking::NextAnswer;
-use calls::offering;
-use calls::offering::OfferAnswer;
+use ips_channel_calls::asking;
+use ips_channel_calls::asking::NextAnswer;
+use ips_channel_calls::offering;
+use ips_channel_calls::offering::OfferAnswer;
+use ips_state::state::State;
 use quantity::refusal::Refusal;
-use table::state::State;
 
 // The answer, and the state then.
 pub struct Offered {

@@ -1,9 +1,9 @@
 // Where a call finds its channel and its store, or the refusal: 19, then 12.
 ghost use mathlib.Core.Path.{_≡_};
 ghost use Rattle.endpoint.specs.Calls.{placeOf};
+use ips_state::state::State;
+use ips_state::survey;
 use quantity::refusal;
-use table::state::State;
-use table::survey;
 
 // The channel's index in the table, and where its store starts in the memory.
 pub(crate) enum Place {

@@ -1,10 +1,10 @@
 // Query.
 ghost use mathlib.Core.Path.{_≡_};
 ghost use Rattle.endpoint.specs.Query.{Queries};
+use ips_state::state::State;
+use ips_state::survey;
 use meaning::message::End;
 use quantity::refusal;
-use table::state::State;
-use table::survey;
 use writer::answer::WriteAnswer;
 use writer::control;
 
@@ -16,5 +16,5 @@ pub fn ask(state: State, out: &mut [u8]) -> WriteAnswer
     if !survey.fits {
         return writer::answer::refused(refusal::CONFIGURATION);
     }
-    control::write(End::Ips, query::message(state), out)
+    control::write(End::Ips, ips_query::message(state), out)
 }

@@ -1,9 +1,11 @@
 // A radio message handed in.
 ghost use mathlib.Core.Path.{_≡_};
 ghost use mathlib.Core.Bool.{true};
-ghost use Rattle.table.specs.Limits.{stateFits};
+ghost use Rattle.ips_state.specs.Limits.{stateFits};
 ghost use Rattle.endpoint.specs.Radio.{refusedHeard, unchanged, heardControl, controlHeard, dataHeard, handedIn};
 use answer::RadioAnswer;
+use ips_state::state::State;
+use ips_state::survey;
 use meaning::message::Control;
 use meaning::message::End;
 use quantity::refusal;
@@ -13,8 +15,6 @@ use reader::answer::DataReading;
 use reader::answer::PlaneAnswer;
 use reader::answer::Verdict;
 use reader::header;
-use table::state::State;
-use table::survey;
 
 pub struct Heard {
     pub answer: RadioAnswer,
@@ -46,8 +46,8 @@ fn accepted(state: State, message: Control) -> Heard
 {
     let last = state.context;
     let given = message.context;
-    let after = hearing::hear(state, message);
-    if hearing::is_due(last, given) {
+    let after = ips_radio::hear(state, message);
+    if ips_radio::is_due(last, given) {
         return Heard {
             answer: RadioAnswer::Due,
             state: after,

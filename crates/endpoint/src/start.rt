@@ -2,13 +2,13 @@
 ghost use mathlib.Core.Path.{_≡_};
 ghost use Rattle.endpoint.specs.Calls.{notStarted, Starts};
 use answer::StartAnswer;
+use ips_state::state;
+use ips_state::state::Configuration;
+use ips_state::state::State;
+use ips_state::survey;
 use quantity::refusal;
 use quantity::refusal::Refusal;
 use store::stretch;
-use table::state;
-use table::state::Configuration;
-use table::state::State;
-use table::survey;
 
 pub struct Begun {
     pub answer: StartAnswer,

@@ -15,14 +15,14 @@ use Rattle.meaning.specs.declared.message.Channel.{Channel}
 use Rattle.meaning.specs.declared.message.Expiration.{Expiration}
 use Rattle.meaning.specs.declared.message.Counted.{Counted}
 use Rattle.meaning.specs.Kinds.{among, mayHold}
-use Rattle.item.specs.declared.answer.Item.{Item}
-use Rattle.item.specs.Items.{itemOf}
-use Rattle.item.proofs.answer.Item.{enum}
-use Rattle.judging.specs.Judging.{Step, next, stop}
-use Rattle.judging.specs.Controls.{unstatedDatalink}
+use Rattle.read_option.specs.declared.answer.Item.{Item}
+use Rattle.read_option.specs.Items.{itemOf}
+use Rattle.read_option.proofs.answer.Item.{enum}
+use Rattle.read_rules.specs.Judging.{Step, next, stop}
+use Rattle.read_rules.specs.Controls.{unstatedDatalink}
 use Rattle.reader.specs.Readings.{Gathered, unstatedCounted, unstatedChannel, unstatedExpiration, dataUnstated, dataState, dataSort}
 use Rattle.meaning.proofs.Amongst.{amongst}
-use Rattle.judging.proofs.Taking.{Seats, Adding}
+use Rattle.read_rules.proofs.Taking.{Seats, Adding}
 
 -- what the code keeps of a message, each part in a variable of its own
 abbrev pub gathered : Datalink → Counted → Channel → Expiration → Bool → Gathered

@@ -13,9 +13,9 @@ use Rattle.quantity.specs.Limits.{LONGEST-DATAGRAM}
 use Rattle.quantity.specs.Refusals.{LONG-DATAGRAM, HEADER}
 use Rattle.wire.specs.Options.{split}
 use Rattle.meaning.specs.declared.message.End.{End}
-use Rattle.judging.specs.Judging.{Rules, judge, CURRENT-VERSION, versionOf, flagOf, flag, readWith}
-use Rattle.judging.specs.Sorts.{rulesOf}
-use Rattle.judging.specs.Controls.{controlRefused, controlSort}
+use Rattle.read_rules.specs.Judging.{Rules, judge, CURRENT-VERSION, versionOf, flagOf, flag, readWith}
+use Rattle.read_rules.specs.Sorts.{rulesOf}
+use Rattle.read_rules.specs.Controls.{controlRefused, controlSort}
 use Rattle.reader.specs.declared.answer.PlaneAnswer.{PlaneAnswer}
 use Rattle.reader.specs.Readings.{dataRefused, dataSort, readControl, readData, planeOf}
 

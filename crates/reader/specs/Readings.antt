@@ -16,12 +16,12 @@ use Rattle.meaning.specs.declared.message.Expiration.{Expiration}
 use Rattle.meaning.specs.declared.message.Counted.{Counted}
 use Rattle.meaning.specs.declared.message.Data.{Data}
 use Rattle.meaning.specs.Kinds.{DATALINK-IDENTIFIER, PACKET-DATA, CHANNEL-IDENTIFIER, EXPIRATION-TIME}
-use Rattle.item.specs.Stated.{datalinkFrom, channelFrom, expirationFrom, countedFrom, dataStated}
-use Rattle.judging.specs.declared.answer.Verdict.{Verdict}
-use Rattle.judging.specs.declared.answer.ControlReading.{ControlReading}
-use Rattle.judging.specs.Judging.{CURRENT-VERSION, versionOf, flagOf, readWith}
-use Rattle.judging.specs.Sorts.{Sort, rulesOf}
-use Rattle.judging.specs.Controls.{controlSort, isOurs, nothing, unstatedDatalink}
+use Rattle.read_option.specs.Stated.{datalinkFrom, channelFrom, expirationFrom, countedFrom, dataStated}
+use Rattle.read_rules.specs.declared.answer.Verdict.{Verdict}
+use Rattle.read_rules.specs.declared.answer.ControlReading.{ControlReading}
+use Rattle.read_rules.specs.Judging.{CURRENT-VERSION, versionOf, flagOf, readWith}
+use Rattle.read_rules.specs.Sorts.{Sort, rulesOf}
+use Rattle.read_rules.specs.Controls.{controlSort, isOurs, nothing, unstatedDatalink}
 use Rattle.reader.specs.declared.answer.DataReading.{DataReading}
 use Rattle.reader.specs.declared.answer.PlaneAnswer.{PlaneAnswer}
 

@@ -1,8 +1,8 @@
 // What a reader answers; of a control message, as it is judged.
-pub use judging::answer::ControlReading;
-pub use judging::answer::Verdict;
 use meaning::message::Data;
 use quantity::refusal::Refusal;
+pub use read_rules::answer::ControlReading;
+pub use read_rules::answer::Verdict;
 
 // A datagram's plane, by its header.
 pub enum PlaneAnswer {

@@ -5,9 +5,9 @@ use crate::answer::ControlReading;
 use crate::answer::PlaneAnswer;
 use crate::answer::Verdict;
 use crate::header;
-use judging::control;
 use meaning::message::End;
 use quantity::count::DatalinkId;
+use read_rules::control;
 
 // A control message, read whole, or the first refusal; or the answer that it is of the other plane.
 pub fn read(datagram: &[u8], end: End, id: DatalinkId) -> ControlReading

@@ -15,11 +15,11 @@ use Rattle.meaning.specs.declared.message.End.{End}
 use Rattle.meaning.specs.declared.message.Plane.{Plane}
 use Rattle.meaning.specs.declared.message.Datalink.{Datalink}
 use Rattle.meaning.specs.Kinds.{among, known, lengthListed, valueListed, mayHold, DATALINK-IDENTIFIER, PACKET-DATA}
-use Rattle.item.specs.Stated.{datalinkFrom}
-use Rattle.judging.specs.Judging.{next, judge, readWith, versionOf, flagOf, flag, CURRENT-VERSION}
-use Rattle.judging.specs.Sorts.{Sort, faultOf, channelOf, stepOf, rulesOf}
+use Rattle.read_option.specs.Stated.{datalinkFrom}
+use Rattle.read_rules.specs.Judging.{next, judge, readWith, versionOf, flagOf, flag, CURRENT-VERSION}
+use Rattle.read_rules.specs.Sorts.{Sort, faultOf, channelOf, stepOf, rulesOf}
 use Rattle.reader.specs.Readings.{packetIn}
-use Rattle.laying.specs.Parts.{datalinkThen}
+use Rattle.write_option.specs.Parts.{datalinkThen}
 
 -- the longest option but Packet Data: a frame, and a Link Instance or a Context
 abbrev pub LONGEST-OPTION : ℕ

@@ -27,13 +27,13 @@ use Rattle.meaning.specs.declared.message.SequenceCell.{SequenceCell}
 use Rattle.meaning.specs.declared.message.WindowCell.{WindowCell}
 use Rattle.meaning.specs.declared.message.Control.{Control}
 use Rattle.meaning.specs.Kinds.{among, known, lengthListed, valueListed, LINK-INSTANCE, DATALINK-CONTEXT, CHANNEL-STATUS, FLOW-WINDOW, FLOW-SEQUENCE, PACKET-DATA}
-use Rattle.item.specs.Stated.{statusFrom, sequenceFrom, windowFrom, controlStated}
-use Rattle.judging.specs.Judging.{judge}
-use Rattle.judging.specs.Sorts.{channelOf, finishOf}
-use Rattle.judging.specs.Controls.{blankControl, controlSort, controlAccepted, unstatedStatus, controlUnstated, controlState, statusAbsent, sequenceAbsent, windowAbsent}
+use Rattle.read_option.specs.Stated.{statusFrom, sequenceFrom, windowFrom, controlStated}
+use Rattle.read_rules.specs.Judging.{judge}
+use Rattle.read_rules.specs.Sorts.{channelOf, finishOf}
+use Rattle.read_rules.specs.Controls.{blankControl, controlSort, controlAccepted, unstatedStatus, controlUnstated, controlState, statusAbsent, sequenceAbsent, windowAbsent}
 use Rattle.reader.specs.Readings.{readControl}
-use Rattle.allowed.specs.Allowed.{may, fitsLength, datalinkAllowed, instanceAllowed, contextAllowed, statusAllowed, statusesAllowed, primaryAllowed, sequenceAllowed, sequencesAllowed, windowAllowed, windowsAllowed, controlAllowed, stands}
-use Rattle.laying.specs.Parts.{datalinkThen, instanceThen, contextThen, statusThen, sequenceThen, windowThen, statusesThen, sequencesThen, windowsThen}
+use Rattle.writable.specs.Allowed.{may, fitsLength, datalinkAllowed, instanceAllowed, contextAllowed, statusAllowed, statusesAllowed, primaryAllowed, sequenceAllowed, sequencesAllowed, windowAllowed, windowsAllowed, controlAllowed, stands}
+use Rattle.write_option.specs.Parts.{datalinkThen, instanceThen, contextThen, statusThen, sequenceThen, windowThen, statusesThen, sequencesThen, windowsThen}
 use Rattle.writer.specs.Written.{controlOptions, controlWritten, CONTROL-HEADER}
 use Rattle.roundtrip.specs.Values.{SequenceWord, WindowWord, ControlValue}
 use Rattle.roundtrip.proofs.Adding.{Adds, adds-none, adds-option, adds-both, adds-datalink, read-back}

@@ -19,14 +19,14 @@ use Rattle.meaning.specs.declared.message.Channel.{Channel}
 use Rattle.meaning.specs.declared.message.Expiration.{Expiration}
 use Rattle.meaning.specs.declared.message.Data.{Data}
 use Rattle.meaning.specs.Kinds.{among, lengthListed, valueListed, mayHold, CHANNEL-IDENTIFIER, EXPIRATION-TIME, FLOW-SEQUENCE, PACKET-DATA}
-use Rattle.item.specs.Stated.{dataStated}
-use Rattle.judging.specs.declared.answer.Verdict.{Verdict}
-use Rattle.judging.specs.Judging.{judge}
-use Rattle.judging.specs.Sorts.{finishOf}
+use Rattle.read_option.specs.Stated.{dataStated}
+use Rattle.read_rules.specs.declared.answer.Verdict.{Verdict}
+use Rattle.read_rules.specs.Judging.{judge}
+use Rattle.read_rules.specs.Sorts.{finishOf}
 use Rattle.reader.specs.declared.answer.DataReading.{DataReading}
 use Rattle.reader.specs.Readings.{Gathered, pairs, blankData, dataUnstated, dataState, dataAccepted, dataSort, readData, packetIn, packetOf}
-use Rattle.allowed.specs.Allowed.{may, datalinkAllowed, countedAllowed, channelAllowed, expirationAllowed, dataAllowed}
-use Rattle.laying.specs.Parts.{datalinkThen, countedThen, channelThen, expirationThen}
+use Rattle.writable.specs.Allowed.{may, datalinkAllowed, countedAllowed, channelAllowed, expirationAllowed, dataAllowed}
+use Rattle.write_option.specs.Parts.{datalinkThen, countedThen, channelThen, expirationThen}
 use Rattle.writer.specs.Written.{dataOptions, dataWritten, DATA-HEADER}
 use Rattle.roundtrip.specs.Values.{CountedWord, ExpirationWord, DataValue}
 use Rattle.roundtrip.proofs.Adding.{Reads, Adds, adds-none, adds-option, adds-both, adds-datalink, reads-option, split-written, read-back}

@@ -17,7 +17,7 @@ use Rattle.meaning.specs.declared.message.Plane.{Plane}
 use Rattle.meaning.specs.Kinds.{among, known, lengthListed, valueListed, mayHold}
 use Rattle.meaning.proofs.Amongst.{clash}
 use Rattle.roundtrip.specs.Values.{Word}
-use Rattle.account.specs.Account.{All, Listed, speaks, the, tableOf, Accepts}
+use Rattle.acceptance.specs.Account.{All, Listed, speaks, the, tableOf, Accepts}
 
 pub record Held (plane : Plane) (end : End) (kind : ℕ) (content : List ℕ) : Type 0 where
   pub may-stand : among kind (mayHold plane end) ≡ true

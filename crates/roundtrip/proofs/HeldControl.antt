@@ -19,11 +19,11 @@ use Rattle.meaning.specs.declared.message.Window.{Window}
 use Rattle.meaning.specs.declared.message.StatusCell.{StatusCell}
 use Rattle.meaning.specs.Kinds.{among, known, lengthListed, mustHold, LINK-INSTANCE, DATALINK-CONTEXT, CHANNEL-STATUS, FLOW-WINDOW, FLOW-SEQUENCE}
 use Rattle.meaning.proofs.Amongst.{amongst}
-use Rattle.item.specs.Stated.{Table, tabulate, instanceFrom, contextFrom, statusFrom, sequenceFrom, windowFrom, controlStated}
-use Rattle.judging.specs.Controls.{statusAbsent, sequenceAbsent, windowAbsent}
-use Rattle.account.specs.Account.{tableOf, Filled, Accepts, controlMeaning}
-use Rattle.account.proofs.Tables.{getD-tabulate}
-use Rattle.allowed.specs.Allowed.{may, fitsLength, instanceAllowed, contextAllowed, statusAllowed, statusesAllowed, stands, primaryAllowed, sequenceAllowed, sequencesAllowed, windowAllowed, windowsAllowed, controlAllowed}
+use Rattle.read_option.specs.Stated.{Table, tabulate, instanceFrom, contextFrom, statusFrom, sequenceFrom, windowFrom, controlStated}
+use Rattle.read_rules.specs.Controls.{statusAbsent, sequenceAbsent, windowAbsent}
+use Rattle.acceptance.specs.Account.{tableOf, Filled, Accepts, controlMeaning}
+use Rattle.acceptance.proofs.Tables.{getD-tabulate}
+use Rattle.writable.specs.Allowed.{may, fitsLength, instanceAllowed, contextAllowed, statusAllowed, statusesAllowed, stands, primaryAllowed, sequenceAllowed, sequencesAllowed, windowAllowed, windowsAllowed, controlAllowed}
 use Rattle.roundtrip.specs.Values.{SequenceWord, WindowWord, ControlValue}
 use Rattle.roundtrip.proofs.Held.{Held, Holds, word-behind, table-holds}
 

@@ -14,10 +14,10 @@ use Rattle.wire.proofs.Numbers.{big-endian-below}
 use Rattle.meaning.specs.declared.message.End.{End}
 use Rattle.meaning.specs.declared.message.Plane.the-variants as planes
 use Rattle.meaning.specs.Kinds.{among, known, lengthListed, valueListed, CHANNEL-IDENTIFIER, EXPIRATION-TIME, FLOW-SEQUENCE}
-use Rattle.item.specs.Stated.{Table, channelFrom, expirationFrom, countedFrom, dataStated}
+use Rattle.read_option.specs.Stated.{Table, channelFrom, expirationFrom, countedFrom, dataStated}
 use Rattle.reader.specs.Readings.{packetOf}
-use Rattle.account.specs.Account.{tableOf, SameChannel, Accepts, dataMeaning}
-use Rattle.allowed.specs.Allowed.{countedAllowed, channelAllowed, expirationAllowed, dataAllowed}
+use Rattle.acceptance.specs.Account.{tableOf, SameChannel, Accepts, dataMeaning}
+use Rattle.writable.specs.Allowed.{countedAllowed, channelAllowed, expirationAllowed, dataAllowed}
 use Rattle.roundtrip.specs.Values.{CountedWord, ExpirationWord, DataValue}
 use Rattle.roundtrip.proofs.Shorter.{packet-short}
 use Rattle.roundtrip.proofs.Held.{Holds, word-behind, table-holds}

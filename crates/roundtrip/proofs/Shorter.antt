@@ -18,11 +18,11 @@ use Rattle.meaning.specs.declared.message.Plane.{Plane}
 use Rattle.meaning.specs.declared.message.Plane.the-variants as planes
 use Rattle.meaning.specs.Kinds.{lengthListed, DATALINK-IDENTIFIER, PACKET-DATA, CHANNEL-IDENTIFIER, EXPIRATION-TIME, FLOW-SEQUENCE}
 use Rattle.meaning.proofs.Amongst.{Each}
-use Rattle.item.specs.Stated.{Table, datalinkFrom, countedFrom, channelFrom, expirationFrom, dataStated}
+use Rattle.read_option.specs.Stated.{Table, datalinkFrom, countedFrom, channelFrom, expirationFrom, dataStated}
 use Rattle.reader.specs.Readings.{packetOf}
-use Rattle.account.specs.Account.{isAt, speaksFor, the, tableOf, Accepts, dataMeaning}
-use Rattle.account.proofs.Data.{data-packet}
-use Rattle.laying.specs.Parts.{datalinkThen, countedThen, channelThen, expirationThen}
+use Rattle.acceptance.specs.Account.{isAt, speaksFor, the, tableOf, Accepts, dataMeaning}
+use Rattle.acceptance.proofs.Data.{data-packet}
+use Rattle.write_option.specs.Parts.{datalinkThen, countedThen, channelThen, expirationThen}
 use Rattle.writer.specs.Written.{dataOptions, dataWritten}
 use Rattle.roundtrip.proofs.Held.{Holds, table-holds}
 

@@ -16,10 +16,10 @@ use Rattle.meaning.specs.declared.message.End.{End}
 use Rattle.meaning.specs.declared.message.Plane.the-variants as planes
 use Rattle.meaning.specs.declared.message.Control.{Control}
 use Rattle.meaning.specs.Kinds.{among, known, lengthListed, valueListed, oneForEach, naming, PACKET-DATA}
-use Rattle.item.specs.Stated.{tabulate}
-use Rattle.judging.specs.Controls.{controlSort, controlUnstated, controlState}
-use Rattle.allowed.specs.Allowed.{may}
-use Rattle.laying.specs.Parts.{tableThen}
+use Rattle.read_option.specs.Stated.{tabulate}
+use Rattle.read_rules.specs.Controls.{controlSort, controlUnstated, controlState}
+use Rattle.writable.specs.Allowed.{may}
+use Rattle.write_option.specs.Parts.{tableThen}
 use Rattle.roundtrip.proofs.Adding.{Adds, adds-none, adds-option, adds-both}
 
 -- ---- places

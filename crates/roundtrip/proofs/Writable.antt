@@ -12,16 +12,16 @@ use Rattle.wire.specs.Numbers.{Octets}
 use Rattle.wire.specs.Options.{Options}
 use Rattle.meaning.specs.declared.message.End.{End}
 use Rattle.meaning.specs.declared.message.Plane.the-variants as planes
-use Rattle.item.specs.Stated.{controlStated, dataStated}
-use Rattle.judging.specs.declared.answer.ControlReading.{ControlReading}
-use Rattle.judging.specs.declared.answer.Verdict.{Verdict}
-use Rattle.judging.specs.Controls.{controlAccepted}
+use Rattle.read_option.specs.Stated.{controlStated, dataStated}
+use Rattle.read_rules.specs.declared.answer.ControlReading.{ControlReading}
+use Rattle.read_rules.specs.declared.answer.Verdict.{Verdict}
+use Rattle.read_rules.specs.Controls.{controlAccepted}
 use Rattle.reader.specs.declared.answer.DataReading.{DataReading}
 use Rattle.reader.specs.Readings.{readControl, readData, packetOf}
-use Rattle.account.specs.Account.{Accepts, controlMeaning, dataMeaning}
-use Rattle.account.proofs.Control.{control-account}
-use Rattle.account.proofs.Data.{data-account}
-use Rattle.allowed.specs.Allowed.{controlAllowed, dataAllowed}
+use Rattle.acceptance.specs.Account.{Accepts, controlMeaning, dataMeaning}
+use Rattle.acceptance.proofs.Control.{control-account}
+use Rattle.acceptance.proofs.Data.{data-account}
+use Rattle.writable.specs.Allowed.{controlAllowed, dataAllowed}
 use Rattle.writer.specs.Written.{controlWritten, dataWritten}
 use Rattle.roundtrip.specs.Values.{ControlValue, DataValue}
 use Rattle.roundtrip.proofs.HeldControl.{control-allowed, control-value}

@@ -9,7 +9,7 @@ use Rattle.meaning.specs.declared.message.Expiration.{Expiration}
 use Rattle.meaning.specs.declared.message.Counted.{Counted}
 use Rattle.meaning.specs.declared.message.Control.{Control}
 use Rattle.meaning.specs.declared.message.Data.{Data}
-use Rattle.judging.specs.Controls.{sequenceAbsent, windowAbsent}
+use Rattle.read_rules.specs.Controls.{sequenceAbsent, windowAbsent}
 
 -- a number of 32 bits
 abbrev pub Word : ℕ → Type 0

@@ -4,8 +4,8 @@ use mathlib.Core.List.{List, [], _∷_}
 use lib.ListN.{take}
 use Rattle.text.specs.Strings.{bytesText}
 use Rattle.writer.specs.declared.answer.WriteAnswer.{WriteAnswer}
-use Rattle.calls.specs.declared.offering.OfferAnswer.{OfferAnswer}
-use Rattle.calls.specs.declared.asking.NextAnswer.{NextAnswer}
+use Rattle.ips_channel_calls.specs.declared.offering.OfferAnswer.{OfferAnswer}
+use Rattle.ips_channel_calls.specs.declared.asking.NextAnswer.{NextAnswer}
 use Rattle.answer.specs.declared.StartAnswer.{StartAnswer}
 use Rattle.answer.specs.declared.WithdrawAnswer.{WithdrawAnswer}
 use Rattle.answer.specs.declared.RadioAnswer.{RadioAnswer}

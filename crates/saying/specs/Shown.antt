@@ -8,7 +8,7 @@ use Rattle.store.specs.declared.queue.Entry.{Entry}
 use Rattle.store.specs.declared.queue.Queue.{Queue}
 use Rattle.store.specs.Waiting.{waiting}
 use Rattle.flow.specs.declared.Flow.{Flow}
-use Rattle.channel.specs.declared.state.Channel.{Channel}
+use Rattle.ips_channel.specs.declared.state.Channel.{Channel}
 use Rattle.phrase.specs.Phrases.{SPACE, oneNumber, twoNumbers}
 
 -- ` -`

@@ -7,8 +7,8 @@ ghost use Rattle.saying.specs.Answers.{startTexts, offerTexts, nextTexts
 use answer::RadioAnswer;
 use answer::StartAnswer;
 use answer::WithdrawAnswer;
-use calls::asking::NextAnswer;
-use calls::offering::OfferAnswer;
+use ips_channel_calls::asking::NextAnswer;
+use ips_channel_calls::offering::OfferAnswer;
 use phrase::whole;
 use text::put;
 use text::put_bytes;

@@ -1,8 +1,8 @@
 // What a channel is, and what its store holds.
 ghost use Rattle.phrase.specs.Saying.{Says};
 ghost use Rattle.saying.specs.Shown.{statusTexts, flowTexts, waitingTexts, channelTexts, storeTexts};
-use channel::state::Channel;
 use flow::Flow;
+use ips_channel::state::Channel;
 use meaning::message::Status;
 use phrase::part::labelled;
 use phrase::part::paired;

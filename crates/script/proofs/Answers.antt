@@ -13,7 +13,7 @@ use Rattle.meaning.specs.declared.message.End.{End}
 use Rattle.text.specs.Words.{beyondOf, headOf, tailOf}
 use Rattle.text.specs.Strings.{pairsOf}
 use Rattle.wording.specs.Wording.{sameText}
-use Rattle.judging.specs.declared.answer.ControlReading.{ControlReading}
+use Rattle.read_rules.specs.declared.answer.ControlReading.{ControlReading}
 use Rattle.reader.specs.declared.answer.DataReading.{DataReading}
 use Rattle.reader.specs.declared.answer.PlaneAnswer.{PlaneAnswer}
 use Rattle.reader.specs.Readings.{readControl, readData, packetOf, planeOf}

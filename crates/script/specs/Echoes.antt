@@ -6,9 +6,9 @@ use lib.ListN.{length}
 use Rattle.quantity.specs.declared.count.DatalinkId.{DatalinkId}
 use Rattle.meaning.specs.declared.message.End.{End}
 use Rattle.text.specs.Strings.{bytesText}
-use Rattle.judging.specs.declared.answer.ControlReading.{ControlReading}
+use Rattle.read_rules.specs.declared.answer.ControlReading.{ControlReading}
 use Rattle.reader.specs.declared.answer.DataReading.{DataReading}
-use Rattle.allowed.specs.Allowed.{controlAllowed, dataAllowed}
+use Rattle.writable.specs.Allowed.{controlAllowed, dataAllowed}
 use Rattle.writer.specs.declared.answer.WriteAnswer.{WriteAnswer}
 use Rattle.writer.specs.Written.{controlWritten, dataWritten, answerTo}
 use Rattle.phrase.specs.Phrases.{refusedTexts}

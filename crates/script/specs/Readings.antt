@@ -3,8 +3,8 @@ use Prim.Native.Nat.{ℕ}
 use mathlib.Core.List.{List, []}
 use Rattle.quantity.specs.declared.count.DatalinkId.{DatalinkId}
 use Rattle.meaning.specs.declared.message.End.{End}
-use Rattle.judging.specs.declared.answer.Verdict.{Verdict}
-use Rattle.judging.specs.declared.answer.ControlReading.{ControlReading}
+use Rattle.read_rules.specs.declared.answer.Verdict.{Verdict}
+use Rattle.read_rules.specs.declared.answer.ControlReading.{ControlReading}
 use Rattle.reader.specs.declared.answer.DataReading.{DataReading}
 use Rattle.reader.specs.declared.answer.PlaneAnswer.{PlaneAnswer}
 use Rattle.reader.specs.Readings.{readControl, readData, packetOf, planeOf}

@@ -2,7 +2,7 @@
 ghost use Prim.Native.Nat.{_≤_};
 ghost use lib.ListN.{length, take};
 ghost use Rattle.phrase.specs.Saying.{Says};
-ghost use Rattle.allowed.specs.Allowed.{controlAllowed, dataAllowed};
+ghost use Rattle.writable.specs.Allowed.{controlAllowed, dataAllowed};
 ghost use Rattle.writer.specs.Written.{controlWritten, dataWritten};
 ghost use Rattle.script.specs.Echoes.{countOf, writtenTexts, outcomeTexts, controlEchoTexts, dataEchoTexts, echoingTexts};
 use meaning::message::Control;

@@ -1,19 +1,19 @@
 // The session script: reads a line, writes its answer, and never stops early.
 ghost use Prim.Native.Nat.{_≤_};
-use channel::state::Channel;
 use endpoint::call;
 use endpoint::queries;
 use endpoint::radio;
 use endpoint::start;
+use ips_channel::state::Channel;
+use ips_state::state;
+use ips_state::state::State;
+use ips_state::survey;
 use libc::STDOUT_FILENO;
 use lines::Found;
 use quantity::count::ByteCount;
 use quantity::limit::MOST_CHANNELS;
 use quantity::refusal;
 use quantity::refusal::Refusal;
-use table::state;
-use table::state::State;
-use table::survey;
 use text::Hexed;
 use text::Number;
 use text::head;

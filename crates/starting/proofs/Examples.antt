@@ -7,7 +7,7 @@ use Rattle.bytes.specs.Bytes.{indexOf}
 use Rattle.text.specs.Words.{headOf, tailOf}
 use Rattle.text.specs.Numbers.{digitOf, stepOf, followOf, bySize, plainOf, parseOf}
 use Rattle.wording.specs.Wording.{sameText, onlyOf}
-use Rattle.table.specs.declared.state.Setting.{Setting}
+use Rattle.ips_state.specs.declared.state.Setting.{Setting}
 use Rattle.starting.specs.Starting.{skipped, kindOf, settingWords, settingsOf, storesOf, memoryOf, notSaid, startFrom, channelsWords, startWords}
 
 abbrev line : List ℕ

@@ -11,7 +11,7 @@ use lib.Seq.{append-snoc, set-at}
 use Rattle.quantity.specs.Limits.{MOST-CHANNELS}
 use Rattle.text.specs.Words.{beyondOf}
 use Rattle.wording.specs.Wording.{MOST-ROOM}
-use Rattle.table.specs.declared.state.Setting.{Setting}
+use Rattle.ips_state.specs.declared.state.Setting.{Setting}
 use Rattle.starting.specs.declared.SettingWords.{SettingWords}
 use Rattle.starting.specs.declared.Gathered.{Gathered}
 use Rattle.starting.specs.Starting.{WORDS-EACH, skipped, settingWords, ahead, settingsOf, storesOf, noSetting, tabled, gatheredNone, joinedOf, gatheredOf}

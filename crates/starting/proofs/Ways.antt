@@ -13,7 +13,7 @@ use Rattle.text.specs.Numbers.{parseOf}
 use Rattle.text.specs.declared.Number.{Number}
 use Rattle.text.proofs.Bounds.{clash, parse-most}
 use Rattle.wording.specs.Wording.{sameText, HIGHEST-ID, MOST-ROOM, onNumber, onlyOf}
-use Rattle.table.specs.declared.state.Setting.{Setting}
+use Rattle.ips_state.specs.declared.state.Setting.{Setting}
 use Rattle.starting.specs.declared.KindWord.{KindWord}
 use Rattle.starting.specs.declared.SettingWords.{SettingWords}
 use Rattle.starting.specs.declared.Gathered.{Gathered}

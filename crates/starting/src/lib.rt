@@ -2,12 +2,12 @@
 ghost use mathlib.Core.Path.{_≡_};
 ghost use Prim.Native.Nat.{_+_, _^_, _<_, _≤_};
 ghost use Rattle.starting.specs.Starting.{MOST-SETTINGS, skipped, kindOf, settingWords, settingsOf, noSetting, gatheredNone, gatheredOf, joinedOf, memoryOf, notSaid, channelsWords, startWords};
+use ips_state::state::Configuration;
+use ips_state::state::Setting;
 use quantity::count::ByteCount;
 use quantity::count::DatalinkId;
 use quantity::count::FlowSequence;
 use quantity::limit::MOST_CHANNELS;
-use table::state::Configuration;
-use table::state::Setting;
 use text::Number;
 use wording::HIGHEST_ID;
 use wording::MOST_ROOM;

@@ -6,11 +6,11 @@ use native.Mathlib.Omega.{arith}
 use lib.ListN.{length, set}
 use Rattle.wire.specs.Options.{Options, done}
 use Rattle.meaning.specs.declared.message.Control.{Control}
-use Rattle.laying.specs.declared.option.Stated.{Stated}
-use Rattle.laying.specs.Laying.{sizeOf, statedThen, States}
-use Rattle.laying.specs.Parts.{datalinkThen, instanceThen, contextThen, statusesThen, sequencesThen, windowsThen}
-use Rattle.laying.proofs.Laying.{prefixing-size, states-behind, Standing, standing-header}
-use Rattle.laying.proofs.Tables.{statuses-prefixing, sequences-prefixing}
+use Rattle.write_option.specs.declared.option.Stated.{Stated}
+use Rattle.write_option.specs.Laying.{sizeOf, statedThen, States}
+use Rattle.write_option.specs.Parts.{datalinkThen, instanceThen, contextThen, statusesThen, sequencesThen, windowsThen}
+use Rattle.write_option.proofs.Laying.{prefixing-size, states-behind, Standing, standing-header}
+use Rattle.write_option.proofs.Tables.{statuses-prefixing, sequences-prefixing}
 use Rattle.writer.specs.Written.{controlOptions, controlWritten, CONTROL-HEADER}
 
 -- what follows each part

@@ -7,10 +7,10 @@ use lib.ListN.{length, set}
 use Rattle.wire.specs.Options.{Options, done, option}
 use Rattle.meaning.specs.Kinds.{PACKET-DATA}
 use Rattle.meaning.specs.declared.message.Data.{Data}
-use Rattle.laying.specs.declared.option.Stated.{Stated}
-use Rattle.laying.specs.Laying.{sizeOf, statedThen, States}
-use Rattle.laying.specs.Parts.{datalinkThen, countedThen, channelThen, expirationThen}
-use Rattle.laying.proofs.Laying.{option-size, states-behind, Standing, standing-header}
+use Rattle.write_option.specs.declared.option.Stated.{Stated}
+use Rattle.write_option.specs.Laying.{sizeOf, statedThen, States}
+use Rattle.write_option.specs.Parts.{datalinkThen, countedThen, channelThen, expirationThen}
+use Rattle.write_option.proofs.Laying.{option-size, states-behind, Standing, standing-header}
 use Rattle.writer.specs.Written.{dataOptions, dataWritten, DATA-HEADER}
 
 -- what follows each option

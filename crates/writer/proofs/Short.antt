@@ -13,8 +13,8 @@ use Rattle.meaning.specs.declared.message.Instance.{Instance}
 use Rattle.meaning.specs.declared.message.Context.{Context}
 use Rattle.meaning.specs.declared.message.Control.{Control}
 use Rattle.meaning.specs.declared.message.Data.{Data}
-use Rattle.allowed.specs.Allowed.{may, datalinkAllowed, instanceAllowed, contextAllowed, controlAllowed, countedAllowed, channelAllowed, expirationAllowed, dataAllowed}
-use Rattle.laying.specs.Laying.{ShortInstance, ShortContext, ShortNames}
+use Rattle.writable.specs.Allowed.{may, datalinkAllowed, instanceAllowed, contextAllowed, controlAllowed, countedAllowed, channelAllowed, expirationAllowed, dataAllowed}
+use Rattle.write_option.specs.Laying.{ShortInstance, ShortContext, ShortNames}
 
 both : (a b : Bool) → (a && b) ≡ true → (a ≡ true) × (b ≡ true)
 both true b e = (refl, e)

@@ -13,8 +13,8 @@ use Rattle.meaning.specs.declared.message.Control.{Control}
 use Rattle.meaning.specs.declared.message.Data.{Data}
 use Rattle.meaning.specs.Kinds.{PACKET-DATA}
 use Rattle.writer.specs.declared.answer.WriteAnswer.{WriteAnswer}
-pub use Rattle.laying.specs.Parts.{datalinkThen, instanceThen, contextThen, statusThen, sequenceThen, windowThen, statusesThen, sequencesThen, windowsThen, countedThen, channelThen, expirationThen}
-unfoldable pub use Rattle.laying.specs.Parts.{tableThen}
+pub use Rattle.write_option.specs.Parts.{datalinkThen, instanceThen, contextThen, statusThen, sequenceThen, windowThen, statusesThen, sequencesThen, windowsThen, countedThen, channelThen, expirationThen}
+unfoldable pub use Rattle.write_option.specs.Parts.{tableThen}
 
 unfoldable pub controlOptions : Control → Options
 controlOptions m =

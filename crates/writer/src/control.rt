@@ -3,17 +3,17 @@ ghost use mathlib.Core.Path.{_≡_};
 ghost use Prim.Native.Nat.{_≤_};
 ghost use lib.ListN.{length};
 ghost use Rattle.wire.specs.Options.{Laid};
-ghost use Rattle.laying.specs.Laying.{ShortNames};
-ghost use Rattle.allowed.specs.Allowed.{controlAllowed};
+ghost use Rattle.write_option.specs.Laying.{ShortNames};
+ghost use Rattle.writable.specs.Allowed.{controlAllowed};
 ghost use Rattle.writer.specs.Written.{controlWritten, Outcome};
 use crate::answer;
 use crate::answer::WriteAnswer;
-use laying::option;
-use laying::table;
 use meaning::message::Control;
 use meaning::message::End;
 use quantity::count::ByteCount;
 use quantity::refusal;
+use write_option::option;
+use write_option::table;
 
 // Version 1, the control plane.
 const HEADER: u8 = 16;
@@ -66,7 +66,7 @@ fn lay(message: Control, out: &mut [u8]) -> usize
 pub fn write(end: End, message: Control, out: &mut [u8]) -> WriteAnswer
     ensures { λ r. ⌜ Outcome (controlAllowed end message) (controlWritten message) (now (out .entry)) r (now (out .exit)) ⌝ }
 {
-    if !allowed::control::may_write(end, message) {
+    if !writable::control::may_write(end, message) {
         return answer::refused(refusal::MEANING);
     }
     if answer::no_room(size(message), out.len()) {

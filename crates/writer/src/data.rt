@@ -3,17 +3,17 @@ ghost use mathlib.Core.Path.{_≡_};
 ghost use Prim.Native.Nat.{_≤_, _<_, _^_};
 ghost use lib.ListN.{length};
 ghost use Rattle.wire.specs.Options.{Laid};
-ghost use Rattle.allowed.specs.Allowed.{dataAllowed};
+ghost use Rattle.writable.specs.Allowed.{dataAllowed};
 ghost use Rattle.writer.specs.Written.{dataWritten, Outcome};
 use crate::answer;
 use crate::answer::WriteAnswer;
-use laying::option;
 use meaning::kind;
 use meaning::message::Data;
 use meaning::message::End;
 use quantity::count::ByteCount;
 use quantity::refusal;
 use wire::option::FRAME_SIZE;
+use write_option::option;
 
 // Version 1, the data plane.
 const HEADER: u8 = 24;
@@ -63,7 +63,7 @@ fn lay(message: Data, packet: &[u8], out: &mut [u8]) -> usize
 pub fn write(end: End, message: Data, packet: &[u8], out: &mut [u8]) -> WriteAnswer
     ensures { λ r. ⌜ Outcome (dataAllowed end message (length (now (packet .entry)))) (dataWritten message (now (packet .entry))) (now (out .entry)) r (now (out .exit)) ⌝ }
 {
-    if !allowed::data::may_write(end, message, packet.len()) {
+    if !writable::data::may_write(end, message, packet.len()) {
         return answer::refused(refusal::MEANING);
     }
     if answer::no_room(size(message, packet), out.len()) {

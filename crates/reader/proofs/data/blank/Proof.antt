@@ -1,6 +1,6 @@
 -- `reader::data::blank` states nothing. Assumes nothing.
 use mathlib.Core.Path.{refl}
-use Rattle.item.specs.Stated.{dataStated}
+use Rattle.read_option.specs.Stated.{dataStated}
 use Rattle.reader.specs.Readings.{blankData}
 use Rattle.reader.proofs.data.blank.Statement.{statement}
 use Rattle.reader.proofs.data.blank.Tie as tie

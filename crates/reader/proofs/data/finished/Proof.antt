@@ -4,7 +4,7 @@ use borrow.Author.Tests.{eq-eqb, ne-eqb, not-true, not-false}
 use mathlib.Core.Path.{_≡_, sym}
 use mathlib.Core.Bool.{true}
 use Rattle.meaning.specs.declared.message.Datalink.{Datalink}
-use Rattle.judging.specs.Sorts.{finishOf}
+use Rattle.read_rules.specs.Sorts.{finishOf}
 use Rattle.reader.specs.Readings.{pairs, dataUnstated, dataAccepted}
 use Rattle.reader.proofs.data.finished.Statement.{statement}
 use Rattle.reader.proofs.data.finished.Tie as tie

@@ -5,11 +5,11 @@ use Prim.Native.Nat.{_-_}
 use mathlib.Core.Path.{_≡_, refl, sym, _∙_}
 use lib.ListN.{length, drop}
 use Rattle.wire.specs.Options.{split}
-use Rattle.item.specs.Stated.{dataStated}
-use Rattle.judging.specs.Judging.{judge}
-use Rattle.judging.specs.Sorts.{Sort, rulesOf}
-use Rattle.judging.proofs.Turn.{ends, cuts}
-use Rattle.judging.proofs.Taking.{Framed, Parting, room-of, behind, faulty, parting}
+use Rattle.read_option.specs.Stated.{dataStated}
+use Rattle.read_rules.specs.Judging.{judge}
+use Rattle.read_rules.specs.Sorts.{Sort, rulesOf}
+use Rattle.read_rules.proofs.Turn.{ends, cuts}
+use Rattle.read_rules.proofs.Taking.{Framed, Parting, room-of, behind, faulty, parting}
 use Rattle.reader.specs.declared.answer.DataReading.{DataReading}
 use Rattle.reader.specs.Readings.{Gathered, blankData, dataSort}
 use Rattle.reader.proofs.Gathering.{gathered, add, adding, passed-over}

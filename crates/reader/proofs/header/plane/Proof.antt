@@ -2,7 +2,7 @@
 use borrow.Author.Needs.{needs}
 use borrow.Author.Tests.{le-ltb, lt-ltb, eq-eqb, ne-eqb}
 use Rattle.quantity.specs.Limits.{LONGEST-DATAGRAM}
-use Rattle.judging.specs.Judging.{CURRENT-VERSION}
+use Rattle.read_rules.specs.Judging.{CURRENT-VERSION}
 use Rattle.reader.specs.Readings.{planeOf}
 use Rattle.reader.proofs.header.plane.Statement.{statement}
 use Rattle.reader.proofs.header.plane.Tie as tie

@@ -4,10 +4,10 @@ use native.Mathlib.Omega.{arith}
 use lib.ListN.{length-set}
 use Rattle.wire.specs.Options.{Options}
 use Rattle.meaning.specs.declared.message.Control.{Control}
-use Rattle.laying.specs.Laying.{statedThen}
-use Rattle.laying.specs.Parts.{statusesThen, sequencesThen, windowsThen}
-use Rattle.laying.proofs.Laying.{Stage, stage, stage-stated, standing-end}
-use Rattle.laying.proofs.Tables.{statuses-prefixing, sequences-prefixing, windows-prefixing}
+use Rattle.write_option.specs.Laying.{statedThen}
+use Rattle.write_option.specs.Parts.{statusesThen, sequencesThen, windowsThen}
+use Rattle.write_option.proofs.Laying.{Stage, stage, stage-stated, standing-end}
+use Rattle.write_option.proofs.Tables.{statuses-prefixing, sequences-prefixing, windows-prefixing}
 use Rattle.writer.specs.Written.{controlWritten}
 use Rattle.writer.proofs.ControlMessage.{behindDatalink, behindInstance, behindContext, behindStatuses, behindSequences, behindWindows, control-header}
 use Rattle.writer.proofs.control.lay.Statement.{statement}

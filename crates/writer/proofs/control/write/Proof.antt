@@ -2,7 +2,7 @@
 use borrow.Author.Needs.{needs}
 use borrow.Author.Tests.{not-false}
 use mathlib.Core.Path.{sym, _∙_}
-use Rattle.allowed.specs.Allowed.{controlAllowed}
+use Rattle.writable.specs.Allowed.{controlAllowed}
 use Rattle.writer.specs.Written.{controlWritten}
 use Rattle.writer.proofs.Outcomes.{Judged, judged-by, outcome-refused, outcome-no-room, outcome-wrote, room-enough}
 use Rattle.writer.proofs.Short.{control-short}

@@ -7,8 +7,8 @@ use lib.ListN.{length-set}
 use Rattle.wire.specs.Options.{Options, option}
 use Rattle.meaning.specs.Kinds.{PACKET-DATA}
 use Rattle.meaning.specs.declared.message.Data.{Data}
-use Rattle.laying.specs.Laying.{statedThen}
-use Rattle.laying.proofs.Laying.{option-size, laid-alone, prefixing-option, Stage, stage, stage-stated, standing-end}
+use Rattle.write_option.specs.Laying.{statedThen}
+use Rattle.write_option.proofs.Laying.{option-size, laid-alone, prefixing-option, Stage, stage, stage-stated, standing-end}
 use Rattle.writer.specs.Written.{dataWritten}
 use Rattle.writer.proofs.DataMessage.{behindDatalink, behindCounted, behindChannel, behindExpiration, behindPacket, data-header}
 use Rattle.writer.proofs.data.lay.Statement.{statement}

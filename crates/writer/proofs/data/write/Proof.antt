@@ -3,7 +3,7 @@ use borrow.Author.Needs.{needs}
 use borrow.Author.Tests.{not-false}
 use mathlib.Core.Path.{sym, _∙_}
 use lib.ListN.{length}
-use Rattle.allowed.specs.Allowed.{dataAllowed}
+use Rattle.writable.specs.Allowed.{dataAllowed}
 use Rattle.writer.specs.Written.{dataWritten}
 use Rattle.writer.proofs.Outcomes.{Judged, judged-by, outcome-refused, outcome-no-room, outcome-wrote, room-enough}
 use Rattle.writer.proofs.Short.{data-short}

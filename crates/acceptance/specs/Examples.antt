@@ -1,0 +1,43 @@
+-- Document 01, "Examples": the starred ones, as rows of one table. Those on messages are options of a radio's control message.
+use Prim.Native.Nat.{ℕ}
+use mathlib.Core.Path.{_≡_}
+use mathlib.Core.List.{List, [], _∷_, _++_, map}
+use mathlib.Core.Bool.{Bool, true, false}
+use Rattle.quantity.specs.Examples as counts
+use Rattle.meaning.specs.declared.message.End.the-variants.{Radio}
+use Rattle.meaning.specs.declared.message.Plane.the-variants as planes
+use Rattle.meaning.specs.declared.message.Status.{Status}
+use Rattle.meaning.specs.declared.message.Window.{Window}
+use Rattle.meaning.specs.Kinds.{CHANNEL-STATUS, FLOW-WINDOW}
+use Rattle.meaning.specs.Statuses.{operational, unknown}
+use Rattle.read_option.specs.declared.answer.Item.{Item}
+use Rattle.read_option.specs.declared.answer.OptionAnswer.{OptionAnswer}
+use Rattle.read_option.specs.declared.answer.OptionAnswer.the-variants.{Took, Refused}
+use Rattle.read_option.specs.Items.{answerOf}
+
+pub data Row : Type 0 where
+  counting : counts.Row → Row
+  status : (content : List ℕ) (channel number : ℕ) (isUnknown isOperational : Bool) → Row
+  window : (content : List ℕ) → OptionAnswer → Row
+
+abbrev pub Right : Row → Type 0
+Right (counting row) = counts.Right row
+Right (status content channel number isUnknown isOperational) =
+    (answerOf planes.Control Radio CHANNEL-STATUS content ≡ Took (Item.Status channel number))
+    × (unknown (Status.Given number) ≡ isUnknown)
+    × (operational (Status.Given number) ≡ isOperational)
+Right (window content answer) = answerOf planes.Control Radio FLOW-WINDOW content ≡ answer
+
+abbrev pub AllRight : List Row → Type 0
+AllRight [] = Unit {0}
+AllRight (row ∷ rows) = Right row × AllRight rows
+
+abbrev pub table : List Row
+table =
+    map counting counts.table
+    ++ (status (0x00 ∷ (0xF7 ∷ [])) 0 7 false true
+    ∷ status (0x03 ∷ (0x08 ∷ [])) 3 8 true false
+    ∷ window (0x02 ∷ []) (Took (Item.Window 2 Window.Empty))
+    ∷ window (0x02 ∷ (0x00 ∷ (0x00 ∷ (0x00 ∷ (0x00 ∷ []))))) (Took (Item.Window 2 (Window.Given (record { 0 = 0 }))))
+    ∷ window (0xFF ∷ []) (Refused 5)
+    ∷ [])

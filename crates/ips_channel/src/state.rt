@@ -1,0 +1,51 @@
+// A channel, by value; its store is lent beside it.
+ghost use mathlib.Core.Path.{_≡_};
+ghost use Rattle.ips_channel.specs.Channel.{freshChannel, queued};
+use flow::Flow;
+use meaning::message::Status;
+use quantity::count::ByteCount;
+use quantity::count::FlowSequence;
+use store::queue;
+use store::queue::Queue;
+
+pub struct Channel {
+    pub id: u8,
+    // Flow-controlled, or else plain.
+    pub controlled: bool,
+    // The length of its store.
+    pub size: ByteCount,
+    // `Absent` while it is not reported.
+    pub status: Status,
+    pub flow: Flow,
+    pub sequence: FlowSequence,
+    pub latest: u64,
+    pub queue: Queue,
+}
+
+// A channel that starts: not reported, its first sequence, time 0, nothing waiting.
+pub fn fresh(id: u8, controlled: bool, size: ByteCount, first: FlowSequence) -> Channel
+    ensures { λ r. ⌜ r ≡ freshChannel id controlled size first ⌝ }
+{
+    let flow = flow::first(controlled);
+    let queue = queue::empty();
+    Channel {
+        id,
+        controlled,
+        size,
+        status: Status::Absent,
+        flow,
+        sequence: first,
+        latest: 0,
+        queue,
+    }
+}
+
+// The channel with what waits on it now, and a time that was accepted.
+pub fn with_queue(channel: Channel, queue: Queue, time: u64) -> Channel
+    ensures { λ r. ⌜ r ≡ queued channel queue time ⌝ }
+{
+    let mut left = channel;
+    left.queue = queue;
+    left.latest = time;
+    left
+}

@@ -1,0 +1,176 @@
+// Next, on a channel and its store. Number 19 was tested, and the channel found: `Ready` is what that gives.
+ghost use mathlib.Core.Path.{_≡_};
+ghost use mathlib.Core.Bool.{true};
+ghost use mathlib.Core.List.{tail};
+ghost use lib.ListN.{length};
+ghost use Rattle.writer.specs.Written.{Outcome};
+ghost use Rattle.store.specs.Packets.{alive, firstBytes};
+ghost use Rattle.store.specs.Waiting.{packetsOf};
+ghost use Rattle.ips_channel_rules.specs.Life.{countedOn, messageOf, messageBytes};
+ghost use Rattle.ips_channel_calls.specs.Calls.{Ready, Asks, Leaves};
+use ips_channel::state;
+use ips_channel::state::Channel;
+use meaning::message;
+use meaning::message::Counted;
+use meaning::message::Data;
+use meaning::message::Datalink;
+use meaning::message::End;
+use meaning::message::Expiration;
+use meaning::message::Sequence;
+use meaning::status;
+use quantity::count::ByteCount;
+use quantity::count::DatalinkId;
+use quantity::count::FlowSequence;
+use quantity::refusal;
+use quantity::refusal::Refusal;
+use store::waiting;
+use writer::answer::WriteAnswer;
+
+pub enum NextAnswer {
+    // The message's length.
+    Sent(ByteCount),
+    NothingWaiting,
+    NotOperational,
+    WindowShut,
+    Refused(Refusal),
+}
+
+pub struct Asked {
+    pub answer: NextAnswer,
+    pub channel: Channel,
+}
+
+fn refused(channel: Channel, number: u8) -> Asked
+    ensures { λ r. ⌜ r ≡ record { answer = NextAnswer.Refused (record { number = number; place = 0 }); channel = channel } ⌝ }
+{
+    Asked {
+        answer: NextAnswer::Refused(Refusal { number, place: 0 }),
+        channel,
+    }
+}
+
+// The bytes of the first packet that is not expired; 0: none waits.
+fn first_length(channel: Channel, store: &[u8], time: u64) -> ByteCount
+    requires { ⌜ Ready channel (now store) ⌝ }
+    ensures { λ r. ⌜ r ≡ record { 0 = length (firstBytes (alive time (packetsOf (channel .queue) (now (store .entry))))) } ⌝ }
+{
+    let queue = channel.queue;
+    let packet = waiting::peek(queue, store, time);
+    ByteCount(packet.len())
+}
+
+// The expired packets leave, and no other.
+fn expired(channel: Channel, store: &mut [u8], time: u64) -> Channel
+    requires { ⌜ Ready channel (now store) ⌝ }
+    ensures { λ r. ⌜ Leaves channel (alive time (packetsOf (channel .queue) (now (store .entry)))) (channel .sequence) time r (now (store .exit)) ⌝ }
+{
+    let queue = channel.queue;
+    let left = waiting::expire(queue, store, time);
+    state::with_queue(channel, left, time)
+}
+
+// The expired packets leave, and the first of the others, which is counted.
+fn sent(channel: Channel, store: &mut [u8], sequence: FlowSequence, time: u64) -> Channel
+    requires { ⌜ Ready channel (now store) ⌝ }
+    ensures { λ r. ⌜ Leaves channel (tail (alive time (packetsOf (channel .queue) (now (store .entry))))) sequence time r (now (store .exit)) ⌝ }
+{
+    let queue = channel.queue;
+    let left = waiting::pop(queue, store, time);
+    let mut counted = state::with_queue(channel, left, time);
+    counted.sequence = sequence;
+    counted
+}
+
+fn counted_on(id: u8, sequence: Sequence) -> Counted
+    ensures { λ r. ⌜ r ≡ countedOn id sequence ⌝ }
+{
+    match sequence {
+        Sequence::Absent => Counted::Absent,
+        Sequence::Given(number) => Counted::Given(id, number),
+    }
+}
+
+// The message that carries the first packet.
+fn carrier(datalink: DatalinkId, id: u8, sequence: Sequence) -> Data
+    ensures { λ r. ⌜ r ≡ messageOf datalink id sequence ⌝ }
+{
+    let counted = counted_on(id, sequence);
+    Data {
+        datalink: Datalink::Given(datalink),
+        sequence: counted,
+        channel: message::Channel::Given(id),
+        expiration: Expiration::Absent,
+    }
+}
+
+// Writes the first packet that is not expired, from where it waits.
+fn write_first(
+    channel: Channel,
+    store: &[u8],
+    datalink: DatalinkId,
+    sequence: Sequence,
+    time: u64,
+    out: &mut [u8],
+) -> WriteAnswer
+    requires { ⌜ Ready channel (now store) ⌝ }
+    ensures { λ r. ⌜ Outcome true (messageBytes datalink (channel .id) sequence (firstBytes (alive time (packetsOf (channel .queue) (now (store .entry)))))) (now (out .entry)) r (now (out .exit)) ⌝ }
+{
+    let queue = channel.queue;
+    let packet = waiting::peek(queue, store, time);
+    writer::data::write(
+        End::Ips,
+        carrier(datalink, channel.id, sequence),
+        packet,
+        out,
+    )
+}
+
+// 15, then the three answers in their order, then 18 where there is a message to write.
+pub fn next(
+    channel: Channel,
+    store: &mut [u8],
+    datalink: DatalinkId,
+    time: u64,
+    out: &mut [u8],
+) -> Asked
+    requires { ⌜ Ready channel (now store) ⌝ }
+    ensures { λ r. ⌜ Asks channel (now (store .entry)) datalink time (now (out .entry)) r (now (store .exit)) (now (out .exit)) ⌝ }
+{
+    if time < channel.latest {
+        return refused(channel, refusal::EARLIER_TIME);
+    }
+    let bytes = first_length(channel, store, time);
+    let first = bytes.0;
+    let code = channel.status;
+    let operational = status::is_operational(code);
+    if first == 0 {
+        return Asked {
+            answer: NextAnswer::NothingWaiting,
+            channel: expired(channel, store, time),
+        };
+    }
+    if !operational {
+        return Asked {
+            answer: NextAnswer::NotOperational,
+            channel: expired(channel, store, time),
+        };
+    }
+    let rule = channel.flow;
+    let sequence = channel.sequence;
+    if !flow::may_go(rule, sequence, bytes) {
+        return Asked {
+            answer: NextAnswer::WindowShut,
+            channel: expired(channel, store, time),
+        };
+    }
+    let after = flow::counted(rule, sequence, bytes);
+    let carried = flow::carried(rule, after);
+    let WriteAnswer::Wrote(length) = write_first(channel, store, datalink, carried, time, out)
+    else {
+        return refused(channel, refusal::NO_ROOM);
+    };
+    Asked {
+        answer: NextAnswer::Sent(length),
+        channel: sent(channel, store, after, time),
+    }
+}

@@ -1,0 +1,89 @@
+-- Demand 3: "Every packet taken in is, at each moment, exactly one of sent, expired, withdrawn or waiting, and those sent on a channel leave in the order they
+-- came." "While a window is in force no packet goes past it."
+use Prim.Native.Nat.{ℕ, _+_, _<_, _≤_}
+use mathlib.Core.List.{List, [], _∷_, _++_, map}
+use mathlib.Core.Path.{_≡_}
+use lib.ListN.{length}
+use Rattle.store.specs.Packets.{Packet}
+use Rattle.ips_channel_rules.specs.Life.{Event, offer, next, withdraw, radio, Answer, taken, nothingWaiting, notOperational, windowShut, done, sent, refused}
+use Rattle.ips_channel_rules.specs.Simple as simples
+use Rattle.ips_channel_rules.specs.Simple.{Fate, Entry, isSent, isWaiting, having}
+
+-- ---- what the caller saw
+
+-- the packet of an offer, if it was taken
+abbrev pub tookBy : Event → Answer → List Packet
+tookBy (offer packet time) taken = packet ∷ []
+tookBy (offer packet time) nothingWaiting = []
+tookBy (offer packet time) notOperational = []
+tookBy (offer packet time) windowShut = []
+tookBy (offer packet time) done = []
+tookBy (offer packet time) (sent bytes sequence) = []
+tookBy (offer packet time) (refused number) = []
+tookBy (next time room) answer = []
+tookBy withdraw answer = []
+tookBy (radio status window) answer = []
+
+-- "Every packet taken in", in the order they came
+abbrev pub takenIn : List Event → List Answer → List Packet
+takenIn [] answers = []
+takenIn (e ∷ es) [] = []
+takenIn (e ∷ es) (a ∷ answers) = tookBy e a ++ takenIn es answers
+
+-- the packet of an answer, if one was sent
+abbrev pub handedBy : Answer → List (List ℕ)
+handedBy (sent bytes sequence) = bytes ∷ []
+handedBy taken = []
+handedBy nothingWaiting = []
+handedBy notOperational = []
+handedBy windowShut = []
+handedBy done = []
+handedBy (refused number) = []
+
+-- the packets handed over, in the order of the calls
+abbrev pub handedOver : List Answer → List (List ℕ)
+handedOver [] = []
+handedOver (a ∷ answers) = handedBy a ++ handedOver answers
+
+abbrev pub bytesOver : List (List ℕ) → ℕ
+bytesOver [] = 0
+bytesOver (p ∷ ps) = length p + bytesOver ps
+
+-- ---- the account
+
+-- a packet that waits is not due at the time, one that expired was; the others may be either
+abbrev pub fairly : ℕ → ℕ → Fate → Type 0
+fairly latest expiry simples.waits = latest < expiry
+fairly latest expiry simples.expired = expiry ≤ latest
+fairly latest expiry simples.sent = Unit {0}
+fairly latest expiry simples.withdrawn = Unit {0}
+
+abbrev pub Fair : ℕ → List Entry → Type 0
+Fair latest [] = Unit {0}
+Fair latest (e ∷ es) = fairly latest (e .packet .expiry) (e .fate) × Fair latest es
+
+-- a ledger of the packets taken in, in the order they came, each with one fate: those sent are the packets handed over, in that order, byte for byte; those that
+-- wait are the packets that wait
+pub record Account (took : List Packet) (handed : List (List ℕ)) (waiting : List Packet) (latest : ℕ) : Type 0 where
+  pub ledger : List Entry
+  pub of-taken : map (λ (e : Entry). e .packet) ledger ≡ took
+  pub of-sent : map (λ (p : Packet). p .bytes) (having isSent ledger) ≡ handed
+  pub of-waiting : having isWaiting ledger ≡ waiting
+  pub of-time : Fair latest ledger
+
+-- a later ledger: a packet that waited may have got its fate, a fate once given stays, packets may have come
+pub data Later : List Entry → List Entry → Type 0 where
+  new : {es : List Entry} → Later [] es
+  same : {e : Entry} {es fs : List Entry} → Later es fs → Later (e ∷ es) (e ∷ fs)
+  settled : {p : Packet} {fate : Fate} {es fs : List Entry} → Later es fs → Later (record { packet = p; fate = simples.waits } ∷ es) (record { packet = p; fate = fate } ∷ fs)
+
+-- ---- between two radio messages
+abbrev pub quietly : Event → Type 0
+quietly (offer packet time) = Unit {0}
+quietly (next time room) = Unit {0}
+quietly withdraw = Unit {0}
+quietly (radio status window) = ⊥
+
+abbrev pub Quiet : List Event → Type 0
+Quiet [] = Unit {0}
+Quiet (e ∷ es) = quietly e × Quiet es

@@ -1,0 +1,50 @@
+-- Document 01, "A channel's life": "Radio control message accepted".
+use Prim.Native.Nat.{ℕ}
+use mathlib.Core.Bool.{Bool, true, false, not, _&&_}
+use mathlib.Core.List.{List, _++_, map}
+use lib.ListN.{getD, drop}
+use lib.Dec.{eqb}
+use Rattle.meaning.specs.declared.message.Status.{Status}
+use Rattle.meaning.specs.declared.message.Window.{Window}
+use Rattle.meaning.specs.declared.message.Instance.{Instance}
+use Rattle.meaning.specs.declared.message.Context.{Context}
+use Rattle.meaning.specs.declared.message.Control.{Control}
+use Rattle.ips_channel.specs.declared.state.Channel.{Channel}
+use Rattle.ips_channel.specs.Channel.{heardOf}
+use Rattle.ips_state.specs.declared.state.State.{State}
+use Rattle.ips_state.specs.Table.{configured}
+
+-- what the message states of a channel: nothing, where it doesn't name it
+abbrev pub statusIn : Control → ℕ → Status
+statusIn message id = getD (message .statuses) id (record { status = Status.Absent }) .status
+
+abbrev pub windowIn : Control → ℕ → Window
+windowIn message id = getD (message .windows) id (record { window = Window.Absent }) .window
+
+-- "a configured channel that it names takes its Status; one that it doesn't name is not reported. For each flow-controlled channel: .."
+unfoldable pub heardFrom : Control → Channel → Channel
+heardFrom message c = heardOf c (statusIn message (c .id)) (windowIn message (c .id))
+
+-- "Unconfigured channels are skipped."
+unfoldable pub heardChannels : Control → State → List Channel
+heardChannels message s = map (heardFrom message) (configured s) ++ drop (s .count) (s .channels)
+
+-- "Link Instance is kept when given."
+abbrev pub keptInstance : Instance → Instance → Instance
+keptInstance before Instance.Absent = before
+keptInstance before (Instance.Given id length) = Instance.Given id length
+
+-- "the last Context received"
+abbrev pub keptContext : Context → Context → Context
+keptContext before Context.Absent = before
+keptContext before (Context.Given bytes length) = Context.Given bytes length
+
+unfoldable pub heardBy : Control → State → State
+heardBy message s =
+    record { datalink = s .datalink; channels = heardChannels message s; count = s .count; instance = keptInstance (s .instance) (message .instance); context = keptContext (s .context) (message .context) }
+
+-- "A mobility message is reported due when a Context comes that differs from the last Context received (in length or bytes), or is the first."
+abbrev pub dueOf : Context → Context → Bool
+dueOf last Context.Absent = false
+dueOf Context.Absent (Context.Given bytes length) = true
+dueOf (Context.Given before long) (Context.Given bytes length) = not (eqb (bytes .0) (before .0) && eqb length long)

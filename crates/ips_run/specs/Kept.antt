@@ -1,0 +1,53 @@
+-- What the radio's messages leave in the state over a whole run, and when a mobility message is due.
+use Prim.Native.Nat.{ℕ}
+use mathlib.Core.List.{List, [], _∷_, _++_}
+use mathlib.Core.Path.{_≡_}
+use Rattle.quantity.specs.declared.count.DatalinkId.{DatalinkId}
+use Rattle.meaning.specs.declared.message.ContextBytes.{ContextBytes}
+use Rattle.meaning.specs.declared.message.Instance.{Instance}
+use Rattle.meaning.specs.declared.message.Context.{Context}
+use Rattle.meaning.specs.declared.message.Control.{Control}
+use Rattle.ips_run.specs.Run.{Call, offer, next, withdraw, radio, query, acceptedIn}
+
+-- ---- the accepted radio control messages of some calls, in order
+abbrev pub acceptedOf : DatalinkId → Call → List Control
+acceptedOf datalink (offer id p time) = []
+acceptedOf datalink (next id time out) = []
+acceptedOf datalink (withdraw id) = []
+acceptedOf datalink (radio datagram) = acceptedIn datalink datagram
+acceptedOf datalink (query out) = []
+
+abbrev pub acceptedAll : DatalinkId → List Call → List Control
+acceptedAll datalink [] = []
+acceptedAll datalink (c ∷ cs) = acceptedOf datalink c ++ acceptedAll datalink cs
+
+-- ---- what they give, in order, and the last of it
+abbrev pub givenIn : {A : Type 0} → (Control → List A) → List Control → List A
+givenIn gives [] = []
+givenIn gives (m ∷ ms) = gives m ++ givenIn gives ms
+
+abbrev pub lastOr : {A : Type 0} → A → List A → A
+lastOr none [] = none
+lastOr none (x ∷ xs) = lastOr x xs
+
+-- "Link Instance is kept when given."
+abbrev pub ifInstance : Instance → List Instance
+ifInstance Instance.Absent = []
+ifInstance (Instance.Given id length) = Instance.Given id length ∷ []
+
+abbrev pub lastInstance : List Control → Instance
+lastInstance ms = lastOr Instance.Absent (givenIn (λ m. ifInstance (m .instance)) ms)
+
+-- "the last Context received"
+abbrev pub ifContext : Context → List Context
+ifContext Context.Absent = []
+ifContext (Context.Given bytes length) = Context.Given bytes length ∷ []
+
+abbrev pub lastContext : List Control → Context
+lastContext ms = lastOr Context.Absent (givenIn (λ m. ifContext (m .context)) ms)
+
+-- "a Context comes that differs from the last Context received (in length or bytes), or is the first"
+pub data Comes : (last given : Context) → Type 0 where
+  is-first : {bytes : ContextBytes} {length : ℕ} → Comes Context.Absent (Context.Given bytes length)
+  in-length : {before bytes : ContextBytes} {long length : ℕ} → (length ≡ long → ⊥) → Comes (Context.Given before long) (Context.Given bytes length)
+  in-bytes : {before bytes : ContextBytes} {long length : ℕ} → (bytes .0 ≡ before .0 → ⊥) → Comes (Context.Given before long) (Context.Given bytes length)

@@ -1,0 +1,100 @@
+-- Number 19: "configuration: channel count, ID 255, an ID twice, no channel 0, store length, a Datalink ID without meaning in 3.3.1" (each has one there); "in any
+-- call that takes them, a state outside these limits (a configuration in it that would be refused, a kept Link Instance or Context outside its lengths, a status
+-- above 15, more than 32 waiting, a waiting length outside 40 to 1,500, waiting bytes over the store, a plain channel not free) or a lent memory whose length
+-- isn't the sum of the stores".
+use Prim.Native.Nat.{ℕ, suc, _+_}
+use mathlib.Core.Bool.{Bool, true, false, cond, not, _&&_}
+use mathlib.Core.List.{List, [], _∷_, map}
+use lib.ListN.{take}
+use lib.Dec.{eqb, leb, ltb}
+use Rattle.quantity.specs.Limits.{FEWEST-CHANNELS, MOST-CHANNELS, RESERVED-CHANNEL, SMALLEST-STORE, LARGEST-STORE}
+use Rattle.meaning.specs.declared.message.End.the-variants as ends
+use Rattle.meaning.specs.Kinds.{among}
+use Rattle.writable.specs.Allowed.{instanceAllowed, contextAllowed, statusAllowed}
+use Rattle.store.specs.Waiting.{wellFormed}
+use Rattle.flow.specs.declared.Flow.{Flow}
+use Rattle.ips_channel.specs.declared.state.Channel.{Channel}
+use Rattle.ips_state.specs.declared.state.Setting.{Setting}
+use Rattle.ips_state.specs.declared.state.Configuration.{Configuration}
+use Rattle.ips_state.specs.declared.state.State.{State}
+use Rattle.ips_state.specs.declared.survey.Survey.{Survey}
+use Rattle.ips_state.specs.Table.{configured}
+
+-- ---- a channel: "ID 255", "store length", "a status above 15", "a plain channel not free", and what waits
+abbrev pub flowFits : Bool → Flow → Bool
+flowFits true flow = true
+flowFits false Flow.Free = true
+flowFits false Flow.NoWindow = false
+flowFits false (Flow.InForce window) = false
+
+unfoldable pub channelFits : Channel → Bool
+channelFits c =
+    ltb (c .id) RESERVED-CHANNEL
+    && (leb SMALLEST-STORE (c .size .0)
+    && (leb (c .size .0) LARGEST-STORE
+    && (statusAllowed ends.Radio (c .status) && (flowFits (c .controlled) (c .flow) && wellFormed (c .queue) (c .size .0)))))
+
+unfoldable pub allFit : List Channel → Bool
+allFit [] = true
+allFit (c ∷ cs) = channelFits c && allFit cs
+
+-- ---- the channels together: "an ID twice", "no channel 0"
+unfoldable pub ids : List Channel → List ℕ
+ids cs = map (λ (c : Channel). c .id) cs
+
+unfoldable pub distinct : List ℕ → Bool
+distinct [] = true
+distinct (n ∷ ns) = not (among n ns) && distinct ns
+
+unfoldable pub channelsFit : List Channel → Bool
+channelsFit cs = allFit cs && (distinct (ids cs) && among 0 (ids cs))
+
+-- "channel count"
+abbrev pub countFits : ℕ → Bool
+countFits n = leb FEWEST-CHANNELS n && leb n MOST-CHANNELS
+
+-- "a kept Link Instance or Context outside its lengths": as a radio control message may state them
+unfoldable pub namesFit : State → Bool
+namesFit s = instanceAllowed ends.Radio (s .instance) && contextAllowed ends.Radio (s .context)
+
+-- A STATE WITHIN THE LIMITS
+unfoldable pub stateFits : State → Bool
+stateFits s = countFits (s .count) && (namesFit s && channelsFit (configured s))
+
+-- the same of a configuration: "channel count, ID 255, an ID twice, no channel 0, store length"
+abbrev pub settingFits : Setting → Bool
+settingFits k = ltb (k .id) RESERVED-CHANNEL && (leb SMALLEST-STORE (k .size .0) && leb (k .size .0) LARGEST-STORE)
+
+unfoldable pub settingsFit : List Setting → Bool
+settingsFit [] = true
+settingsFit (k ∷ ks) = settingFits k && settingsFit ks
+
+unfoldable pub configurationFits : Configuration → Bool
+configurationFits k =
+    countFits (k .count)
+    && (settingsFit (take (k .count) (k .settings))
+    && (distinct (map (λ (x : Setting). x .id) (take (k .count) (k .settings))) && among 0 (map (λ (x : Setting). x .id) (take (k .count) (k .settings)))))
+
+-- ---- "one store .. for each channel, all of them end to end in configuration order in one lent memory"
+unfoldable pub sizes : List Channel → ℕ
+sizes [] = 0
+sizes (c ∷ cs) = c .size .0 + sizes cs
+
+-- where a channel stands in the configuration; one that is not configured, behind the last
+unfoldable pub indexOf : ℕ → List ℕ → ℕ
+indexOf id [] = 0
+indexOf id (n ∷ ns) = cond (eqb n id) 0 (suc (indexOf id ns))
+
+-- ---- what one pass over the state tells
+unfoldable pub unfit : Survey
+unfit = record { fits = false; total = record { 0 = 0 }; index = 0; start = record { 0 = 0 } }
+
+unfoldable pub placed : List Channel → ℕ → Survey
+placed cs id =
+    record { fits = true; total = record { 0 = sizes cs }; index = indexOf id (ids cs); start = record { 0 = cond (among id (ids cs)) (sizes (take (indexOf id (ids cs)) cs)) 0 } }
+
+unfoldable pub walked : List Channel → ℕ → Survey
+walked cs id = cond (channelsFit cs) (placed cs id) unfit
+
+unfoldable pub surveyOf : State → ℕ → Survey
+surveyOf s id = cond (stateFits s) (placed (configured s) id) unfit

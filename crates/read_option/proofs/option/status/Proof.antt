@@ -1,0 +1,30 @@
+-- `option::status` meets its contract, way by way. Assumes nothing.
+use borrow.Author.Needs.{needs}
+use borrow.Author.Tests.{le-ltb, lt-ltb, eq-eqb, ne-eqb}
+use Rattle.quantity.specs.Limits.{RESERVED-CHANNEL}
+use Rattle.meaning.specs.Kinds.{lengthListed, valueListed}
+use Rattle.read_option.specs.Items.{itemOf, statedOf}
+use Rattle.read_option.proofs.option.status.Statement.{statement}
+use Rattle.read_option.proofs.option.status.Tie as tie
+
+returns : tie.Need-returns
+unfolding statedOf lengthListed
+returns c = simp (ne-eqb _ 2 (c .if1 .taken))
+
+shared-slice-read-channel : tie.Need-shared-slice-read-channel
+shared-slice-read-channel c = search needs
+
+returns-2 : tie.Need-returns-2
+unfolding statedOf lengthListed valueListed
+returns-2 c = simp (eq-eqb _ 2 (c .before .before .if1 .left), le-ltb _ RESERVED-CHANNEL (c .if2 .taken))
+
+shared-slice-read-t6 : tie.Need-shared-slice-read-t6
+shared-slice-read-t6 c = search needs
+
+returns-3 : tie.Need-returns-3
+unfolding statedOf lengthListed valueListed itemOf
+returns-3 c = simp (eq-eqb _ 2 (c .before .before .before .if1 .left), lt-ltb _ RESERVED-CHANNEL (c .before .if2 .left))
+
+pub status-spec : {M : Type 1} → statement M
+status-spec =
+    tie.close (tie.spec returns shared-slice-read-channel returns-2 shared-slice-read-t6 returns-3)

@@ -1,0 +1,20 @@
+-- `option::instance` meets its contract. Assumes nothing.
+use borrow.Author.Needs.{needs}
+use Rattle.write_option.proofs.Laying.{states-nothing, states-number}
+use Rattle.write_option.proofs.option.instance.Statement.{statement}
+use Rattle.write_option.proofs.option.instance.Tie as tie
+
+enum-told : tie.Need-enum-told
+enum-told c = search needs
+
+enum-known-instance : tie.Need-enum-known-instance
+enum-known-instance c = search needs
+
+returns : tie.Need-returns
+returns c = rw (c .enum-told .given .1) states-nothing
+
+returns-2 : tie.Need-returns-2
+returns-2 c = rw (c .before .instance .given .1) (states-number _ _ _ (rw (c .before .instance .given .1) at (c .before .before .before .pre)))
+
+pub instance-spec : {M : Type 1} → statement M
+instance-spec = tie.close (tie.spec enum-told enum-known-instance returns returns-2)
