@@ -4,6 +4,9 @@ mod numbers;
 mod strings;
 mod words;
 
+pub use laying::put;
+pub use laying::put_number;
+pub use laying::put_signed;
 pub use numbers::parse;
 pub use strings::put_bytes;
 pub use strings::unhex;
@@ -11,9 +14,6 @@ pub use words::beyond;
 pub use words::head;
 pub use words::tail;
 pub use words::word;
-pub use write_option::put;
-pub use write_option::put_number;
-pub use write_option::put_signed;
 
 // What a word stands for as a number.
 pub enum Number {
