@@ -1,4 +1,4 @@
-// A plain Rust endpoint beside the proved one (the crate `turns`): both must agree on random scripts of calls, then both are timed on the same scripts.
+// A plain Rust endpoint beside the proved one (the crate `bench_calls`): both must agree on random scripts of calls, then both are timed on the same scripts.
 use std::hint::black_box;
 
 #[path = "common/channel.rs"]

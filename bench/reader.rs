@@ -1,4 +1,4 @@
-// A plain Rust reader of CIRI messages beside the proved one (the crate `bench`): both must agree, then both are timed on the same bytes.
+// A plain Rust reader of CIRI messages beside the proved one (the crate `bench_reader`): both must agree, then both are timed on the same bytes.
 // It shares no code with the proved one, but its writer knew that one: the second opinion on the papers is second/.
 use std::hint::black_box;
 
@@ -35,7 +35,7 @@ fn proved_packet(datagram: &[u8], end: End, id: u8) -> u64 {
     unsafe { nespovarda_packet_digest(datagram.as_ptr(), datagram.len(), end == End::Radio, id) }
 }
 
-// ---- digests, as crates/bench/specs/Digests.antt defines them
+// ---- digests, as crates/bench_reader/specs/Digests.antt defines them
 
 const ABSENT: u64 = 1 << 32;
 const EMPTY: u64 = ABSENT + 1;

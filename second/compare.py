@@ -4,32 +4,39 @@
     compare.py random PROGRAM SEED COUNT    one random script of COUNT lines, run by both; reports the first difference
 """
 
+import os
 import pathlib
 import subprocess
 import sys
 
 SECOND = pathlib.Path(__file__).resolve().parent
 ROOT = SECOND.parent
-# For each proved program: the generator of its random input with its words, and how many lines come before the answers.
-PROGRAMS = {"distance": (["distances.py"], 1), "session": (["scripts.py"], 0)}
-# The files that a command of the second implementation prints.
-MADE = {"crates/session/stdin": ["stored.py"], "docs/FLIGHT.md": ["flight_page.py"]}
+# Each proved program, with the number of lines that it writes before the answers.
+PROGRAMS = {"distance": 1, "session": 0}
+# Each made file, with the script that prints it.
+MADE = {"crates/session/stdin": "stored.py", "docs/FLIGHT.md": "flight_page.py"}
+
+
+def run_script(name, *words, text=b""):
+    """What a script of this folder writes."""
+    command = [sys.executable, SECOND / name, *words]
+    return subprocess.run(command, input=text, stdout=subprocess.PIPE, check=True).stdout
 
 
 def run_second(program, text):
     """What the second implementation writes."""
-    return subprocess.run([sys.executable, SECOND / f"{program}.py"], input=text, capture_output=True, check=True).stdout
+    return run_script(f"{program}.py", text=text)
 
 
 def run_proved(program, text):
-    """What the proved program writes; the run script builds it."""
-    environment = {"PROGRAM": program, "PATH": "/usr/local/bin:/usr/bin:/bin"}
-    return subprocess.run([ROOT / "run", "-"], input=text, capture_output=True, check=True, env=environment).stdout
+    """What the proved program writes; the run script builds it, with the `rt` of the PATH."""
+    environment = os.environ | {"PROGRAM": program}
+    return subprocess.run([ROOT / "run", "-"], input=text, stdout=subprocess.PIPE, check=True, env=environment).stdout
 
 
 def first_difference(program, text, proved, second):
     """The first line on which two outputs differ, with what was asked; none where they agree."""
-    asked = [b""] * PROGRAMS[program][1] + text.split(b"\n") + [b""]
+    asked = [b""] * PROGRAMS[program] + text.split(b"\n") + [b""]
     left, right = proved.split(b"\n"), second.split(b"\n")
     if len(left) != len(right):
         return f"the proved program wrote {len(left)} lines, the second {len(right)}"
@@ -42,10 +49,8 @@ def first_difference(program, text, proved, second):
 def compare_stored():
     """Each program's stored output is what the second implementation makes of the stored input; made files likewise."""
     differing = 0
-    for path, command in MADE.items():
-        script, *words = command
-        made = subprocess.run([sys.executable, SECOND / script, *words], capture_output=True, check=True).stdout
-        is_same = made == (ROOT / path).read_bytes()
+    for path, script in MADE.items():
+        is_same = run_script(script) == (ROOT / path).read_bytes()
         print(f"{path}: {'as made' if is_same else f'not what {script} prints'}")
         differing += not is_same
     for program in PROGRAMS:
@@ -59,9 +64,7 @@ def compare_stored():
 
 def compare_random(program, seed, count):
     """Both implementations on one random script."""
-    generator, *words = PROGRAMS[program][0]
-    command = [sys.executable, SECOND / generator, seed, count, *words]
-    text = subprocess.run(command, capture_output=True, check=True).stdout
+    text = run_script(f"random_{program}.py", seed, count)
     difference = first_difference(program, text, run_proved(program, text), run_second(program, text))
     print(f"{program}, seed {seed}, {count} lines: {difference or 'no difference'}")
     return difference is not None

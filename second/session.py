@@ -1,4 +1,4 @@
-"""The program `session`: reads a script from standard input, answers each line with one line (session-format.md)."""
+"""The program `session`: reads a script from standard input, answers each line with one line (docs/SESSION.md)."""
 
 import re
 import sys

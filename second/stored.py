@@ -1,7 +1,7 @@
 """stored.py: prints the stored script of `session`, the same at each run; it fails where the script lacks something.
 
-Lines about messages, document 01's examples as calls, states at their limits, the sample flight of docs/, and a long
-flight drawn by lot.
+Lines about messages, document 01's examples as calls, lines that break the format, states at their limits, the sample
+flight of docs/, and a long flight drawn by lot.
 """
 
 import collections
@@ -10,9 +10,10 @@ import subprocess
 import sys
 
 import session
-from calls import start
+from call_lines import start
 from happenings import HAPPENINGS, count_happenings
-from stored_examples import broken_lines, example_lines
+from stored_broken import broken_message_lines, broken_state_lines
+from stored_examples import example_lines
 from stored_flight import flight_lines
 from stored_limits import limit_lines
 from stored_messages import message_lines
@@ -26,18 +27,16 @@ ANSWERS = [
 ]
 
 
-def state_lines():
-    """The lines about a state."""
+def all_lines():
+    """The whole script, one character a byte; a broken line leaves the state as it was."""
+    yield from message_lines()
+    yield from broken_message_lines()
     yield from example_lines()
+    yield from broken_state_lines()
+    yield "show 2"
     yield from limit_lines()
     yield from SAMPLE.read_text().splitlines()
     yield from flight_lines()
-
-
-def all_lines():
-    """The whole script."""
-    yield from message_lines()
-    yield from (line.encode("latin-1") for line in state_lines())
 
 
 def demand(counted, names, fewest):
@@ -65,14 +64,14 @@ def test_broken():
     """A line that is to break the format is answered so, in a started state too."""
     started = session.Session()
     started.answer(start((0, "plain", 0, 1500)).encode())
-    sound = [line for line in broken_lines() if started.answer(line.encode("latin-1")) != session.BAD_LINE]
+    sound = [line for line in broken_state_lines() if started.answer(line.encode("latin-1")) != session.BAD_LINE]
     if sound:
         sys.exit(f"not broken: {sound}")
 
 
 def main():
     """Print the script; with the word `counts` how often each thing comes in it."""
-    script = b"\n".join(all_lines())
+    script = "\n".join(all_lines()).encode("latin-1")
     counted = count_answers(script) + count_happenings(flight_lines())
     test_broken()
     demand(counted, [*REFUSALS, *ANSWERS, *HAPPENINGS], FEWEST_OF_EACH)

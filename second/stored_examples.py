@@ -1,7 +1,7 @@
-"""The stored script's lines for document 01's examples, and the lines about a state that break the format."""
+"""The stored script's lines for document 01's examples, as calls."""
 
 import ciri
-from calls import NEVER, ROOMY, offer, packet, radio, radio_options, start
+from call_lines import NEVER, ROOMY, offer, packet, radio, radio_options, start
 
 LONGEST_PACKET = ciri.IPV6_HEADER_LENGTH + 65535
 # Sequence, window and the packets tried: document 01's starred examples, then some at the count's limits.
@@ -53,45 +53,9 @@ def message_examples():
         yield offer(2, 1, 9, packet(40, 5))
 
 
-# ---- Lines that break the format ----
-
-# One faultless line of each command, and for each of its words what it may not be.
-NO_NUMBERS = ["", "-", "-1", "+1", "01", "00", "0x1", "1.", "x", "\t1", "1\r", "\xb2", "9" * 30]
-NO_BYTES = ["", "0", "000", "0g", "AB", "-0", "--", "0-", "0x00", "60\t"]
-NO_ID = [*NO_NUMBERS, "256"]
-NO_SEQUENCE = [*NO_NUMBERS, "4294967296"]
-NO_TIME = [*NO_NUMBERS, "18446744073709551616"]
-NO_LENGTH = [*NO_NUMBERS, "1048577"]
-FAULTLESS = {
-    "start 7 1 0 flow 5 1500 memory 1500": [
-        NO_ID, [*NO_NUMBERS, "0", "2", "81"], NO_ID, ["", "Flow", "flows", "0"], NO_SEQUENCE, NO_LENGTH,
-        ["", "Memory", "1500"], NO_LENGTH],
-    offer(0, 1, 9, packet(40)): [NO_ID, NO_TIME, NO_TIME, NO_BYTES],
-    "next 0 1 100": [NO_ID, NO_TIME, NO_LENGTH],
-    "withdraw 0": [NO_ID],
-    radio({0: 7}): [NO_BYTES],
-    "query 100": [NO_LENGTH],
-    "show 0": [NO_ID],
-    "store 0": [NO_ID],
-}
-
-
-def broken_lines():
-    """Each command with each word wrong, with words missing and added, in other letters."""
-    for faultless, wrongs in FAULTLESS.items():
-        words = faultless.split(" ")
-        yield from (" ".join(words[:place]) for place in range(1, len(words)) if words[place] != "memory")
-        for place, wrong in enumerate(wrongs, 1):
-            yield from (" ".join([*words[:place], word, *words[place + 1 :]]) for word in wrong)
-        yield from (faultless + end for end in (" ", " 0", "\t", "\r", "\0", " memory 1500"))
-        yield from (" " + faultless, words[0].upper() + faultless[len(words[0]) :], faultless.replace(" ", "  ", 1))
-
-
 def example_lines():
-    """All of them; a broken line leaves the state as it was."""
+    """All of them."""
     yield from before_start()
     yield from packet_examples()
     yield from counting_examples()
     yield from message_examples()
-    yield from broken_lines()
-    yield "show 2"

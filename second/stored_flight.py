@@ -6,8 +6,12 @@ Each flow-controlled channel begins at most a few thousand bytes before the wrap
 import random
 
 import ciri
-import scripts
-from calls import DATALINK_ID, start
+from call_lines import DATALINK_ID, offer, start
+from damaged_messages import damage
+from random_packets import draw_packet, spoil_packet
+from random_state_lines import StateLines
+from random_values import chance, pick
+from session import show_bytes
 
 CALLS = 5000
 LOOKS = ("show", "store")
@@ -19,7 +23,7 @@ PHASES = {
 }
 
 
-class Flight(scripts.StateLines):
+class Flight(StateLines):
     """Lines of one state, without another start."""
 
     def draw(self):
@@ -27,7 +31,7 @@ class Flight(scripts.StateLines):
         if self.lines_left == 0:
             self.begin_phase()
         self.lines_left -= 1
-        return self.draw_by_word(scripts.pick(self.dice, *PHASES[self.phase]))
+        return self.draw_by_word(pick(self.dice, *PHASES[self.phase]))
 
     def begin_phase(self):
         """Another phase, about another channel unless the queue just filled is to be drained."""
@@ -41,15 +45,15 @@ class Flight(scripts.StateLines):
         channel = self.draw_configured()
         now = self.draw_now(channel)
         some, large = self.dice.randrange(40, 130), self.dice.randrange(130, 600)
-        length = scripts.pick(self.dice, (60, 40), (120, some), (15, large), (5, 1500), (1, 1501), (1, 39))
-        packet = scripts.draw_packet(self.dice, length)
-        packet = scripts.spoil_packet(self.dice, packet) if scripts.chance(self.dice, 2) else packet
-        return f"offer {self.show_channel_id(channel)} {now} {self.draw_expiry(now)} {scripts.show_hex(packet)}"
+        length = pick(self.dice, (60, 40), (120, some), (15, large), (5, 1500), (1, 1501), (1, 39))
+        packet = draw_packet(self.dice, length)
+        packet = spoil_packet(self.dice, packet) if chance(self.dice, 2) else packet
+        return offer(self.show_channel_id(channel), now, self.draw_expiry(now), packet)
 
     def draw_radio(self):
         """`radio HEX`: a control message, now and then a damaged one, or a data message."""
-        draw = scripts.pick(self.dice, (88, self.draw_faultless), (8, self.draw_damaged), (4, self.draw_data))
-        return f"radio {scripts.show_hex(draw(DATALINK_ID))}"
+        draw = pick(self.dice, (88, self.draw_faultless), (8, self.draw_damaged), (4, self.draw_data))
+        return f"radio {show_bytes(draw(DATALINK_ID))}"
 
     def draw_faultless(self, datalink_id):
         """A control message for the configured channels."""
@@ -57,7 +61,7 @@ class Flight(scripts.StateLines):
 
     def draw_damaged(self, datalink_id):
         """One with something wrong."""
-        return scripts.damage(self.dice, self.draft_control(datalink_id))
+        return damage(self.dice, self.draft_control(datalink_id))
 
 
 def draw_flight_start(dice):
@@ -71,13 +75,13 @@ def draw_flight_start(dice):
 
 
 def flight_lines():
-    """The flight: its start, and lines until so many calls are made."""
+    """The flight: its start, and lines until all calls are made."""
     dice = random.Random("flight")
     flight = Flight(dice)
     line = draw_flight_start(dice)
     calls = 0
     while calls <= CALLS:
         calls += not line.startswith(LOOKS)
-        flight.note(line.encode())
+        flight.note(line)
         yield line
         line = flight.draw()

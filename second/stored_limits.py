@@ -1,7 +1,7 @@
 """The stored script's lines that bring a state to each of its limits, and try what lies just outside."""
 
 import ciri
-from calls import NEVER, ROOMY, offer, packet, radio, start
+from call_lines import NEVER, ROOMY, offer, packet, radio, start
 from session import TIME_LIMIT
 
 CHANNELS = (200, 3, 254, 17, 0, 99, 1, 128, 64, 253, 2, 127, 31, 8, 250, 16)

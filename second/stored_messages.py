@@ -1,15 +1,15 @@
 """The stored script's lines about messages.
 
-Random lines; one message of each kind cut at every byte; messages of 255 channels; the longest datagram and one byte
-more, read and written; and lines that break the format.
+Random lines; one message of each kind cut at every byte; messages of 255 channels; and the longest datagram and
+longer ones, read and written.
 """
 
 import random
 
 import ciri
-import scripts
-import session
-from calls import DATALINK_ID
+from call_lines import DATALINK_ID
+from random_session import draw_lines
+from session import show_bytes
 
 RANDOM_LINES = 1200
 
@@ -37,15 +37,15 @@ def full_messages():
 
 def read_line(end, datagram):
     """A line that reads a datagram."""
-    return f"read {end} {DATALINK_ID} {session.show_bytes(datagram)}".encode()
+    return f"read {end} {DATALINK_ID} {show_bytes(datagram)}"
 
 
 def echo_lines(end, meaning):
     """The message written again with just enough room, a byte less, and as a message of each end."""
     datagram = ciri.write_message(end, meaning, ciri.DATAGRAM_LIMIT)
     words = f"echo {end} {DATALINK_ID} {datagram.hex()}"
-    yield from (f"{words} {end} {room}".encode() for room in (len(datagram), len(datagram) - 1, 0, 1048576))
-    yield from (f"{words} {end2} {ciri.DATAGRAM_LIMIT}".encode() for end2 in (ciri.IPS, ciri.RADIO))
+    yield from (f"{words} {end} {room}" for room in (len(datagram), len(datagram) - 1, 0, 1048576))
+    yield from (f"{words} {end2} {ciri.DATAGRAM_LIMIT}" for end2 in (ciri.IPS, ciri.RADIO))
 
 
 def cut_lines(end, meaning):
@@ -54,30 +54,23 @@ def cut_lines(end, meaning):
     return (read_line(end, datagram[:length]) for length in range(len(datagram) + 1))
 
 
+def long_message(size):
+    """A radio data message of that many bytes, its packet all zeros."""
+    head = ciri.write_header(ciri.DATA) + ciri.write_option(ciri.DATALINK_IDENTIFIER, bytes([DATALINK_ID]))
+    return head + ciri.write_option(ciri.PACKET_DATA, bytes(size - len(head) - ciri.FRAME_LENGTH))
+
+
 def longest_lines():
-    """Datagrams of 65,506 to 65,509 bytes; the longest written again."""
-    frame = len(ciri.write_message(ciri.RADIO, ciri.Meaning(ciri.DATA, DATALINK_ID, packet=b""), ciri.DATAGRAM_LIMIT))
-    header = bytes([0x18, 1, 0, 1, DATALINK_ID])
-    for size in range(ciri.DATAGRAM_LIMIT - 1, ciri.DATAGRAM_LIMIT + 5):
-        packet = bytes(size - frame)
-        yield read_line(ciri.RADIO, header + bytes([128]) + len(packet).to_bytes(2, "big") + packet)
-    longest = header + bytes([128]) + (ciri.DATAGRAM_LIMIT - frame).to_bytes(2, "big") + bytes(ciri.DATAGRAM_LIMIT - frame)
-    yield f"echo radio {DATALINK_ID} {longest.hex()} ips {ciri.DATAGRAM_LIMIT}".encode()
-    yield f"echo radio {DATALINK_ID} {longest.hex()} ips {ciri.DATAGRAM_LIMIT - 1}".encode()
-
-
-def broken_lines():
-    """Lines that break the format, by one word each, and two that are too long."""
-    yield from (b"", b" ", b"read", b"read ips", b"read ips 7", b"read ips 7 ", b"read  ips 7 10", b"read ips 7 10 ")
-    yield from (b"read ips 256 10", b"read ips 07 10", b"read ips -1 10", b"read air 7 10", b"READ ips 7 10")
-    yield from (b"read ips 7 1", b"read ips 7 1G", b"read ips 7 1A", b"read ips 7 - x", b"read ips 7 -", b"read ips 7 10\r")
-    yield from (b"echo ips 7 10", b"echo ips 7 10 ips", b"echo ips 7 10 ips 1048577", b"echo ips 7 10 ips 01", b"\xff\0")
-    yield from (b"x" * 140000, b"read ips 7 " + b"0" * 139989, b"read ips 7 " + b"00" * 70000)
+    """Datagrams from a byte under the limit to four over it; the longest written again, with room and a byte less."""
+    limit = ciri.DATAGRAM_LIMIT
+    yield from (read_line(ciri.RADIO, long_message(size)) for size in range(limit - 1, limit + 5))
+    words = f"echo radio {DATALINK_ID} {long_message(limit).hex()} ips"
+    yield from (f"{words} {room}" for room in (limit, limit - 1))
 
 
 def message_lines():
     """All of them."""
-    yield from scripts.draw_lines(random.Random("stored"), "messages", RANDOM_LINES)
+    yield from draw_lines(random.Random("stored"), "messages", RANDOM_LINES)
     for end, meaning in whole_messages():
         yield from cut_lines(end, meaning)
         yield from echo_lines(end, meaning)
@@ -85,4 +78,3 @@ def message_lines():
         yield read_line(end, ciri.write_message(end, meaning, ciri.DATAGRAM_LIMIT))
         yield from echo_lines(end, meaning)
     yield from longest_lines()
-    yield from broken_lines()

@@ -201,7 +201,7 @@ impl Channel {
     }
 }
 
-// ---- answers as numbers, as crates/turns/specs/Parts.antt defines them
+// ---- answers as numbers, as crates/bench_calls/specs/Parts.antt defines them
 
 pub const WROTE: u64 = 21;
 

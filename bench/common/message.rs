@@ -259,7 +259,7 @@ pub fn read_data(datagram: &[u8], end: End, id: u8) -> Result<Data<'_>, Fault> {
     Ok(Data { datalink, sequence, channel: named, expiration, packet })
 }
 
-// ---- a digest, as crates/bench/specs/Digests.antt defines it
+// ---- a digest, as crates/bench_reader/specs/Digests.antt defines it
 
 pub fn mixed(sum: u64, part: u64) -> u64 {
     sum.rotate_left(17).wrapping_add(part)

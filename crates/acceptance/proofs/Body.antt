@@ -8,6 +8,7 @@ use mathlib.Core.Bool.{Bool, true, false, cond}
 use native.Mathlib.Omega.{arith}
 use borrow.Author.Tests.{eq-eqb, eqb-true}
 use lib.Dec.{eqb}
+use Rattle.facts.proofs.Tests.{clash}
 use Rattle.quantity.specs.declared.count.DatalinkId.{DatalinkId}
 use Rattle.wire.specs.Options.{Options, done, cut, option}
 use Rattle.meaning.specs.declared.message.End.{End}
@@ -15,7 +16,6 @@ use Rattle.meaning.specs.declared.message.Plane.{Plane}
 use Rattle.meaning.specs.Kinds.{among, standsLast, mustHold}
 use Rattle.read_option.specs.Stated.{Table}
 use Rattle.acceptance.specs.Account.{All, Listed, isAt, speaksFor, one, speaks, count, the, Ending, Filled, Paired, Ours}
-use Rattle.meaning.proofs.Amongst.{clash}
 use Rattle.acceptance.proofs.Lists.{last-speaks}
 use Rattle.acceptance.proofs.Seats.{taken-free, Free, adding}
 
@@ -95,7 +95,7 @@ module _ (plane : Plane) (end : End) where
         go : (k : ℕ) → among k (standsLast plane) ≡ true → (b : Bool) → eqb k kind ≡ b
             → cond (cond b (isAt 0 (speaksFor plane end kind content)) false) (some content) (τ k 0) ≡ none
         go k q false e = o k q
-        go k q true e = let x : option u d f ≡ done = h (rw (eqb-true k kind e) at q) in let z : _≡_ {A = ℕ} 0 1 = cc in absurd (omega arith)
+        go k q true e = let x : option u d f ≡ done = h (rw (eqb-true k kind e) at q) in clash (cc)
 
     pub ended : (f : Options) → All (Listed plane end) f → Opens (adding plane end kind content τ) f → among kind (standsLast plane) ≡ true → f ≡ done
     ended done l o h = refl

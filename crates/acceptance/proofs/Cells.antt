@@ -1,37 +1,37 @@
 -- Reading, option by option, is what the account says, for any sort of message whose cells do what they must. Assumes nothing.
 use Prim.Native.Nat.{ℕ, _<_}
-use mathlib.Core.Path.{_≡_, refl, sym, ap, _∙_}
+use mathlib.Core.Path.{_≡_, refl, sym, ap}
 use mathlib.Core.Logic.{_↔_}
 use mathlib.Core.List.{List, [], _∷_}
 use mathlib.Core.Option.{Option, none, some}
 use mathlib.Core.Bool.{Bool, true, false, cond}
 use native.Mathlib.Omega.{arith}
-use borrow.Author.Tests.{eqb-true, ltb-true}
-use lib.Dec.{eqb, ltb, lit<}
+use borrow.Author.Tests.{ltb-true}
+use lib.Dec.{ltb, lit<}
 use lib.ListN.{length, getD}
+use Rattle.facts.proofs.Tests.{clash}
 use Rattle.quantity.specs.declared.count.DatalinkId.{DatalinkId}
 use Rattle.quantity.specs.Limits.{CHANNEL-IDS, RESERVED-CHANNEL}
-use Rattle.quantity.specs.Refusals.{LENGTH, VALUE, UNLISTED, REPEATED, BEHIND-PACKET, MISSING, UNPAIRED, OTHER-DATALINK}
+use Rattle.quantity.specs.Refusals.{LENGTH, VALUE, UNLISTED, REPEATED}
 use Rattle.meaning.specs.declared.message.End.{End}
 use Rattle.meaning.specs.declared.message.Plane.{Plane}
 use Rattle.meaning.specs.Kinds.{among, known, naming, lengthListed, valueListed, mayHold, oneForEach, mustHold}
-use Rattle.read_option.specs.Stated.{Table}
+use Rattle.meaning.proofs.Amongst.{Each}
+use Rattle.read_option.specs.Stated.{Table, nothing}
 use Rattle.read_rules.specs.declared.answer.Verdict.{Verdict}
 use Rattle.read_rules.specs.Judging.{Step, next, stop}
 use Rattle.read_rules.specs.Sorts.{Sort, faultOf, channelOf, stepOf, missing, finishOf}
-use Rattle.read_rules.specs.Controls.{nothing}
 use Rattle.acceptance.specs.Account.{Listed, Filled, Paired, Ours}
-use Rattle.meaning.proofs.Amongst.{clash, Each}
 use Rattle.acceptance.proofs.Lists.{each-names, must-may, unknown-listed}
-use Rattle.acceptance.proofs.Seats.{taken-free, vacant, of-vacant, put, Free, silent, adding, adding-silent, adding-puts, of-free, free-of}
+use Rattle.acceptance.proofs.Seats.{taken-free, vacant, put, adding, adding-silent, adding-puts, of-free}
 use Rattle.acceptance.proofs.Body.{Open, Admitted, Complete}
 
 -- what the cells of a message have to do, where `stated` fills them from a table of contents
 pub record Cells {A B : Type 0} (S : Sort A B) (id : DatalinkId) (stated : Table → A) : Type 0 where
   pub verdict : B → Verdict
-  pub accepts : (m : A) → verdict (S .accept m) ≡ Verdict.Accepted
-  pub refuses : (number place : ℕ) → verdict (S .refuse number place) ≡ Verdict.Accepted → ⊥
-  pub differs : verdict (S .other) ≡ Verdict.Accepted → ⊥
+  pub accepted : (m : A) → verdict (S .accept m) ≡ Verdict.Accepted
+  pub refused : (number place : ℕ) → verdict (S .refuse number place) ≡ Verdict.Refused (record { number = number; place = place })
+  pub other : verdict (S .other) ≡ Verdict.OtherPlane
   pub blank : S .blank ≡ stated nothing
   pub unstated : (τ : Table) (kind : ℕ) → among kind (mayHold (S .plane) (S .end)) ≡ true → (content : List ℕ) → channelOf (S .plane) kind content < CHANNEL-IDS
       → S .unstated kind (channelOf (S .plane) kind content) (stated τ) ≡ vacant (τ kind (channelOf (S .plane) kind content))
@@ -102,31 +102,6 @@ module _ {A B : Type 0} (S : Sort A B) (id : DatalinkId) (stated : Table → A) 
             let v : τ kind channel ≡ none = of-free (S .plane) (S .end) kind content p a τ (k .free) in
             rw (C .unstated τ kind a content (in-range (S .plane) (S .end) kind content (k .listed) p), v, C .state τ kind a content, adding-puts (S .plane) (S .end) kind content p a τ)
 
-    -- an option that is taken in may follow
-    pub back : (m : A) → stepOf S kind content (stated τ) ≡ next m → Admitted (S .plane) (S .end) τ kind content
-    unfolding stepOf
-    back m e = go (S .closed (stated τ)) refl (eqb (faultOf (mayHold (S .plane) (S .end)) kind content) 0) refl e
-      where
-        was-free : (b : Bool) (x : A) → cond b (next x) (stop REPEATED) ≡ next m → b ≡ true
-        was-free true x q = refl
-        was-free false x q = let z : _≡_ {A = ℕ} 0 1 = cc in absurd (omega arith)
-
-        seat : Listed (S .plane) (S .end) kind content → (u : Bool) → among kind known ≡ u → taking u ≡ next m → Free (S .plane) (S .end) kind content τ
-        seat l false p q = λ k n s. clash (sym (silent (S .plane) (S .end) kind content p k n) ∙ s)
-        seat l true p q =
-            let a : among kind (mayHold (S .plane) (S .end)) ≡ true = l .kind-listed p in
-            free-of (S .plane) (S .end) kind content p a τ
-            (of-vacant (τ kind channel) (sym (C .unstated τ kind a content (in-range (S .plane) (S .end) kind content l p)) ∙ was-free _ _ q))
-
-        go : (c : Bool) → S .closed (stated τ) ≡ c → (v : Bool) → eqb (faultOf (mayHold (S .plane) (S .end)) kind content) 0 ≡ v
-            → cond c (stop BEHIND-PACKET) (cond v (taking (among kind known)) (stop (faultOf (mayHold (S .plane) (S .end)) kind content))) ≡ next m
-            → Admitted (S .plane) (S .end) τ kind content
-        go true p v q r = let z : _≡_ {A = ℕ} 0 1 = cc in absurd (omega arith)
-        go false p false q r = let z : _≡_ {A = ℕ} 0 1 = cc in absurd (omega arith)
-        go false p true q r =
-            let l : Listed (S .plane) (S .end) kind content = listed (S .plane) (S .end) kind content (eqb-true _ _ q) in
-            record { listed = l; free = seat l (among kind known) refl r; opens = C .opens τ .1 p }
-
   -- ---- 9, 10, 11
 
   module _ (τ : Table) where
@@ -149,21 +124,9 @@ module _ {A B : Type 0} (S : Sort A B) (id : DatalinkId) (stated : Table → A) 
         go later none = ((λ f. absurd (f .0 refl)), λ q. clash (sym q))
         go later (some content) = ((λ f. later .0 (f .1)), λ q. ((λ r. taken-free r), later .1 q))
 
-    must : Filled (mustHold (S .plane) (S .end)) τ ↔ missing S (mustHold (S .plane) (S .end)) (stated τ) ≡ false
+    pub must : Filled (mustHold (S .plane) (S .end)) τ ↔ missing S (mustHold (S .plane) (S .end)) (stated τ) ≡ false
     must = full (mustHold (S .plane) (S .end)) (must-may (S .plane) (S .end))
 
     pub ends : (place : ℕ) → Complete (S .plane) (S .end) id τ → finishOf S place (stated τ) ≡ S .accept (stated τ)
     unfolding finishOf
     ends place w = rw (must .0 (w .filled), C .paired τ .0 (w .paired), C .ours τ .0 (w .ours))
-
-    pub asks : (place : ℕ) → C .verdict (finishOf S place (stated τ)) ≡ Verdict.Accepted → Complete (S .plane) (S .end) id τ
-    unfolding finishOf
-    asks place a = go (missing S (mustHold (S .plane) (S .end)) (stated τ)) refl (S .paired (stated τ)) refl (S .ours (stated τ)) refl a
-      where
-        go : (u : Bool) → missing S (mustHold (S .plane) (S .end)) (stated τ) ≡ u → (v : Bool) → S .paired (stated τ) ≡ v → (w : Bool) → S .ours (stated τ) ≡ w
-            → C .verdict (cond u (S .refuse MISSING place) (cond v (cond w (S .accept (stated τ)) (S .refuse OTHER-DATALINK place)) (S .refuse UNPAIRED place))) ≡ Verdict.Accepted
-            → Complete (S .plane) (S .end) id τ
-        go true p v q w r x = absurd (C .refuses MISSING place x)
-        go false p false q w r x = absurd (C .refuses UNPAIRED place x)
-        go false p true q false r x = absurd (C .refuses OTHER-DATALINK place x)
-        go false p true q true r x = record { filled = must .1 p; paired = C .paired τ .1 q; ours = C .ours τ .1 r }

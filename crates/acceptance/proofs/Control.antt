@@ -5,9 +5,10 @@ use mathlib.Core.Logic.{_↔_}
 use mathlib.Core.List.{List, _∷_}
 use mathlib.Core.Option.{some}
 use mathlib.Core.Bool.{Bool, true, false, cond}
-use native.Mathlib.Omega.{arith}
 use lib.Dec.{eqb}
 use lib.ListN.{length, getD, drop}
+use Rattle.facts.specs.Tables.{tabulate}
+use Rattle.facts.proofs.Tests.{clash}
 use Rattle.quantity.specs.declared.count.DatalinkId.{DatalinkId}
 use Rattle.quantity.specs.Limits.{CHANNEL-IDS, LONGEST-DATAGRAM}
 use Rattle.wire.specs.Numbers.{Octets, bigEndian}
@@ -20,14 +21,15 @@ use Rattle.meaning.specs.declared.message.StatusCell.{StatusCell}
 use Rattle.meaning.specs.declared.message.SequenceCell.{SequenceCell}
 use Rattle.meaning.specs.declared.message.WindowCell.{WindowCell}
 use Rattle.meaning.specs.Kinds.{among, mayHold, DATALINK-IDENTIFIER, LINK-INSTANCE, DATALINK-CONTEXT, CHANNEL-STATUS, FLOW-WINDOW, FLOW-SEQUENCE}
-use Rattle.read_option.specs.Stated.{Table, datalinkFrom, instanceFrom, contextFrom, statusFrom, sequenceFrom, windowFrom, controlStated, tabulate}
+use Rattle.meaning.specs.Cells.{noStatus, noSequence, noWindow}
+use Rattle.meaning.proofs.Amongst.{Each, amongst}
+use Rattle.read_option.specs.Stated.{Table, datalinkFrom, instanceFrom, contextFrom, statusFrom, sequenceFrom, windowFrom, controlStated}
 use Rattle.read_rules.specs.declared.answer.Verdict.{Verdict}
-use Rattle.read_rules.specs.Judging.{CURRENT-VERSION, versionOf, flagOf, flag}
-use Rattle.read_rules.specs.Sorts.{channelOf}
-use Rattle.read_rules.specs.Controls.{unstatedDatalink, unstatedInstance, unstatedContext, unstatedStatus, unstatedSequence, unstatedWindow, statusAbsent, sequenceAbsent, windowAbsent, controlUnstated, controlState, blankControl, controlRefused, controlAccepted, controlOther, controlSort}
+use Rattle.read_rules.specs.Sorts.{channelOf, unstatedDatalink}
+use Rattle.read_control.specs.Message.{unstatedInstance, unstatedContext, unstatedStatus, unstatedSequence, unstatedWindow, controlUnstated, controlState, blankControl, controlRefused, controlAccepted, controlOther, controlSort}
+use Rattle.reader.specs.Header.{CURRENT-VERSION, versionOf, flagOf, flag}
 use Rattle.reader.specs.Readings.{readControl}
 use Rattle.acceptance.specs.Account.{Ending, Accepts, controlMeaning, Shuffled}
-use Rattle.meaning.proofs.Amongst.{clash, Each, amongst}
 use Rattle.acceptance.proofs.Seats.{vacant, put}
 use Rattle.acceptance.proofs.Tables.{vacant-is, row-is, set-row}
 use Rattle.acceptance.proofs.Cells.{Cells}
@@ -49,7 +51,7 @@ window-stated content = go (eqb (length content) 1)
     go false = refl
 
 module _ (end : End) (τ : Table) where
-  unstated : (kind : ℕ) → among kind (mayHold planes.Control end) ≡ true → (content : List ℕ) → channelOf planes.Control kind content < CHANNEL-IDS
+  pub unstated : (kind : ℕ) → among kind (mayHold planes.Control end) ≡ true → (content : List ℕ) → channelOf planes.Control kind content < CHANNEL-IDS
       → controlUnstated kind (channelOf planes.Control kind content) (controlStated τ) ≡ vacant (τ kind (channelOf planes.Control kind content))
   unfolding controlUnstated controlStated
   unstated =
@@ -58,11 +60,11 @@ module _ (end : End) (τ : Table) where
       (λ c h. vacant-is (λ x. unstatedDatalink (datalinkFrom x)) refl (λ d. refl) (τ DATALINK-IDENTIFIER 0))
       (λ c h. vacant-is (λ x. unstatedInstance (instanceFrom x)) refl (λ d. refl) (τ LINK-INSTANCE 0))
       (λ c h. vacant-is (λ x. unstatedContext (contextFrom x)) refl (λ d. refl) (τ DATALINK-CONTEXT 0))
-      (λ c h. row-is (λ cell. unstatedStatus (cell .status)) (λ x. record { status = statusFrom x }) refl (λ d. refl) CHANNEL-IDS (τ CHANNEL-STATUS) (getD c 0 0) statusAbsent h)
-      (λ c h. row-is (λ cell. unstatedSequence (cell .sequence)) (λ x. record { sequence = sequenceFrom x }) refl (λ d. refl) CHANNEL-IDS (τ FLOW-SEQUENCE) (getD c 0 0) sequenceAbsent h)
-      (λ c h. row-is (λ cell. unstatedWindow (cell .window)) (λ x. record { window = windowFrom x }) refl window-stated CHANNEL-IDS (τ FLOW-WINDOW) (getD c 0 0) windowAbsent h))
+      (λ c h. row-is (λ cell. unstatedStatus (cell .status)) (λ x. record { status = statusFrom x }) refl (λ d. refl) CHANNEL-IDS (τ CHANNEL-STATUS) (getD c 0 0) noStatus h)
+      (λ c h. row-is (λ cell. unstatedSequence (cell .sequence)) (λ x. record { sequence = sequenceFrom x }) refl (λ d. refl) CHANNEL-IDS (τ FLOW-SEQUENCE) (getD c 0 0) noSequence h)
+      (λ c h. row-is (λ cell. unstatedWindow (cell .window)) (λ x. record { window = windowFrom x }) refl window-stated CHANNEL-IDS (τ FLOW-WINDOW) (getD c 0 0) noWindow h))
 
-  state : (kind : ℕ) → among kind (mayHold planes.Control end) ≡ true → (content : List ℕ)
+  pub state : (kind : ℕ) → among kind (mayHold planes.Control end) ≡ true → (content : List ℕ)
       → controlState kind (channelOf planes.Control kind content) content (controlStated τ) ≡ controlStated (put kind (channelOf planes.Control kind content) content τ)
   unfolding controlState controlStated
   state =
@@ -88,13 +90,13 @@ control-alike τ σ alike = λ i. record {
 }
 
 module _ (end : End) (id : DatalinkId) where
-  pub cells : Cells (controlSort end id) id controlStated
+  unfoldable pub control-cells : Cells (controlSort end id) id controlStated
   unfolding blankControl controlStated controlRefused controlAccepted controlOther
-  cells = record {
+  control-cells = record {
     verdict = λ r. r .verdict;
-    accepts = λ m. refl;
-    refuses = λ number place e. let z : _≡_ {A = ℕ} 0 1 = cc in omega arith;
-    differs = λ e. let z : _≡_ {A = ℕ} 0 1 = cc in omega arith;
+    accepted = λ m. refl;
+    refused = λ number place. refl;
+    other = refl;
     blank = refl;
     unstated = unstated end;
     state = state end;
@@ -107,15 +109,15 @@ module _ (end : End) (id : DatalinkId) where
   pub control-account : (s : List ℕ) → Octets s
       → (readControl end id s .verdict ≡ Verdict.Accepted ↔ (f : Options) × Accepts planes.Control end id s f)
       × ((f : Options) → Accepts planes.Control end id s f → readControl end id s ≡ controlAccepted (controlMeaning end f))
-  unfolding readControl cells
-  control-account = account (controlSort end id) id controlStated cells
+  unfolding readControl control-cells
+  control-account = account (controlSort end id) id controlStated control-cells
 
   -- Order, unused bits and skipped options carry no meaning.
   pub control-reordered : (s : List ℕ) (f g : Options) (header : ℕ) → Accepts planes.Control end id s f → Shuffled planes.Control end f g
       → versionOf header ≡ CURRENT-VERSION → flagOf header ≡ flag planes.Control → length (header ∷ bytes g) ≤ LONGEST-DATAGRAM
       → readControl end id (header ∷ bytes g) ≡ readControl end id s
   unfolding readControl
-  control-reordered s f g header a x = reordered (controlSort end id) id controlStated cells control-alike s f g header a x (any-order g)
+  control-reordered s f g header a x = reordered (controlSort end id) id controlStated control-cells control-alike s f g header a x (any-order g)
     where
       any-order : (f : Options) → Ending planes.Control f
       any-order done = tt

@@ -5,10 +5,10 @@ use mathlib.Core.Logic.{_↔_}
 use mathlib.Core.List.{List, _∷_}
 use mathlib.Core.Option.{Option, none, some}
 use mathlib.Core.Bool.{Bool, true, false, cond, not}
-use native.Mathlib.Omega.{arith}
 use borrow.Author.Tests.{eq-eqb, eqb-true, eqb-false, ne-eqb}
 use lib.Dec.{eqb}
 use lib.ListN.{length, getD}
+use Rattle.facts.proofs.Tests.{clash}
 use Rattle.quantity.specs.declared.count.DatalinkId.{DatalinkId}
 use Rattle.quantity.specs.Limits.{LONGEST-DATAGRAM}
 use Rattle.wire.specs.Numbers.{Octets}
@@ -17,14 +17,15 @@ use Rattle.meaning.specs.declared.message.End.{End}
 use Rattle.meaning.specs.declared.message.End.the-variants.{Ips, Radio}
 use Rattle.meaning.specs.declared.message.Plane.the-variants as planes
 use Rattle.meaning.specs.Kinds.{among, mayHold, standsLast, DATALINK-IDENTIFIER, PACKET-DATA, CHANNEL-IDENTIFIER, EXPIRATION-TIME, FLOW-SEQUENCE}
+use Rattle.meaning.proofs.Amongst.{Each, amongst}
 use Rattle.read_option.specs.Stated.{Table, datalinkFrom, channelFrom, expirationFrom, countedFrom, dataStated}
 use Rattle.read_rules.specs.declared.answer.Verdict.{Verdict}
-use Rattle.read_rules.specs.Judging.{CURRENT-VERSION, versionOf, flagOf, flag}
-use Rattle.read_rules.specs.Sorts.{channelOf}
-use Rattle.read_rules.specs.Controls.{unstatedDatalink}
-use Rattle.reader.specs.Readings.{unstatedCounted, unstatedChannel, unstatedExpiration, Gathered, given, dataUnstated, dataState, pairs, blankData, dataRefused, dataAccepted, dataOther, dataSort, readData, packetIn, packetOf}
+use Rattle.read_rules.specs.Sorts.{channelOf, unstatedDatalink}
+use Rattle.read_data.specs.Message.{unstatedCounted, unstatedChannel, unstatedExpiration, Gathered, given, dataUnstated, dataState, pairs, blankData, dataRefused, dataAccepted, dataOther, dataSort}
+use Rattle.read_data.specs.Packet.{packetIn}
+use Rattle.reader.specs.Header.{CURRENT-VERSION, versionOf, flagOf, flag}
+use Rattle.reader.specs.Readings.{readData, packetOf}
 use Rattle.acceptance.specs.Account.{speaks, the, tableOf, Ending, SameChannel, Accepts, dataMeaning, Shuffled}
-use Rattle.meaning.proofs.Amongst.{clash, Each, amongst}
 use Rattle.acceptance.proofs.Lists.{last-speaks}
 use Rattle.acceptance.proofs.Seats.{vacant, put}
 use Rattle.acceptance.proofs.Tables.{vacant-is}
@@ -44,7 +45,7 @@ each-of Ips P d p c x q = (d, (p, (c, (x, (q, tt)))))
 each-of Radio P d p c x q = (d, (p, (c, tt)))
 
 module _ (end : End) (τ : Table) where
-  unstated : (kind : ℕ) → among kind (mayHold planes.Data end) ≡ true → (content : List ℕ)
+  pub unstated : (kind : ℕ) → among kind (mayHold planes.Data end) ≡ true → (content : List ℕ)
       → dataUnstated kind (channelOf planes.Data kind content) (gathered τ) ≡ vacant (τ kind (channelOf planes.Data kind content))
   unfolding dataUnstated dataStated
   unstated =
@@ -56,17 +57,17 @@ module _ (end : End) (τ : Table) where
       (λ c. vacant-is (λ x. unstatedExpiration (expirationFrom x)) refl (λ d. refl) (τ EXPIRATION-TIME 0))
       (λ c. vacant-is (λ x. unstatedCounted (countedFrom x)) refl (λ d. refl) (τ FLOW-SEQUENCE 0)))
 
-  state : (kind : ℕ) → among kind (mayHold planes.Data end) ≡ true → (content : List ℕ)
+  pub state : (kind : ℕ) → among kind (mayHold planes.Data end) ≡ true → (content : List ℕ)
       → dataState kind (channelOf planes.Data kind content) content (gathered τ) ≡ gathered (put kind (channelOf planes.Data kind content) content τ)
   unfolding dataState dataStated
   state = amongst _ (mayHold planes.Data end) (each-of end _ (λ c. refl) (λ c. refl) (λ c. refl) (λ c. refl) (λ c. refl))
 
-not-given : (x : Option (List ℕ)) → given x ≡ false → x ≡ none
+pub not-given : (x : Option (List ℕ)) → given x ≡ false → x ≡ none
 not-given none e = refl
 not-given (some content) e = clash (sym e)
 
 -- 10, as it is tested and as the account says it
-same-channel : (sequence identifier : Option (List ℕ)) → SameChannel sequence identifier ↔ pairs (countedFrom sequence) (channelFrom identifier) ≡ true
+pub same-channel : (sequence identifier : Option (List ℕ)) → SameChannel sequence identifier ↔ pairs (countedFrom sequence) (channelFrom identifier) ≡ true
 same-channel none identifier = ((λ p. refl), λ e. tt)
 same-channel (some sequence) none = ((λ p. absurd p), λ e. clash e)
 same-channel (some sequence) (some identifier) = (eq-eqb (getD sequence 0 0) (getD identifier 0 0), eqb-true (getD sequence 0 0) (getD identifier 0 0))
@@ -85,13 +86,13 @@ data-alike τ σ alike = λ i. record {
 }
 
 module _ (end : End) (id : DatalinkId) where
-  pub cells : Cells (dataSort end id) id gathered
+  unfoldable pub data-cells : Cells (dataSort end id) id gathered
   unfolding blankData dataStated dataRefused dataAccepted dataOther
-  cells = record {
+  data-cells = record {
     verdict = λ r. r .verdict;
-    accepts = λ m. refl;
-    refuses = λ number place e. let z : _≡_ {A = ℕ} 0 1 = cc in omega arith;
-    differs = λ e. let z : _≡_ {A = ℕ} 0 1 = cc in omega arith;
+    accepted = λ m. refl;
+    refused = λ number place. refl;
+    other = refl;
     blank = refl;
     unstated = λ τ kind a content h. unstated end τ kind a content;
     state = state end;
@@ -104,8 +105,8 @@ module _ (end : End) (id : DatalinkId) where
   pub data-account : (s : List ℕ) → Octets s
       → (readData end id s .verdict ≡ Verdict.Accepted ↔ (f : Options) × Accepts planes.Data end id s f)
       × ((f : Options) → Accepts planes.Data end id s f → readData end id s ≡ record { verdict = Verdict.Accepted; message = dataMeaning end f })
-  unfolding readData cells dataAccepted
-  data-account = account (dataSort end id) id gathered cells
+  unfolding readData data-cells dataAccepted
+  data-account = account (dataSort end id) id gathered data-cells
 
   -- Packet Data speaks for no channel
   packet-speaks : (kind : ℕ) (content : List ℕ) → speaks planes.Data end PACKET-DATA 0 kind content ≡ eqb kind PACKET-DATA
@@ -141,4 +142,4 @@ module _ (end : End) (id : DatalinkId) where
       let b = still-allowed planes.Data end id s f g header a x d v p h in
       let e : the planes.Data end PACKET-DATA 0 f ≡ the planes.Data end PACKET-DATA 0 g =
       others (tableOf planes.Data end f) (tableOf planes.Data end g) (tables-alike planes.Data end id s f g a x) PACKET-DATA 0 refl in
-      (reordered (dataSort end id) id gathered cells data-alike s f g header a x d v p h, cc (data-packet s f a, data-packet (header ∷ bytes g) g b))
+      (reordered (dataSort end id) id gathered data-cells data-alike s f g header a x d v p h, cc (data-packet s f a, data-packet (header ∷ bytes g) g b))

@@ -7,6 +7,7 @@ pub mod Body
 pub mod Own
 pub mod Standing
 pub mod Cells
+pub mod Outcome
 pub mod Account
 pub mod Shuffle
 pub mod Tables
@@ -14,6 +15,6 @@ pub mod Ours
 pub mod Control
 pub mod Data
 pub mod Examples
-pub mod Verdicts
 pub mod Places
+pub mod Verdicts
 pub mod OnePlace

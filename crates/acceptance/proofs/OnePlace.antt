@@ -7,15 +7,14 @@ use native.Mathlib.Omega.{arith}
 use borrow.Author.Tests.{ltb-true, ltb-false}
 use lib.Dec.{ltb}
 use lib.ListN.{length, drop, length-append}
+use Rattle.facts.proofs.Tests.{clash}
 use Rattle.quantity.specs.declared.refusal.Refusal.{Refusal}
 use Rattle.quantity.specs.Refusals.{CUT, MISSING}
 use Rattle.wire.specs.Options.{Options, done, cut, option, optionBytes, bytes, split, Whole-options}
 use Rattle.wire.proofs.Options.{split-front}
 use Rattle.meaning.specs.declared.message.End.{End}
 use Rattle.meaning.specs.declared.message.Plane.{Plane}
-use Rattle.meaning.proofs.Amongst.{clash}
-use Rattle.read_option.specs.Stated.{Table}
-use Rattle.read_rules.specs.Controls.{nothing}
+use Rattle.read_option.specs.Stated.{Table, nothing}
 use Rattle.acceptance.specs.Account.{All, Listed, Ending}
 use Rattle.acceptance.specs.Numbers.{OfReading}
 use Rattle.acceptance.specs.Places.{Fault, cut-off, other-length, meaningless, unlisted, repeated, behind-packet, AtOption, PlacedAt}

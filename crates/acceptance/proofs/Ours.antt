@@ -3,10 +3,10 @@ use mathlib.Core.Path.{_≡_, refl}
 use mathlib.Core.Logic.{_↔_}
 use mathlib.Core.Bool.{true}
 use borrow.Author.Tests.{eq-eqb, eqb-true}
+use Rattle.facts.proofs.Tests.{clash}
 use Rattle.quantity.specs.declared.count.DatalinkId.{DatalinkId}
 use Rattle.meaning.specs.declared.message.Datalink.{Datalink}
-use Rattle.read_rules.specs.Controls.{isOurs}
-use Rattle.meaning.proofs.Amongst.{clash}
+use Rattle.read_rules.specs.Sorts.{isOurs}
 
 pub ours : (id : DatalinkId) (x : Datalink) → x ≡ Datalink.Given id ↔ isOurs id x ≡ true
 ours id x = ((λ e. rw e (eq-eqb (id .0) (id .0) refl)), λ e. back x e)

@@ -4,21 +4,20 @@ use mathlib.Core.Path.{_≡_, refl, sym, _∙_}
 use mathlib.Core.List.{List}
 use mathlib.Core.Option.{Option, none, some}
 use mathlib.Core.Bool.{Bool, true, false, cond}
-use native.Mathlib.Omega.{arith}
 use borrow.Author.Tests.{eq-eqb, eqb-true}
 use lib.Dec.{eqb}
+use Rattle.facts.proofs.Tests.{clash}
 use Rattle.meaning.specs.declared.message.End.{End}
 use Rattle.meaning.specs.declared.message.Plane.{Plane}
 use Rattle.meaning.specs.Kinds.{among, known, mayHold}
 use Rattle.read_option.specs.Stated.{Table}
 use Rattle.read_rules.specs.Sorts.{channelOf}
 use Rattle.acceptance.specs.Account.{speaks}
-use Rattle.meaning.proofs.Amongst.{clash}
 
 -- ---- a place of a table
 
 pub taken-free : {A : Type 0} {content : List ℕ} → some content ≡ none → A
-taken-free e = let z : _≡_ {A = ℕ} 0 1 = cc in absurd (omega arith)
+taken-free e = clash (cc)
 
 abbrev pub vacant : Option (List ℕ) → Bool
 vacant none = true

@@ -17,8 +17,8 @@ use Rattle.meaning.specs.declared.message.Plane.the-variants as planes
 use Rattle.meaning.specs.declared.message.Status.{Status}
 use Rattle.meaning.specs.Kinds.{valueListed, mustHold, DATALINK-IDENTIFIER, CHANNEL-STATUS, CHANNEL-IDENTIFIER, FLOW-SEQUENCE}
 use Rattle.read_option.specs.Stated.{Table, statusFrom}
-use Rattle.read_rules.specs.Judging.{CURRENT-VERSION, versionOf, flagOf, flag, readWith}
 use Rattle.read_rules.specs.Sorts.{Sort, rulesOf}
+use Rattle.reader.specs.Header.{CURRENT-VERSION, versionOf, flagOf, flag, readWith}
 use Rattle.acceptance.specs.Account.{All, Listed, isAt, speaksFor, one, speaks, count, the, tableOf, Ending, Filled, Paired, Accepts, Shuffled}
 use Rattle.acceptance.proofs.Lists.{unknown-listed}
 use Rattle.acceptance.proofs.Seats.{taken-free, silent}

@@ -18,8 +18,8 @@ use Rattle.meaning.specs.declared.message.Control.{Control}
 use Rattle.meaning.specs.declared.message.Data.{Data}
 use Rattle.meaning.specs.Kinds.{among, known, lengthListed, valueListed, mayHold, mustHold, standsLast, DATALINK-IDENTIFIER, CHANNEL-STATUS, CHANNEL-IDENTIFIER, FLOW-SEQUENCE}
 use Rattle.read_option.specs.Stated.{Table, datalinkFrom, controlStated, dataStated}
-use Rattle.read_rules.specs.Judging.{CURRENT-VERSION, versionOf, flagOf, flag}
 use Rattle.read_rules.specs.Sorts.{channelOf}
+use Rattle.reader.specs.Header.{CURRENT-VERSION, versionOf, flagOf, flag}
 
 -- every option has the property, and nothing is cut off
 abbrev pub All : (ℕ → List ℕ → Type 0) → Options → Type 0

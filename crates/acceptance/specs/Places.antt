@@ -11,8 +11,8 @@ use Rattle.wire.specs.Options.{Options, cut, option, bytes, split, Whole-option
 use Rattle.meaning.specs.declared.message.End.{End}
 use Rattle.meaning.specs.declared.message.Plane.{Plane}
 use Rattle.meaning.specs.Kinds.{among, known, lengthListed, valueListed, mayHold, standsLast}
-use Rattle.read_rules.specs.Sorts.{channelOf}
 use Rattle.read_option.specs.Stated.{Table}
+use Rattle.read_rules.specs.Sorts.{channelOf}
 use Rattle.acceptance.specs.Account.{All, Listed, count, tableOf, Ending}
 
 -- what the lines 3 to 8 of "Numbers of refusal" say of the first option of a rest, `τ` being what the options before it say

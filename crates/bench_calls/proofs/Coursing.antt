@@ -7,58 +7,93 @@ use native.Mathlib.Omega.{arith}
 use borrow.Author.Tests.{eq-eqb, ne-eqb}
 use lib.ListN.{length, take, drop, getD, length-drop, drop-of-length-le}
 use lib.Seq.{take-all, drop-cons}
+use Rattle.facts.proofs.Lists.{rest-part}
 use Rattle.writer.specs.declared.answer.WriteAnswer.{WriteAnswer}
 use Rattle.store.specs.Packets.{packetFor}
 use Rattle.ips_state.specs.declared.state.Configuration.{Configuration}
-use Rattle.endpoint.specs.declared.start.Begun.{Begun}
-use Rattle.endpoint.specs.declared.call.Offered.{Offered}
-use Rattle.endpoint.specs.declared.call.Asked.{Asked}
-use Rattle.endpoint.specs.declared.call.Emptied.{Emptied}
-use Rattle.endpoint.specs.declared.radio.Heard.{Heard}
-use Rattle.endpoint.specs.Calls.{Starts, Offers, Asks, Withdraws}
-use Rattle.endpoint.specs.Radio.{handedIn}
-use Rattle.endpoint.specs.Query.{Queries}
+use Rattle.ips_state.specs.declared.state.State.{State}
+use Rattle.ips_state.specs.declared.state.StartAnswer.{StartAnswer}
+use Rattle.ips_state.specs.Memory.{World, indexIn}
+use Rattle.ips_channel_rules.specs.Rules as rules
+use Rattle.ips_channel_calls.specs.declared.offering.OfferAnswer.{OfferAnswer}
+use Rattle.ips_channel_calls.specs.declared.offering.WithdrawAnswer.{WithdrawAnswer}
+use Rattle.ips_channel_calls.specs.declared.asking.NextAnswer.{NextAnswer}
+use Rattle.ips_channel_calls.specs.Calls as channel
+use Rattle.ips_channel_calls.specs.Calls.{offerAnswer, nextAnswer, withdrawAnswer, outputAfter}
+use Rattle.ips_radio.specs.declared.RadioAnswer.{RadioAnswer}
+use Rattle.ips_run.specs.Calling.{termsIn, calling}
+use Rattle.ips_run.specs.Run as run
+use Rattle.ips_run.specs.Run.{on, after}
+use Rattle.endpoint.specs.Replies.{ofChannel, ofRadio, ofQuery}
+use Rattle.endpoint.specs.Calls.{lending, Performed, PerformedWithAny}
+use Rattle.endpoint.specs.Start.{Started}
+use Rattle.endpoint.proofs.Querying.{query-gives}
+use Rattle.endpoint.proofs.Ran.{radio-handed}
 use Rattle.bench_reader.specs.Digests.{mixed}
 use Rattle.bench_calls.specs.declared.whole.Whole.{Whole}
 use Rattle.bench_calls.specs.Parts.{offerPart, nextPart, withdrawPart, radioPart, queryPart}
 use Rattle.bench_calls.specs.Single.{later}
 use Rattle.bench_calls.specs.Whole.{Course, courseOf, configurationOf, begunOf, heard, offered, asked, withdrawn, queried, turnedTo, stepOf, leftAfter, stepsOf, Ends}
 
+state-in : {w w′ : World} → w ≡ w′ → w .state ≡ w′ .state
+state-in e = ap (λ (w : World). w .state) e
+
+memory-in : {w w′ : World} → w ≡ w′ → w .memory ≡ w′ .memory
+memory-in e = ap (λ (w : World). w .memory) e
+
 -- ---- a fresh start
-pub begun-is : (channels first : ℕ) (k : Configuration) → k ≡ configurationOf channels first → (memory : List ℕ) (b : Begun) (memory′ : List ℕ) → Starts k memory b memory′
-    → (out : List ℕ) → courseOf (record { state = b .state; time = 0; sum = 0 }) memory′ out ≡ begunOf channels first memory out
+pub begun-is : (channels first : ℕ) (k : Configuration) → k ≡ configurationOf channels first → (memory : List ℕ) (answer : StartAnswer) (s : State) (memory′ : List ℕ)
+    → Started k memory answer (lending s memory′) → (out : List ℕ) → courseOf (record { state = s; time = 0; sum = 0 }) memory′ out ≡ begunOf channels first memory out
 unfolding begunOf
-begun-is channels first k e memory b memory′ h out = rw (h .memory-is, h .begins, e)
+begun-is channels first k e memory answer s memory′ h out = rw (state-in (h .world-is), memory-in (h .world-is), e)
 
 -- ---- the calls
 module _ (before : Whole) where
-  pub heard-is : (datagram : List ℕ) (h : Heard) → h ≡ handedIn (before .state) datagram → (part : ℕ) → part ≡ radioPart (h .answer) → (sum : ℕ) → sum ≡ mixed (before .sum) part
-      → (memory out : List ℕ) → courseOf (record { state = h .state; time = before .time; sum = sum }) memory out ≡ heard datagram (courseOf before memory out)
+  pub heard-is : (datagram : List ℕ) (answer : RadioAnswer) (s′ : State) → PerformedWithAny (run.radio datagram) (before .state) (ofRadio answer) s′
+      → (part : ℕ) → part ≡ radioPart answer → (sum : ℕ) → sum ≡ mixed (before .sum) part
+      → (memory out : List ℕ) → courseOf (record { state = s′; time = before .time; sum = sum }) memory out ≡ heard datagram (courseOf before memory out)
   unfolding heard
-  heard-is datagram h e part p sum s memory out = rw (s, p, e)
+  heard-is datagram answer s′ h part p sum s memory out = let handed = radio-handed h in rw (s, p, handed .0, handed .1)
 
-  pub offered-is : (memory packet : List ℕ) (id lasting expiry : ℕ) → expiry ≡ later (before .time) lasting → (o : Offered) (memory′ : List ℕ)
-      → Offers (before .state) memory id (packetFor packet expiry) (before .time) o memory′ → (part : ℕ) → part ≡ offerPart (o .answer) → (sum : ℕ) → sum ≡ mixed (before .sum) part
-      → (out : List ℕ) → courseOf (record { state = o .state; time = before .time; sum = sum }) memory′ out ≡ offered id packet lasting (courseOf before memory out)
-  unfolding offered
-  offered-is memory packet id lasting expiry e o memory′ h part p sum s out = rw (s, p, h .answer-is, h .state-is, h .memory-is, e)
+  module _ (memory : List ℕ) (id : ℕ) (s′ : State) (memory′ : List ℕ) where
+    abbrev held : World
+    held = lending (before .state) memory
 
-  pub asked-is : (memory : List ℕ) (id : ℕ) (out : List ℕ) (a : Asked) (memory′ out′ : List ℕ) → Asks (before .state) memory id (before .time) out a memory′ out′
-      → (part : ℕ) → part ≡ nextPart (a .answer) → (sum : ℕ) → sum ≡ mixed (before .sum) part
-      → courseOf (record { state = a .state; time = before .time; sum = sum }) memory′ out′ ≡ asked id (courseOf before memory out)
-  unfolding asked
-  asked-is memory id out a memory′ out′ h part p sum s = rw (s, p, h .answer-is, h .state-is, h .memory-is, h .out-is)
+    pub offered-is : (packet : List ℕ) (lasting expiry : ℕ) → expiry ≡ later (before .time) lasting → (answer : OfferAnswer)
+        → Performed (on id (rules.offer (packetFor packet expiry) (before .time))) (lending (before .state) memory) (ofChannel (channel.offered answer)) (lending s′ memory′)
+        → (part : ℕ) → part ≡ offerPart answer → (sum : ℕ) → sum ≡ mixed (before .sum) part
+        → (out : List ℕ) → courseOf (record { state = s′; time = before .time; sum = sum }) memory′ out ≡ offered id packet lasting (courseOf before memory out)
+    unfolding offered after
+    offered-is packet lasting expiry e answer h part p sum s out =
+        let is : answer ≡ offerAnswer (calling id (rules.offer (packetFor packet expiry) (before .time)) held .answer) = cc (h .reply-is) in
+        rw (s, p, is, state-in (h .world-is), memory-in (h .world-is), e)
 
-  pub withdrawn-is : (memory : List ℕ) (id : ℕ) (x : Emptied) (memory′ : List ℕ) → Withdraws (before .state) memory id x memory′
-      → (part : ℕ) → part ≡ withdrawPart (x .answer) → (sum : ℕ) → sum ≡ mixed (before .sum) part
-      → (out : List ℕ) → courseOf (record { state = x .state; time = before .time; sum = sum }) memory′ out ≡ withdrawn id (courseOf before memory out)
-  unfolding withdrawn
-  withdrawn-is memory id x memory′ h part p sum s out = rw (s, p, h .answer-is, h .state-is, h .memory-is)
+    pub asked-is : (out out′ : List ℕ) (answer : NextAnswer)
+        → Performed (on id (rules.next (before .time) out)) (lending (before .state) memory) (ofChannel (channel.asked answer out′)) (lending s′ memory′)
+        → (part : ℕ) → part ≡ nextPart answer → (sum : ℕ) → sum ≡ mixed (before .sum) part
+        → courseOf (record { state = s′; time = before .time; sum = sum }) memory′ out′ ≡ asked id (courseOf before memory out)
+    unfolding asked after
+    asked-is out out′ answer h part p sum s =
+        let k = termsIn held (indexIn held id) in
+        let is : answer ≡ nextAnswer k (calling id (rules.next (before .time) out) held .answer) = cc (h .reply-is) in
+        let bytes : out′ ≡ outputAfter k (calling id (rules.next (before .time) out) held .answer) out = cc (h .reply-is) in
+        rw (s, p, is, bytes, state-in (h .world-is), memory-in (h .world-is))
 
-  pub queried-is : (out : List ℕ) (q : WriteAnswer) (out′ : List ℕ) → Queries (before .state) out q out′ → (part : ℕ) → part ≡ queryPart q → (sum : ℕ) → sum ≡ mixed (before .sum) part
+    pub withdrawn-is : (answer : WithdrawAnswer) → Performed (on id rules.withdraw) (lending (before .state) memory) (ofChannel (channel.withdrawn answer)) (lending s′ memory′)
+        → (part : ℕ) → part ≡ withdrawPart answer → (sum : ℕ) → sum ≡ mixed (before .sum) part
+        → (out : List ℕ) → courseOf (record { state = s′; time = before .time; sum = sum }) memory′ out ≡ withdrawn id (courseOf before memory out)
+    unfolding withdrawn after
+    withdrawn-is answer h part p sum s out =
+        let is : answer ≡ withdrawAnswer (calling id rules.withdraw held .answer) = cc (h .reply-is) in
+        rw (s, p, is, state-in (h .world-is), memory-in (h .world-is))
+
+  pub queried-is : (out : List ℕ) (q : WriteAnswer) (out′ : List ℕ) → PerformedWithAny (run.query out) (before .state) (ofQuery q out′) (before .state)
+      → (part : ℕ) → part ≡ queryPart q → (sum : ℕ) → sum ≡ mixed (before .sum) part
       → (memory : List ℕ) → courseOf (record { state = before .state; time = before .time; sum = sum }) memory out′ ≡ queried (courseOf before memory out)
   unfolding queried
-  queried-is out q out′ h part p sum s memory = rw (s, p, h .answer-is, h .out-is)
+  queried-is out q out′ h part p sum s memory =
+      let gives = query-gives (h memory) in
+      rw (s, p, gives .0, gives .1)
 
 -- ---- which call a byte of the script is
 module _ (packet : List ℕ) (lasting : ℕ) (datagram : List ℕ) (word : ℕ) (w : Course) where
@@ -99,13 +134,10 @@ first-all datagrams size h = sym (take-all size datagrams (omega arith))
 pub first-part : (datagrams : List ℕ) (size : ℕ) → take (size - 0) (drop 0 datagrams) ≡ take size datagrams
 first-part datagrams size = let whole : size - 0 ≡ size = omega arith in rw whole
 
-pub rest-part : (datagrams : List ℕ) (start : ℕ) → take (length datagrams - start) (drop start datagrams) ≡ drop start datagrams
-rest-part datagrams start = take-all (length datagrams - start) (drop start datagrams) (simp length-drop (omega arith))
-
 pub rest-none : (datagrams : List ℕ) (size : ℕ) → length datagrams < size
     → take (length datagrams - length datagrams) (drop (length datagrams) datagrams) ≡ drop size datagrams
 rest-none datagrams size h =
-    rest-part datagrams (length datagrams) ∙ drop-of-length-le datagrams {i = length datagrams} (omega arith) ∙ sym (drop-of-length-le datagrams {i = size} (omega arith))
+    rest-part (length datagrams) datagrams ∙ drop-of-length-le datagrams {i = length datagrams} (omega arith) ∙ sym (drop-of-length-le datagrams {i = size} (omega arith))
 
 pub left-behind : (size word : ℕ) (datagrams r : List ℕ) → word / 16 ≡ 3 → r ≡ drop size datagrams → r ≡ leftAfter size word datagrams
 unfolding leftAfter

@@ -1,6 +1,5 @@
 -- One call after another on one channel: each law is one step of a script, or of the loop over it. Assumes nothing.
 use Prim.Native.Nat.{ℕ, _+_, _/_, _%_, _≤_, _<_}
-use mathlib.Core.Bool.{false}
 use mathlib.Core.List.{List}
 use mathlib.Core.Path.{_≡_, refl, ap}
 use native.Mathlib.Numerals.{add-one}
@@ -13,38 +12,49 @@ use Rattle.meaning.specs.declared.message.Status.the-variants as statuses
 use Rattle.meaning.specs.declared.message.Window.the-variants as windows
 use Rattle.store.specs.Packets.{packetFor}
 use Rattle.ips_channel.specs.declared.state.Channel.{Channel}
-use Rattle.ips_channel.specs.Channel.{freshChannel, heardOf}
-use Rattle.ips_channel_calls.specs.declared.offering.Offered.{Offered}
-use Rattle.ips_channel_calls.specs.declared.asking.Asked.{Asked}
-use Rattle.ips_channel_calls.specs.Calls.{Ready, Offers, Asks, Withdraws}
-use Rattle.ips_channel_calls.proofs.Again.{after-offer, after-next, after-withdraw, after-hear, fresh-ready}
+use Rattle.ips_channel.specs.Channel.{termsOf, freshChannel, heardOf}
+use Rattle.ips_channel_rules.specs.Rules as rules
+use Rattle.ips_channel_calls.specs.declared.offering.OfferAnswer.{OfferAnswer}
+use Rattle.ips_channel_calls.specs.declared.offering.WithdrawAnswer.{WithdrawAnswer}
+use Rattle.ips_channel_calls.specs.declared.asking.NextAnswer.{NextAnswer}
+use Rattle.ips_channel_calls.specs.Calls as calls
+use Rattle.ips_channel_calls.specs.Calls.{offerAnswer, nextAnswer, outputAfter, Ready, resultOf, Serves, ServesAnywhere}
+use Rattle.ips_channel_calls.proofs.Again.{after-call, after-hear, fresh-ready}
 use Rattle.bench_reader.specs.Digests.{mixed}
 use Rattle.bench_calls.specs.declared.single.Single.{Single}
 use Rattle.bench_calls.specs.Parts.{offerPart, nextPart}
-use Rattle.bench_calls.specs.Single.{DATALINK, Stand, standOf, later, begunWith, offered, asked, withdrawn, turnedTo, timed, stepOf, stepsOf, Goes, GoesBeside, Ends}
+use Rattle.bench_calls.specs.Single.{DATALINK, Stand, standOf, later, plain, begunWith, offered, asked, withdrawn, turnedTo, timed, stepOf, stepsOf, Goes, GoesBeside, Ends}
 
 -- ---- the calls
 module _ (before : Single) (store : List ℕ) (ready : Ready (before .channel) store) where
-  pub offered-goes : (packet : List ℕ) (lasting expiry : ℕ) → expiry ≡ later (before .time) lasting → (o : Offered) (store′ : List ℕ)
-      → Offers (before .channel) store (packetFor packet expiry) (before .time) o store′ → (part : ℕ) → part ≡ offerPart (o .answer) → (sum : ℕ) → sum ≡ mixed (before .sum) part
-      → GoesBeside (offered packet lasting) before store (record { channel = o .channel; time = before .time; sum = sum }) store′
+  pub offered-goes : (packet : List ℕ) (lasting expiry : ℕ) → expiry ≡ later (before .time) lasting → (answer : OfferAnswer) (c′ : Channel) (store′ : List ℕ)
+      → ServesAnywhere (rules.offer (packetFor packet expiry) (before .time)) (before .channel) store (calls.offered answer) c′ store′
+      → (part : ℕ) → part ≡ offerPart answer → (sum : ℕ) → sum ≡ mixed (before .sum) part
+      → GoesBeside (offered packet lasting) before store (record { channel = c′; time = before .time; sum = sum }) store′
   unfolding offered
-  offered-goes packet lasting expiry e o store′ h part p sum s = record {
-    beside = λ (out : List ℕ). record { stands = rw (s, p, h .answer-is, h .channel-is, h .store-is, e); ready = after-offer (before .channel) store ready DATALINK h .ready };
-  }
+  offered-goes packet lasting expiry e answer c′ store′ h part p sum s =
+      let is : answer ≡ offerAnswer (resultOf DATALINK (rules.offer (packetFor packet expiry) (before .time)) (before .channel) store .answer) = cc (h DATALINK .reply-is) in
+      record {
+        beside = λ (out : List ℕ). record { stands = rw (s, p, is, h DATALINK .channel-is, h DATALINK .store-is, e); ready = after-call (before .channel) store ready DATALINK (h DATALINK) .ready };
+      }
 
-  pub asked-goes : (out : List ℕ) (a : Asked) (store′ out′ : List ℕ) → Asks (before .channel) store DATALINK (before .time) out a store′ out′
-      → (part : ℕ) → part ≡ nextPart (a .answer) → (sum : ℕ) → sum ≡ mixed (before .sum) part
-      → Goes asked before store out (record { channel = a .channel; time = before .time; sum = sum }) store′ out′
+  pub asked-goes : (out out′ : List ℕ) (answer : NextAnswer) (c′ : Channel) (store′ : List ℕ)
+      → Serves DATALINK (rules.next (before .time) out) (before .channel) store (calls.asked answer out′) c′ store′
+      → (part : ℕ) → part ≡ nextPart answer → (sum : ℕ) → sum ≡ mixed (before .sum) part
+      → Goes asked before store out (record { channel = c′; time = before .time; sum = sum }) store′ out′
   unfolding asked
-  asked-goes out a store′ out′ h part p sum s =
-      record { stands = rw (s, p, h .answer-is, h .channel-is, h .store-is, h .out-is); ready = after-next (before .channel) store ready DATALINK h .ready }
+  asked-goes out out′ answer c′ store′ h part p sum s =
+      let k = termsOf DATALINK (before .channel .setting) in
+      let given = resultOf DATALINK (rules.next (before .time) out) (before .channel) store .answer in
+      let is : answer ≡ nextAnswer k given = cc (h .reply-is) in
+      let bytes : out′ ≡ outputAfter k given out = cc (h .reply-is) in
+      record { stands = rw (s, p, is, bytes, h .channel-is, h .store-is); ready = after-call (before .channel) store ready DATALINK h .ready }
 
-  pub withdrawn-goes : (c′ : Channel) (store′ : List ℕ) → Withdraws (before .channel) store c′ store′
+  pub withdrawn-goes : (c′ : Channel) (store′ : List ℕ) → ServesAnywhere rules.withdraw (before .channel) store (calls.withdrawn WithdrawAnswer.Withdrawn) c′ store′
       → GoesBeside withdrawn before store (record { channel = c′; time = before .time; sum = before .sum }) store′
   unfolding withdrawn
   withdrawn-goes c′ store′ h = record {
-    beside = λ (out : List ℕ). record { stands = rw (h .channel-is, h .store-is); ready = after-withdraw (before .channel) store ready DATALINK h .ready };
+    beside = λ (out : List ℕ). record { stands = rw (h DATALINK .channel-is, h DATALINK .store-is); ready = after-call (before .channel) store ready DATALINK (h DATALINK) .ready };
   }
 
   pub timed-goes : (time : ℕ) (out : List ℕ) (r : Single) → r ≡ turnedTo time before → Goes (timed time) before store out r store out
@@ -82,8 +92,8 @@ pub record Going (script packet : List ℕ) (w₀ : Stand) (at : ℕ) (carried :
 pub begun-ready : (size : ByteCount) (store : List ℕ) → length store ≡ size .0 → Ready (begunWith size .channel) store
 unfolding begunWith
 begun-ready size store l =
-    after-hear (freshChannel 0 false size (record { 0 = 0 })) store (fresh-ready 0 false size (record { 0 = 0 }) store (omega arith) l) (statuses.Given 7) windows.Absent
-    (heardOf (freshChannel 0 false size (record { 0 = 0 })) (statuses.Given 7) windows.Absent) refl .ready
+    let fresh = freshChannel (plain size) (record { 0 = 0 }) in
+    after-hear fresh store (fresh-ready (plain size) (record { 0 = 0 }) store (omega arith) l) DATALINK (statuses.Given 7) windows.Absent (heardOf fresh (statuses.Given 7) windows.Absent) refl .ready
 
 pub going-start : (script packet : List ℕ) (store out : List ℕ) (carried : Single) → carried ≡ begunWith (record { 0 = length store })
     → Going script packet (standOf (begunWith (record { 0 = length store })) store out) 0 carried store out

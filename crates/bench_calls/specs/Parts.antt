@@ -1,10 +1,10 @@
 -- The answer of a call as one number, to be mixed into a sum.
 use Prim.Native.Nat.{ℕ}
 use Rattle.bench_reader.specs.Digests.{mixed, refusalOf}
-use Rattle.answer.specs.declared.RadioAnswer.{RadioAnswer}
-use Rattle.answer.specs.declared.WithdrawAnswer.{WithdrawAnswer}
 use Rattle.ips_channel_calls.specs.declared.offering.OfferAnswer.{OfferAnswer}
+use Rattle.ips_channel_calls.specs.declared.offering.WithdrawAnswer.{WithdrawAnswer}
 use Rattle.ips_channel_calls.specs.declared.asking.NextAnswer.{NextAnswer}
+use Rattle.ips_radio.specs.declared.RadioAnswer.{RadioAnswer}
 use Rattle.writer.specs.declared.answer.WriteAnswer.{WriteAnswer}
 
 -- a message of so many bytes was written: 21 is no number of refusal

@@ -11,10 +11,12 @@ use Rattle.meaning.specs.declared.message.Status.the-variants as statuses
 use Rattle.meaning.specs.declared.message.Window.the-variants as windows
 use Rattle.store.specs.Packets.{packetFor}
 use Rattle.ips_channel.specs.declared.state.Channel.{Channel}
-use Rattle.ips_channel.specs.Channel.{freshChannel, heardOf}
-use Rattle.ips_channel_rules.specs.Life.{Result}
+use Rattle.ips_channel.specs.declared.state.Setting.{Setting}
+use Rattle.ips_channel.specs.Channel.{termsOf, freshChannel, heardOf}
+use Rattle.ips_channel_rules.specs.Rules as rules
+use Rattle.ips_channel_rules.specs.Rules.{Result}
 use Rattle.ips_channel_rules.specs.Machine.{machine}
-use Rattle.ips_channel_calls.specs.Calls.{Ready, channelAfter, storeAfter, offerAnswer, nextAnswer, outAfter, offerResult, nextResult, withdrawResult}
+use Rattle.ips_channel_calls.specs.Calls.{Ready, channelAfter, storeAfter, offerAnswer, nextAnswer, outputAfter, resultOf}
 use Rattle.bench_reader.specs.Digests.{mixed}
 use Rattle.bench_calls.specs.declared.single.Single.{Single}
 use Rattle.bench_calls.specs.Parts.{offerPart, nextPart}
@@ -38,27 +40,29 @@ abbrev pub later : ℕ → ℕ → ℕ
 later time milliseconds = (time + milliseconds) % 2 ^ 64
 
 -- ---- a plain channel that the radio reported operational
+abbrev pub plain : ByteCount → Setting
+plain size = record { id = 0; controlled = false; size = size }
+
 unfoldable pub begunWith : ByteCount → Single
-begunWith size = record { channel = heardOf (freshChannel 0 false size (record { 0 = 0 })) (statuses.Given 7) windows.Absent; time = 0; sum = 0 }
+begunWith size = record { channel = heardOf (freshChannel (plain size) (record { 0 = 0 })) (statuses.Given 7) windows.Absent; time = 0; sum = 0 }
 
 -- ---- one call: what it leaves of the channel and its store, and its answer mixed into the sum
-abbrev pub leaving : Stand → Result machine → (out : List ℕ) (part : ℕ) → Stand
-leaving w r out part = record { channel = channelAfter (w .channel) r; store = storeAfter (w .channel) (w .store) r; out = out; time = w .time; sum = mixed (w .sum) part }
+abbrev pub leaving : {A : Type 0} → Stand → Result machine A → (out : List ℕ) (sum : ℕ) → Stand
+leaving w r out sum = record { channel = channelAfter (w .channel) r; store = storeAfter (w .channel) (w .store) r; out = out; time = w .time; sum = sum }
 
 unfoldable pub offered : List ℕ → ℕ → Stand → Stand
 offered packet lasting w =
-    let r = offerResult (w .channel) (w .store) (packetFor packet (later (w .time) lasting)) (w .time) in
-    leaving w r (w .out) (offerPart (offerAnswer (r .answer)))
+    let r = resultOf DATALINK (rules.offer (packetFor packet (later (w .time) lasting)) (w .time)) (w .channel) (w .store) in
+    leaving w r (w .out) (mixed (w .sum) (offerPart (offerAnswer (r .answer))))
 
 unfoldable pub asked : Stand → Stand
 asked w =
-    let r = nextResult (w .channel) (w .store) DATALINK (w .time) (length (w .out)) in
-    leaving w r (outAfter DATALINK (w .channel .id) (r .answer) (w .out)) (nextPart (nextAnswer DATALINK (w .channel .id) (r .answer)))
+    let k = termsOf DATALINK (w .channel .setting) in
+    let r = resultOf DATALINK (rules.next (w .time) (w .out)) (w .channel) (w .store) in
+    leaving w r (outputAfter k (r .answer) (w .out)) (mixed (w .sum) (nextPart (nextAnswer k (r .answer))))
 
 unfoldable pub withdrawn : Stand → Stand
-withdrawn w =
-    let r = withdrawResult (w .channel) (w .store) in
-    record { channel = channelAfter (w .channel) r; store = storeAfter (w .channel) (w .store) r; out = w .out; time = w .time; sum = w .sum }
+withdrawn w = leaving w (resultOf DATALINK rules.withdraw (w .channel) (w .store)) (w .out) (w .sum)
 
 -- another time, earlier ones too: so 15 is met with
 unfoldable pub turnedTo : ℕ → Single → Single

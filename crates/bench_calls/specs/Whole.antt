@@ -3,23 +3,19 @@ use Prim.Native.Nat.{ℕ, _/_, _%_}
 use mathlib.Core.Bool.{true, cond}
 use mathlib.Core.List.{List, [], _∷_, map}
 use mathlib.Core.Path.{_≡_}
-use lib.ListN.{length, take, drop, replicate}
+use lib.ListN.{take, drop}
 use lib.Dec.{eqb}
-use Rattle.quantity.specs.Refusals.{CONFIGURATION}
-use Rattle.writer.specs.declared.answer.WriteAnswer.{WriteAnswer}
-use Rattle.writer.specs.Written as writer
-use Rattle.writer.specs.Written.{controlWritten, answerTo}
 use Rattle.store.specs.Packets.{packetFor}
-use Rattle.ips_channel_calls.specs.Calls.{offerAnswer, nextAnswer, outAfter, withdrawResult}
-use Rattle.ips_state.specs.declared.state.Setting.{Setting}
+use Rattle.ips_channel_rules.specs.Rules as rules
+use Rattle.ips_channel_calls.specs.Calls.{offerAnswer, nextAnswer, withdrawAnswer, outputAfter}
+use Rattle.ips_state.specs.declared.state.ChannelStart.{ChannelStart}
 use Rattle.ips_state.specs.declared.state.Configuration.{Configuration}
 use Rattle.ips_state.specs.declared.state.State.{State}
-use Rattle.ips_state.specs.Limits.{stateFits}
-use Rattle.ips_query.specs.Query.{queryOf}
-use Rattle.ips_run.specs.Calling.{Outcome, calling, offering, asking}
-use Rattle.endpoint.specs.Calls as endpoint
-use Rattle.endpoint.specs.Calls.{withdrawAnswer, startFits}
+use Rattle.ips_state.specs.Memory.{World, indexIn}
+use Rattle.ips_run.specs.Calling.{termsIn, WorldResult, calling}
+use Rattle.endpoint.specs.Start.{startedWorld}
 use Rattle.endpoint.specs.Radio.{handedIn}
+use Rattle.endpoint.specs.Query.{queryAnswer, queryOut}
 use Rattle.bench_reader.specs.Digests.{mixed}
 use Rattle.bench_calls.specs.declared.whole.Whole.{Whole}
 use Rattle.bench_calls.specs.Parts.{offerPart, nextPart, withdrawPart, radioPart, queryPart}
@@ -37,40 +33,44 @@ abbrev pub courseOf : Whole → (memory out : List ℕ) → Course
 courseOf w memory out = record { state = w .state; memory = memory; out = out; time = w .time; sum = w .sum }
 
 -- ---- a fresh start of so many flow-controlled channels with IDs from 0 on, each with a store of 3,000 bytes
-abbrev pub settingOf : ℕ → ℕ → Setting
-settingOf first id = record { id = id; controlled = true; first = record { 0 = first }; size = record { 0 = 3000 } }
+abbrev pub startOf : ℕ → ℕ → ChannelStart
+startOf first id = record { setting = record { id = id; controlled = true; size = record { 0 = 3000 } }; first = record { 0 = first } }
 
 unfoldable pub configurationOf : ℕ → ℕ → Configuration
 configurationOf channels first =
     record {
       datalink = record { 0 = 7 };
-      settings = map (settingOf first) (0 ∷ 1 ∷ 2 ∷ 3 ∷ 4 ∷ 5 ∷ 6 ∷ 7 ∷ 8 ∷ 9 ∷ 10 ∷ 11 ∷ 12 ∷ 13 ∷ 14 ∷ 15 ∷ []);
+      starts = map (startOf first) (0 ∷ 1 ∷ 2 ∷ 3 ∷ 4 ∷ 5 ∷ 6 ∷ 7 ∷ 8 ∷ 9 ∷ 10 ∷ 11 ∷ 12 ∷ 13 ∷ 14 ∷ 15 ∷ []);
       count = channels;
     }
 
 unfoldable pub begunOf : (channels first : ℕ) (memory out : List ℕ) → Course
 begunOf channels first memory out =
-    let k = configurationOf channels first in
-    record { state = endpoint.begunOf k memory .state; memory = cond (startFits k memory) (replicate (length memory) 0) memory; out = out; time = 0; sum = 0 }
+    let w = startedWorld (configurationOf channels first) memory in
+    record { state = w .state; memory = w .memory; out = out; time = 0; sum = 0 }
 
 -- ---- one call: what it leaves, and its answer mixed into the sum
-abbrev pub leaving : Course → Outcome → (out : List ℕ) (part : ℕ) → Course
-leaving w o out part = record { state = o .state; memory = o .memory; out = out; time = w .time; sum = mixed (w .sum) part }
+abbrev pub worldOf : Course → World
+worldOf w = record { state = w .state; memory = w .memory }
+
+abbrev pub leaving : {A : Type 0} → Course → WorldResult A → (out : List ℕ) (part : ℕ) → Course
+leaving w r out part = record { state = r .world .state; memory = r .world .memory; out = out; time = w .time; sum = mixed (w .sum) part }
 
 unfoldable pub offered : ℕ → List ℕ → ℕ → Course → Course
 offered id packet lasting w =
-    let o = calling (offering (packetFor packet (later (w .time) lasting)) (w .time)) (w .state) (w .memory) id in
-    leaving w o (w .out) (offerPart (offerAnswer (o .answer)))
+    let r = calling id (rules.offer (packetFor packet (later (w .time) lasting)) (w .time)) (worldOf w) in
+    leaving w r (w .out) (offerPart (offerAnswer (r .answer)))
 
 unfoldable pub asked : ℕ → Course → Course
 asked id w =
-    let o = calling (asking (w .state .datalink) (w .time) (length (w .out))) (w .state) (w .memory) id in
-    leaving w o (outAfter (w .state .datalink) id (o .answer) (w .out)) (nextPart (nextAnswer (w .state .datalink) id (o .answer)))
+    let k = termsIn (worldOf w) (indexIn (worldOf w) id) in
+    let r = calling id (rules.next (w .time) (w .out)) (worldOf w) in
+    leaving w r (outputAfter k (r .answer) (w .out)) (nextPart (nextAnswer k (r .answer)))
 
 unfoldable pub withdrawn : ℕ → Course → Course
 withdrawn id w =
-    let o = calling withdrawResult (w .state) (w .memory) id in
-    leaving w o (w .out) (withdrawPart (withdrawAnswer (o .answer)))
+    let r = calling id rules.withdraw (worldOf w) in
+    leaving w r (w .out) (withdrawPart (withdrawAnswer (r .answer)))
 
 unfoldable pub heard : List ℕ → Course → Course
 heard datagram w =
@@ -79,9 +79,7 @@ heard datagram w =
 
 unfoldable pub queried : Course → Course
 queried w =
-    let message = controlWritten (queryOf (w .state)) in
-    let answer = cond (stateFits (w .state)) (answerTo true message (length (w .out))) (WriteAnswer.Refused (record { number = CONFIGURATION; place = 0 })) in
-    record { state = w .state; memory = w .memory; out = cond (stateFits (w .state)) (writer.outAfter true message (w .out)) (w .out); time = w .time; sum = mixed (w .sum) (queryPart answer) }
+    record { state = w .state; memory = w .memory; out = queryOut (w .state) (w .out); time = w .time; sum = mixed (w .sum) (queryPart (queryAnswer (w .state) (w .out))) }
 
 unfoldable pub turnedTo : ℕ → Course → Course
 turnedTo time w = record { state = w .state; memory = w .memory; out = w .out; time = time; sum = w .sum }

@@ -1,11 +1,11 @@
 // An answer of a call as a number.
 ghost use mathlib.Core.Path.{_≡_};
 ghost use Rattle.bench_calls.specs.Parts.{writtenPart, offerPart, nextPart, radioPart, withdrawPart, queryPart};
-use answer::RadioAnswer;
-use answer::WithdrawAnswer;
 use bench_reader::digest;
 use ips_channel_calls::asking::NextAnswer;
 use ips_channel_calls::offering::OfferAnswer;
+use ips_channel_calls::offering::WithdrawAnswer;
+use ips_radio::RadioAnswer;
 use quantity::count::ByteCount;
 use writer::answer::WriteAnswer;
 

@@ -6,6 +6,7 @@ use crate::part;
 use bench_reader::digest;
 use ips_channel::state;
 use ips_channel::state::Channel;
+use ips_channel::state::Setting;
 use ips_channel_calls::asking;
 use ips_channel_calls::offering;
 use meaning::message::Status;
@@ -37,7 +38,12 @@ const WITHDRAW: u8 = 2;
 pub(crate) fn begin(size: ByteCount) -> Single
     ensures { λ r. ⌜ r ≡ begunWith size ⌝ }
 {
-    let fresh = state::fresh(0, false, size, FlowSequence(0));
+    let setting = Setting {
+        id: 0,
+        controlled: false,
+        size,
+    };
+    let fresh = state::fresh(setting, FlowSequence(0));
     let channel = ips_channel::hearing::hear(fresh, Status::Given(STATUS), Window::Absent);
     Single {
         channel,

@@ -3,19 +3,16 @@ ghost use mathlib.Core.Path.{_≡_};
 ghost use mathlib.Core.List.{List};
 ghost use Prim.Native.Nat.{ℕ};
 ghost use lib.ListN.{take, drop};
-ghost use Rattle.bench_calls.specs.Whole.{settingOf, configurationOf, begunOf, heard, offered, asked, withdrawn, queried, turnedTo, courseOf, stepOf, leftAfter};
+ghost use Rattle.bench_calls.specs.Whole.{startOf, configurationOf, begunOf, heard, offered, asked, withdrawn, queried, turnedTo, courseOf, stepOf, leftAfter};
 use crate::part;
 use bench_reader::digest;
-use endpoint::call;
-use endpoint::queries;
-use endpoint::radio;
-use endpoint::start;
-use ips_state::state::Configuration;
-use ips_state::state::Setting;
-use ips_state::state::State;
-use quantity::count::ByteCount;
-use quantity::count::DatalinkId;
-use quantity::count::FlowSequence;
+use endpoint::ByteCount;
+use endpoint::ChannelStart;
+use endpoint::Configuration;
+use endpoint::DatalinkId;
+use endpoint::FlowSequence;
+use endpoint::Setting;
+use endpoint::State;
 
 // What goes from call to call.
 pub struct Whole {
@@ -40,14 +37,17 @@ const RADIO: u8 = 3;
 
 const QUERY: u8 = 4;
 
-fn setting(id: u8, first: u32) -> Setting
-    ensures { λ r. ⌜ r ≡ settingOf first id ⌝ }
+fn channel_start(id: u8, first: u32) -> ChannelStart
+    ensures { λ r. ⌜ r ≡ startOf first id ⌝ }
 {
-    Setting {
+    let setting = Setting {
         id,
         controlled: true,
-        first: FlowSequence(first),
         size: ByteCount(STORE),
+    };
+    ChannelStart {
+        setting,
+        first: FlowSequence(first),
     }
 }
 
@@ -55,27 +55,27 @@ fn setting(id: u8, first: u32) -> Setting
 fn configuration(channels: u8, first: u32) -> Configuration
     ensures { λ r. ⌜ r ≡ configurationOf channels first ⌝ }
 {
-    let settings = [
-        setting(0, first),
-        setting(1, first),
-        setting(2, first),
-        setting(3, first),
-        setting(4, first),
-        setting(5, first),
-        setting(6, first),
-        setting(7, first),
-        setting(8, first),
-        setting(9, first),
-        setting(10, first),
-        setting(11, first),
-        setting(12, first),
-        setting(13, first),
-        setting(14, first),
-        setting(15, first),
+    let starts = [
+        channel_start(0, first),
+        channel_start(1, first),
+        channel_start(2, first),
+        channel_start(3, first),
+        channel_start(4, first),
+        channel_start(5, first),
+        channel_start(6, first),
+        channel_start(7, first),
+        channel_start(8, first),
+        channel_start(9, first),
+        channel_start(10, first),
+        channel_start(11, first),
+        channel_start(12, first),
+        channel_start(13, first),
+        channel_start(14, first),
+        channel_start(15, first),
     ];
     Configuration {
         datalink: DatalinkId(DATALINK),
-        settings,
+        starts,
         count: channels as usize,
     }
 }
@@ -83,7 +83,7 @@ fn configuration(channels: u8, first: u32) -> Configuration
 pub(crate) fn begin(channels: u8, first: u32, memory: &mut [u8]) -> Whole
     ensures { λ r. ⌜ ((out : List ℕ) → courseOf r (now (memory .exit)) out ≡ begunOf channels first (now (memory .entry)) out) ⌝ }
 {
-    let begun = start::start(configuration(channels, first), memory);
+    let begun = endpoint::start(configuration(channels, first), memory);
     let state = begun.state;
     Whole {
         state,
@@ -95,7 +95,7 @@ pub(crate) fn begin(channels: u8, first: u32, memory: &mut [u8]) -> Whole
 fn hear(before: Whole, datagram: &[u8]) -> Whole
     ensures { λ r. ⌜ ((memory out : List ℕ) → courseOf r memory out ≡ heard (now (datagram .entry)) (courseOf before memory out)) ⌝ }
 {
-    let heard = radio::hand_in(before.state, datagram);
+    let heard = endpoint::hand_in(before.state, datagram);
     let answer = heard.answer;
     let sum = digest::mix(before.sum, part::radio(answer));
     let state = heard.state;
@@ -111,7 +111,7 @@ fn offer(before: Whole, memory: &mut [u8], id: u8, packet: &[u8], lasting: u64) 
     ensures { λ r. ⌜ ((out : List ℕ) → courseOf r (now (memory .exit)) out ≡ offered id (now (packet .entry)) lasting (courseOf before (now (memory .entry)) out)) ⌝ }
 {
     let expiry = std::num::wrapping_add_u64(before.time, lasting);
-    let offered = call::offer(before.state, memory, id, packet, expiry, before.time);
+    let offered = endpoint::offer(before.state, memory, id, packet, expiry, before.time);
     let answer = offered.answer;
     let sum = digest::mix(before.sum, part::offer(answer));
     let state = offered.state;
@@ -125,7 +125,7 @@ fn offer(before: Whole, memory: &mut [u8], id: u8, packet: &[u8], lasting: u64) 
 fn next(before: Whole, memory: &mut [u8], id: u8, out: &mut [u8]) -> Whole
     ensures { λ r. ⌜ courseOf r (now (memory .exit)) (now (out .exit)) ≡ asked id (courseOf before (now (memory .entry)) (now (out .entry))) ⌝ }
 {
-    let asked = call::next(before.state, memory, id, before.time, out);
+    let asked = endpoint::next(before.state, memory, id, before.time, out);
     let answer = asked.answer;
     let sum = digest::mix(before.sum, part::next(answer));
     let state = asked.state;
@@ -139,7 +139,7 @@ fn next(before: Whole, memory: &mut [u8], id: u8, out: &mut [u8]) -> Whole
 fn withdraw(before: Whole, memory: &mut [u8], id: u8) -> Whole
     ensures { λ r. ⌜ ((out : List ℕ) → courseOf r (now (memory .exit)) out ≡ withdrawn id (courseOf before (now (memory .entry)) out)) ⌝ }
 {
-    let emptied = call::withdraw(before.state, memory, id);
+    let emptied = endpoint::withdraw(before.state, memory, id);
     let answer = emptied.answer;
     let sum = digest::mix(before.sum, part::withdraw(answer));
     let state = emptied.state;
@@ -154,7 +154,7 @@ fn ask(before: Whole, out: &mut [u8]) -> Whole
     ensures { λ r. ⌜ ((memory : List ℕ) → courseOf r memory (now (out .exit)) ≡ queried (courseOf before memory (now (out .entry)))) ⌝ }
 {
     let mut after = before;
-    after.sum = digest::mix(before.sum, part::query(queries::ask(before.state, out)));
+    after.sum = digest::mix(before.sum, part::query(endpoint::query(before.state, out)));
     after
 }
 

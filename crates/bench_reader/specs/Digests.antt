@@ -3,6 +3,7 @@ use Prim.Native.Nat.{ℕ, _+_, _*_, _/_, _%_, _^_, _-_}
 use mathlib.Core.List.{List, [], _∷_}
 use mathlib.Core.Bool.{Bool, true, false, cond}
 use lib.ListN.{length, getD}
+use Rattle.quantity.specs.declared.refusal.Refusal.{Refusal}
 use Rattle.meaning.specs.declared.message.End.{End}
 use Rattle.meaning.specs.declared.message.Datalink.{Datalink}
 use Rattle.meaning.specs.declared.message.Instance.{Instance}
@@ -15,12 +16,9 @@ use Rattle.meaning.specs.declared.message.Channel.{Channel}
 use Rattle.meaning.specs.declared.message.Expiration.{Expiration}
 use Rattle.meaning.specs.declared.message.Control.{Control}
 use Rattle.meaning.specs.declared.message.Data.{Data}
-use Rattle.quantity.specs.declared.refusal.Refusal.{Refusal}
-use Rattle.read_rules.specs.declared.answer.Verdict.{Verdict}
-use Rattle.read_rules.specs.declared.answer.ControlReading.{ControlReading}
-use Rattle.read_rules.specs.Controls.{statusAbsent, sequenceAbsent, windowAbsent}
+use Rattle.meaning.specs.Cells.{noStatus, noSequence, noWindow}
 use Rattle.reader.specs.declared.answer.PlaneAnswer.{PlaneAnswer}
-use Rattle.reader.specs.declared.answer.DataReading.{DataReading}
+use Rattle.reader.specs.Readings.{Verdict, ControlReading, DataReading}
 
 abbrev pub endOf : Bool → End
 endOf true = End.Radio
@@ -103,9 +101,9 @@ controlSum channel m =
     ∷ instanceLength (m .instance)
     ∷ contextPart (m .context)
     ∷ contextLength (m .context)
-    ∷ statusPart (getD (m .statuses) channel statusAbsent .status)
-    ∷ sequencePart (getD (m .sequences) channel sequenceAbsent .sequence)
-    ∷ windowPart (getD (m .windows) channel windowAbsent .window)
+    ∷ statusPart (getD (m .statuses) channel noStatus .status)
+    ∷ sequencePart (getD (m .sequences) channel noSequence .sequence)
+    ∷ windowPart (getD (m .windows) channel noWindow .window)
     ∷ [])
 
 unfoldable pub dataSum : Data → ℕ

@@ -8,6 +8,7 @@ use borrow.Author.Tests.{lt-ltb, le-ltb, ltb-false}
 use lib.Dec.{ltb, leb→le}
 use lib.IntN.{ℤ, pos, negsuc, natAbs}
 use lib.ListN.{length, drop, length-append}
+use Rattle.facts.proofs.Tests.{clash}
 use Rattle.quantity.specs.declared.count.FlowSequence.{FlowSequence}
 use Rattle.quantity.specs.declared.count.FlowWindow.{FlowWindow}
 use Rattle.quantity.specs.Distance.{IsDistance, distanceOf}
@@ -17,7 +18,7 @@ use Rattle.text.specs.declared.Number.the-variants as number
 use Rattle.text.specs.Laying.{signedText, Lays, Wrote}
 use Rattle.text.specs.Numbers.{parseOf}
 use Rattle.text.specs.Words.{headOf, tailOf, wordOf, beyondOf}
-use Rattle.text.proofs.Bounds.{clash, parse-short}
+use Rattle.text.proofs.Bounds.{parse-short}
 use Rattle.text.proofs.Decimals.{decimal-most}
 use Rattle.text.proofs.Signs.{signed-most}
 use Rattle.text.proofs.Spaces.{parts-length}

@@ -6,21 +6,22 @@ use mathlib.Core.List.{List, [], _∷_}
 use mathlib.Core.Logic.{_↔_}
 use mathlib.Core.Path.{_≡_, refl, ap, _∙_}
 use lib.ListN.{length}
+use Rattle.facts.proofs.Tests.{clash}
 use Rattle.quantity.specs.declared.count.DatalinkId.{DatalinkId}
 use Rattle.quantity.specs.Limits.{MOST-CHANNELS}
 use Rattle.meaning.specs.declared.message.Context.{Context}
 use Rattle.meaning.specs.declared.message.Control.{Control}
-use Rattle.meaning.proofs.Amongst.{clash}
 use Rattle.ips_state.specs.declared.state.Configuration.{Configuration}
 use Rattle.ips_state.specs.declared.state.State.{State}
 use Rattle.ips_state.specs.Limits.{stateFits, configurationFits}
-use Rattle.ips_run.specs.Run.{Call, acceptedIn}
+use Rattle.ips_run.specs.Run.{Call, radio, acceptedIn, acceptedBy, acceptedAll, freshWorld}
 use Rattle.ips_run.specs.Demand.{BytesIn, reached}
-use Rattle.ips_run.specs.Kept.{acceptedAll, lastContext, Comes}
+use Rattle.ips_run.specs.Kept.{lastContext, Comes}
+use Rattle.ips_run.proofs.Exact.{accepted-fits}
 use Rattle.ips_run.proofs.Whole.{reached-fits}
 use Rattle.ips_run.proofs.Kept.{whole-context, due-when}
-use Rattle.answer.specs.declared.RadioAnswer.{RadioAnswer}
-use Rattle.endpoint.specs.declared.radio.Heard.{Heard}
+use Rattle.ips_radio.specs.declared.RadioAnswer.{RadioAnswer}
+use Rattle.endpoint.specs.declared.radio.AfterRadio.{AfterRadio}
 use Rattle.endpoint.specs.Radio.{handedIn}
 use Rattle.endpoint.proofs.Exactly.{Handed, outside, unread, heard, passed, handed, radio-heard}
 
@@ -30,7 +31,7 @@ due-true true e = refl
 due-true false e = clash (cc)
 
 module _ (s : State) (datagram : List ℕ) where
-  brought : {h : Heard} → Handed s datagram h → h .answer ≡ RadioAnswer.Due → (m : Control) × (acceptedIn (s .datalink) datagram ≡ m ∷ []) × Comes (s .context) (m .context)
+  brought : {h : AfterRadio} → Handed s datagram h → h .answer ≡ RadioAnswer.Due → (m : Control) × (acceptedIn (s .datalink) datagram ≡ m ∷ []) × Comes (s .context) (m .context)
   brought (outside f) e = clash (cc)
   brought (unread refusal f w) e = clash (cc)
   brought (heard m f a) e = (m, a, due-when (s .context) (m .context) .0 (due-true _ e))
@@ -41,12 +42,13 @@ module _ (s : State) (datagram : List ℕ) where
       → (handedIn s datagram .answer ≡ RadioAnswer.Due) ↔ ((m : Control) × (acceptedIn datalink datagram ≡ m ∷ []) × Comes last (m .context))
   due-by-state fits datalink own last kept =
       rw (← own, ← kept)
-      (brought (handed s datagram), λ h. ap (λ (r : Heard). r .answer) (radio-heard s datagram fits (h .0) (h .1)) ∙ rw (due-when (s .context) (h .0 .context) .1 (h .2)))
+      (brought (handed s datagram), λ h. ap (λ (r : AfterRadio). r .answer) (radio-heard s datagram fits (h .0) (h .1)) ∙ rw (due-when (s .context) (h .0 .context) .1 (h .2)))
 
-module _ (k : Configuration) (full : length (k .settings) ≡ MOST-CHANNELS) (fits : configurationFits k ≡ true) (cs : List Call) (bytes : BytesIn cs) where
+module _ (k : Configuration) (full : length (k .starts) ≡ MOST-CHANNELS) (fits : configurationFits k ≡ true) (cs : List Call) (bytes : BytesIn cs) where
   -- by the messages accepted before
   pub due-exactly : (datagram : List ℕ) → (handedIn (reached k cs .state) datagram .answer ≡ RadioAnswer.Due)
-      ↔ ((m : Control) × (acceptedIn (k .datalink) datagram ≡ m ∷ []) × Comes (lastContext (acceptedAll (k .datalink) cs)) (m .context))
+      ↔ ((m : Control) × (acceptedBy (radio datagram) (reached k cs) ≡ m ∷ []) × Comes (lastContext (acceptedAll cs (freshWorld k))) (m .context))
   due-exactly datagram =
-      let there = reached-fits k full fits cs bytes in
-      due-by-state (reached k cs .state) datagram (there .order .state-fits) (k .datalink) (there .datalink) (lastContext (acceptedAll (k .datalink) cs)) (whole-context k full fits cs bytes)
+      let fit = reached-fits k full fits cs bytes .order .state-fits in
+      rw (accepted-fits (reached k cs) datagram fit)
+      (due-by-state (reached k cs .state) datagram fit (reached k cs .state .datalink) refl (lastContext (acceptedAll cs (freshWorld k))) (whole-context k cs))

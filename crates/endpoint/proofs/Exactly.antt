@@ -1,4 +1,4 @@
--- "Given exactly when": the refusals of a radio message handed in, of a query and of a start; those of the calls on a channel are in run's Exact.
+-- "Given exactly when": the refusals of a radio message handed in, of a query and of a start; those of the calls on a channel are in ips_run's Exact.
 -- Assumes nothing.
 use Prim.Native.Nat.{ℕ, _<_, _≤_}
 use mathlib.Core.Bool.{Bool, true, false, cond, and-false}
@@ -8,41 +8,39 @@ use mathlib.Core.Path.{_≡_, refl, sym, ap, _∙_}
 use native.Mathlib.Omega.{arith}
 use borrow.Author.Tests.{eqb-false, eq-eqb, ne-eqb, ltb-true, ltb-false, lt-ltb, le-ltb}
 use lib.Dec.{ltb}
-use lib.ListN.{length, take, replicate}
+use lib.ListN.{length, replicate}
+use Rattle.facts.proofs.Tests.{clash}
 use Rattle.quantity.specs.declared.count.DatalinkId.{DatalinkId}
 use Rattle.quantity.specs.declared.refusal.Refusal.{Refusal}
 use Rattle.quantity.specs.Limits.{LONGEST-DATAGRAM}
-use Rattle.quantity.specs.Refusals.{NO-ROOM, CONFIGURATION}
+use Rattle.quantity.specs.Refusals.{NO-ROOM, OUTSIDE-LIMITS}
 use Rattle.wire.specs.Options.{over}
 use Rattle.meaning.specs.declared.message.End.the-variants as ends
 use Rattle.meaning.specs.declared.message.Control.{Control}
-use Rattle.meaning.proofs.Amongst.{clash}
-use Rattle.read_rules.specs.declared.answer.Verdict.{Verdict}
-use Rattle.read_rules.specs.declared.answer.ControlReading.{ControlReading}
-use Rattle.reader.specs.declared.answer.DataReading.{DataReading}
+use Rattle.reader.specs.Readings.{Verdict, ControlReading, DataReading, readControl, readData, planeOf}
 use Rattle.reader.specs.declared.answer.PlaneAnswer.{PlaneAnswer}
-use Rattle.reader.specs.Readings.{readControl, readData, planeOf}
 use Rattle.acceptance.specs.Numbers.{OfReading}
 use Rattle.acceptance.proofs.Verdicts.{control-numbers, data-numbers, plane-numbers, control-own, data-own}
 use Rattle.writer.specs.declared.answer.WriteAnswer.{WriteAnswer}
-use Rattle.writer.specs.Written.{controlWritten}
 use Rattle.roundtrip.specs.Answers.{refusedBy}
 use Rattle.ips_state.specs.declared.state.Configuration.{Configuration}
 use Rattle.ips_state.specs.declared.state.State.{State}
 use Rattle.ips_state.specs.Table.{freshState}
 use Rattle.ips_state.specs.Limits.{stateFits, configurationFits}
 use Rattle.ips_radio.specs.Heard.{dueOf}
-use Rattle.ips_query.specs.Query.{queryOf}
 use Rattle.ips_query.proofs.Queries.{query-short}
-use Rattle.ips_run.specs.Run.{acceptedIn}
+use Rattle.ips_run.specs.Run.{query, acceptedIn}
 use Rattle.ips_run.proofs.Exact.{heard-when}
-use Rattle.answer.specs.declared.RadioAnswer.{RadioAnswer}
-use Rattle.answer.specs.declared.StartAnswer.{StartAnswer}
-use Rattle.endpoint.specs.declared.radio.Heard.{Heard}
-use Rattle.endpoint.specs.declared.start.Begun.{Begun}
-use Rattle.endpoint.specs.Calls.{settingSizes, startFits, Starts}
+use Rattle.ips_radio.specs.declared.RadioAnswer.{RadioAnswer}
+use Rattle.ips_state.specs.declared.state.StartAnswer.{StartAnswer}
+use Rattle.endpoint.specs.declared.radio.AfterRadio.{AfterRadio}
+use Rattle.ips_state.specs.Memory.{World}
 use Rattle.endpoint.specs.Radio.{refusedHeard, unchanged, heardControl, byVerdict, controlHeard, dataHeard, byPlane, handedIn, ReadingRefuses, by-header, by-control, by-data}
-use Rattle.endpoint.specs.Query.{Queries}
+use Rattle.endpoint.specs.Query.{queryBytes, queryAnswer}
+use Rattle.endpoint.specs.Replies.{ofQuery}
+use Rattle.endpoint.specs.Calls.{lending, Performed}
+use Rattle.endpoint.specs.Start.{storesOf, startFits, Started}
+use Rattle.endpoint.proofs.Querying.{query-gives}
 use Rattle.endpoint.proofs.Refused.{not-refused}
 
 -- ---- a radio message handed in: 19, then "as for reading"
@@ -70,8 +68,8 @@ module _ (s : State) (datagram : List ℕ) where
   data-read = readData ends.Radio (s .datalink) datagram
 
   -- given an outcome, the conditions
-  pub data Handed : Heard → Type 0 where
-    outside : stateFits s ≡ false → Handed (refusedHeard (record { number = CONFIGURATION; place = 0 }) s)
+  pub data Handed : AfterRadio → Type 0 where
+    outside : stateFits s ≡ false → Handed (refusedHeard (record { number = OUTSIDE-LIMITS; place = 0 }) s)
     unread : (refusal : Refusal) → stateFits s ≡ true → ReadingRefuses (s .datalink) datagram refusal → Handed (refusedHeard refusal s)
     heard : (m : Control) → stateFits s ≡ true → acceptedIn (s .datalink) datagram ≡ m ∷ [] → Handed (heardControl m s)
     passed : stateFits s ≡ true → planeOf datagram ≡ PlaneAnswer.Data → readData ends.Radio (s .datalink) datagram .verdict ≡ Verdict.Accepted → Handed (unchanged s)
@@ -91,26 +89,26 @@ module _ (s : State) (datagram : List ℕ) where
       carrying f p (Verdict.Refused refusal) e = unread refusal f (by-data p e)
 
       go : (fits : Bool) → stateFits s ≡ fits → (plane : PlaneAnswer) → planeOf datagram ≡ plane
-          → Handed (cond fits (byPlane plane s (controlHeard control-read s) (dataHeard data-read s)) (refusedHeard (record { number = CONFIGURATION; place = 0 }) s))
+          → Handed (cond fits (byPlane plane s (controlHeard control-read s) (dataHeard data-read s)) (refusedHeard (record { number = OUTSIDE-LIMITS; place = 0 }) s))
       go false f plane p = outside f
       go true f PlaneAnswer.Control p = control f p (control-read .verdict) refl
       go true f PlaneAnswer.Data p = carrying f p (data-read .verdict) refl
       go true f (PlaneAnswer.Refused refusal) p = unread refusal f (by-header p)
 
   -- "a state outside these limits": 19, before any reading; the state is the one handed in
-  pub radio-outside : stateFits s ≡ false → handedIn s datagram ≡ refusedHeard (record { number = CONFIGURATION; place = 0 }) s
+  pub radio-unfit : stateFits s ≡ false → handedIn s datagram ≡ refusedHeard (record { number = OUTSIDE-LIMITS; place = 0 }) s
   unfolding handedIn
-  radio-outside e = rw e
+  radio-unfit e = rw e
 
-  outside-only : {h : Heard} → Handed h → (refusal : Refusal) → h .answer ≡ RadioAnswer.Refused refusal → refusal .number ≡ CONFIGURATION → stateFits s ≡ false
+  outside-only : {h : AfterRadio} → Handed h → (refusal : Refusal) → h .answer ≡ RadioAnswer.Refused refusal → refusal .number ≡ OUTSIDE-LIMITS → stateFits s ≡ false
   outside-only (outside f) refusal e n = f
   outside-only (unread why f w) refusal e n = let same : why ≡ refusal = cc in absurd (omega (arith, reading-numbers (s .datalink) datagram refusal (rw same at w)))
   outside-only (heard m f a) refusal e n = absurd (not-refused s (dueOf (s .context) (m .context)) refusal e)
   outside-only (passed f p v) refusal e n = clash (cc)
 
   -- a reader gives 1 to 11, so 19 is the state's alone
-  pub radio-nineteen : ((refusal : Refusal) × (handedIn s datagram .answer ≡ RadioAnswer.Refused refusal) × (refusal .number ≡ CONFIGURATION)) ↔ (stateFits s ≡ false)
-  radio-nineteen = (λ h. outside-only handed (h .0) (h .1) (h .2), λ e. (_, ap (λ (r : Heard). r .answer) (radio-outside e), refl))
+  pub radio-nineteen : ((refusal : Refusal) × (handedIn s datagram .answer ≡ RadioAnswer.Refused refusal) × (refusal .number ≡ OUTSIDE-LIMITS)) ↔ (stateFits s ≡ false)
+  radio-nineteen = (λ h. outside-only handed (h .0) (h .1) (h .2), λ e. (_, ap (λ (r : AfterRadio). r .answer) (radio-unfit e), refl))
 
   module _ (fits : stateFits s ≡ true) where
     -- the state then is the one handed in
@@ -120,7 +118,7 @@ module _ (s : State) (datagram : List ℕ) where
     radio-refused refusal (by-control p v) = rw (fits, p, v)
     radio-refused refusal (by-data p v) = rw (fits, p, v)
 
-    unread-only : {h : Heard} → Handed h → (refusal : Refusal) → h .answer ≡ RadioAnswer.Refused refusal → ReadingRefuses (s .datalink) datagram refusal
+    unread-only : {h : AfterRadio} → Handed h → (refusal : Refusal) → h .answer ≡ RadioAnswer.Refused refusal → ReadingRefuses (s .datalink) datagram refusal
     unread-only (outside f) refusal e = clash (sym f ∙ fits)
     unread-only (unread why f w) refusal e = let same : why ≡ refusal = cc in rw same at w
     unread-only (heard m f a) refusal e = absurd (not-refused s (dueOf (s .context) (m .context)) refusal e)
@@ -128,9 +126,9 @@ module _ (s : State) (datagram : List ℕ) where
 
     -- "A radio message handed in: as for reading": refused by that number and at that place
     pub radio-as-reading : (refusal : Refusal) → (handedIn s datagram .answer ≡ RadioAnswer.Refused refusal) ↔ ReadingRefuses (s .datalink) datagram refusal
-    radio-as-reading refusal = (unread-only handed refusal, λ w. ap (λ (r : Heard). r .answer) (radio-refused refusal w))
+    radio-as-reading refusal = (unread-only handed refusal, λ w. ap (λ (r : AfterRadio). r .answer) (radio-refused refusal w))
 
-    heard-only : {h : Heard} → Handed h → (m : Control) → acceptedIn (s .datalink) datagram ≡ m ∷ [] → h ≡ heardControl m s
+    heard-only : {h : AfterRadio} → Handed h → (m : Control) → acceptedIn (s .datalink) datagram ≡ m ∷ [] → h ≡ heardControl m s
     heard-only (outside f) m a = clash (sym f ∙ fits)
     heard-only (unread refusal f w) m a = clash (cc (unheard (s .datalink) datagram refusal w))
     heard-only (heard n f b) m a = let same : n ≡ m = cc in rw same
@@ -146,10 +144,6 @@ module _ (s : State) (datagram : List ℕ) where
     radio-passed p v = rw (fits, p, v)
 
 -- ---- a query: "Refusals 19, then 18", and no other
--- the message, which is never longer than a datagram may be
-abbrev pub queryBytes : State → List ℕ
-queryBytes s = controlWritten (queryOf s)
-
 one-number : {number other : ℕ} → refusedBy number ≡ refusedBy other → number ≡ other
 one-number {number} {other} e =
     let same : _≡_ {A = Refusal} (record { number = number; place = 0 }) (record { number = other; place = 0 }) = cc in
@@ -158,58 +152,58 @@ one-number {number} {other} e =
 module _ (s : State) (out : List ℕ) where
   -- given an answer, the conditions
   pub data Answered : WriteAnswer → Type 0 where
-    unfitting : stateFits s ≡ false → Answered (refusedBy CONFIGURATION)
+    unfitting : stateFits s ≡ false → Answered (refusedBy OUTSIDE-LIMITS)
     no-room : stateFits s ≡ true → length out < length (queryBytes s) → Answered (refusedBy NO-ROOM)
     written : stateFits s ≡ true → length (queryBytes s) ≤ length out → Answered (WriteAnswer.Wrote (record { 0 = length (queryBytes s) }))
 
-  nineteen : {r : WriteAnswer} → Answered r → r ≡ refusedBy CONFIGURATION → stateFits s ≡ false
+  nineteen : {r : WriteAnswer} → Answered r → r ≡ refusedBy OUTSIDE-LIMITS → stateFits s ≡ false
   nineteen (unfitting f) e = f
-  nineteen (no-room f l) e = let z : NO-ROOM ≡ CONFIGURATION = one-number e in absurd (omega arith)
+  nineteen (no-room f l) e = let z : NO-ROOM ≡ OUTSIDE-LIMITS = one-number e in absurd (omega arith)
   nineteen (written f l) e = clash (cc)
 
   eighteen : {r : WriteAnswer} → Answered r → r ≡ refusedBy NO-ROOM → (stateFits s ≡ true) × (length out < length (queryBytes s))
-  eighteen (unfitting f) e = let z : CONFIGURATION ≡ NO-ROOM = one-number e in absurd (omega arith)
+  eighteen (unfitting f) e = let z : OUTSIDE-LIMITS ≡ NO-ROOM = one-number e in absurd (omega arith)
   eighteen (no-room f l) e = (f, l)
   eighteen (written f l) e = clash (cc)
 
-  either : {r : WriteAnswer} → Answered r → (refusal : Refusal) → r ≡ WriteAnswer.Refused refusal → (r ≡ refusedBy CONFIGURATION) ⊎ (r ≡ refusedBy NO-ROOM)
+  either : {r : WriteAnswer} → Answered r → (refusal : Refusal) → r ≡ WriteAnswer.Refused refusal → (r ≡ refusedBy OUTSIDE-LIMITS) ⊎ (r ≡ refusedBy NO-ROOM)
   either (unfitting f) refusal e = inl refl
   either (no-room f l) refusal e = inr refl
   either (written f l) refusal e = clash (cc)
 
-  module _ {r : WriteAnswer} {out′ : List ℕ} (h : Queries s out r out′) where
+  module _ {memory : List ℕ} {r : WriteAnswer} {out′ : List ℕ} {w′ : World} (h : Performed (query out) (lending s memory) (ofQuery r out′) w′) where
+    answer-is : r ≡ queryAnswer s out
+    answer-is = query-gives h .0
+
     pub query-answered : Answered r
     query-answered = go (stateFits s) refl (ltb (length out) (length (queryBytes s))) refl
       where
         go : (fits : Bool) → stateFits s ≡ fits → (short : Bool) → ltb (length out) (length (queryBytes s)) ≡ short → Answered r
-        go false f short l = let is : r ≡ refusedBy CONFIGURATION = h .answer-is ∙ rw f in rw is (unfitting f)
-        go true f true l = let is : r ≡ refusedBy NO-ROOM = h .answer-is ∙ rw (f, l) in rw is (no-room f (ltb-true _ _ l))
+        go false f short l = let is : r ≡ refusedBy OUTSIDE-LIMITS = answer-is ∙ rw f in rw is (unfitting f)
+        go true f true l = let is : r ≡ refusedBy NO-ROOM = answer-is ∙ rw (f, l) in rw is (no-room f (ltb-true _ _ l))
         go true f false l =
-            let is : r ≡ WriteAnswer.Wrote (record { 0 = length (queryBytes s) }) = h .answer-is ∙ rw (f, l, le-ltb LONGEST-DATAGRAM (length (queryBytes s)) (query-short s)) in
+            let is : r ≡ WriteAnswer.Wrote (record { 0 = length (queryBytes s) }) = answer-is ∙ rw (f, l, le-ltb LONGEST-DATAGRAM (length (queryBytes s)) (query-short s)) in
             rw is (written f (ltb-false _ _ l))
 
-    pub query-nineteen : (r ≡ refusedBy CONFIGURATION) ↔ (stateFits s ≡ false)
-    query-nineteen = (nineteen query-answered, λ f. h .answer-is ∙ rw f)
+    pub query-nineteen : (r ≡ refusedBy OUTSIDE-LIMITS) ↔ (stateFits s ≡ false)
+    query-nineteen = (nineteen query-answered, λ f. answer-is ∙ rw f)
 
     pub query-eighteen : (r ≡ refusedBy NO-ROOM) ↔ ((stateFits s ≡ true) × (length out < length (queryBytes s)))
-    query-eighteen = (eighteen query-answered, λ w. h .answer-is ∙ rw (w .0, lt-ltb (length out) (length (queryBytes s)) (w .1)))
+    query-eighteen = (eighteen query-answered, λ w. answer-is ∙ rw (w .0, lt-ltb (length out) (length (queryBytes s)) (w .1)))
 
     -- else it is written, over the first bytes of the output
-    pub query-else : stateFits s ≡ true → length (queryBytes s) ≤ length out → (r ≡ WriteAnswer.Wrote (record { 0 = length (queryBytes s) })) × (out′ ≡ over (queryBytes s) out)
+    pub query-else : stateFits s ≡ true → length (queryBytes s) ≤ length out
+        → (r ≡ WriteAnswer.Wrote (record { 0 = length (queryBytes s) })) × (out′ ≡ over (queryBytes s) out)
     query-else f l =
         let long = le-ltb (length out) (length (queryBytes s)) l in
         let short = le-ltb LONGEST-DATAGRAM (length (queryBytes s)) (query-short s) in
-        (h .answer-is ∙ rw (f, long, short), h .out-is ∙ rw (f, long, short))
+        (answer-is ∙ rw (f, long, short), query-gives h .1 ∙ rw (f, long, short))
 
     -- never by 20
-    pub query-only : (refusal : Refusal) → r ≡ WriteAnswer.Refused refusal → (r ≡ refusedBy CONFIGURATION) ⊎ (r ≡ refusedBy NO-ROOM)
+    pub query-only : (refusal : Refusal) → r ≡ WriteAnswer.Refused refusal → (r ≡ refusedBy OUTSIDE-LIMITS) ⊎ (r ≡ refusedBy NO-ROOM)
     query-only = either query-answered
 
 -- ---- a start: 19 alone
--- "the sum of the stores"
-abbrev pub storesOf : Configuration → ℕ
-storesOf k = settingSizes (take (k .count) (k .settings))
-
 module _ (k : Configuration) (memory : List ℕ) where
   unfit : startFits k memory ≡ false → (configurationFits k ≡ false) ⊎ (length memory ≡ storesOf k → ⊥)
   unfolding startFits
@@ -224,21 +218,21 @@ module _ (k : Configuration) (memory : List ℕ) where
   unfit-start (inl f) = rw f
   unfit-start (inr other) = rw (ne-eqb (length memory) (storesOf k) other, and-false)
 
-  module _ {r : Begun} {memory′ : List ℕ} (h : Starts k memory r memory′) where
+  module _ {answer : StartAnswer} {w : World} (h : Started k memory answer w) where
     -- refused, and by 19, exactly when the configuration is outside the limits or the memory's length "isn't the sum of the stores"
-    pub start-nineteen : (refusal : Refusal) → (r .answer ≡ StartAnswer.Refused refusal)
-        ↔ ((refusal ≡ record { number = CONFIGURATION; place = 0 }) × ((configurationFits k ≡ false) ⊎ (length memory ≡ storesOf k → ⊥)))
-    start-nineteen refusal = (go (startFits k memory) refl, λ w. ap (λ (b : Begun). b .answer) (h .begins) ∙ rw (unfit-start (w .1), w .0))
+    pub start-nineteen : (refusal : Refusal) → (answer ≡ StartAnswer.Refused refusal)
+        ↔ ((refusal ≡ record { number = OUTSIDE-LIMITS; place = 0 }) × ((configurationFits k ≡ false) ⊎ (length memory ≡ storesOf k → ⊥)))
+    start-nineteen refusal = (go (startFits k memory) refl, λ v. h .answer-is ∙ rw (unfit-start (v .1), v .0))
       where
-        go : (fits : Bool) → startFits k memory ≡ fits → r .answer ≡ StartAnswer.Refused refusal
-            → (refusal ≡ record { number = CONFIGURATION; place = 0 }) × ((configurationFits k ≡ false) ⊎ (length memory ≡ storesOf k → ⊥))
+        go : (fits : Bool) → startFits k memory ≡ fits → answer ≡ StartAnswer.Refused refusal
+            → (refusal ≡ record { number = OUTSIDE-LIMITS; place = 0 }) × ((configurationFits k ≡ false) ⊎ (length memory ≡ storesOf k → ⊥))
         go false f e =
-            let is : r .answer ≡ StartAnswer.Refused (record { number = CONFIGURATION; place = 0 }) = ap (λ (b : Begun). b .answer) (rw f at (h .begins)) in
+            let is : answer ≡ StartAnswer.Refused (record { number = OUTSIDE-LIMITS; place = 0 }) = rw f at (h .answer-is) in
             (cc, unfit f)
-        go true f e = let started : r .answer ≡ StartAnswer.Started = ap (λ (b : Begun). b .answer) (rw f at (h .begins)) in clash (cc)
+        go true f e = let started : answer ≡ StartAnswer.Started = rw f at (h .answer-is) in clash (cc)
 
     -- else started: "A fresh start fills each store with zeros."
     pub start-else : configurationFits k ≡ true → length memory ≡ storesOf k
-        → (r ≡ record { answer = StartAnswer.Started; state = freshState k }) × (memory′ ≡ replicate (length memory) 0)
+        → (answer ≡ StartAnswer.Started) × (w ≡ record { state = freshState k; memory = replicate (length memory) 0 })
     unfolding startFits
-    start-else f long = (h .begins ∙ rw (f, eq-eqb (length memory) (storesOf k) long), h .memory-is ∙ rw (f, eq-eqb (length memory) (storesOf k) long))
+    start-else f long = (h .answer-is ∙ rw (f, eq-eqb (length memory) (storesOf k) long), h .world-is ∙ rw (f, eq-eqb (length memory) (storesOf k) long))

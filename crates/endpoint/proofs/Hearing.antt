@@ -4,20 +4,18 @@ use mathlib.Core.Bool.{true, false}
 use mathlib.Core.List.{List}
 use mathlib.Core.Path.{_≡_, sym, _∙_}
 use Rattle.quantity.specs.declared.refusal.Refusal.{Refusal}
-use Rattle.quantity.specs.Refusals.{CONFIGURATION}
+use Rattle.quantity.specs.Refusals.{OUTSIDE-LIMITS}
 use Rattle.meaning.specs.declared.message.End.the-variants as ends
 use Rattle.meaning.specs.declared.message.Control.{Control}
-use Rattle.read_rules.specs.declared.answer.ControlReading.{ControlReading}
-use Rattle.reader.specs.declared.answer.DataReading.{DataReading}
+use Rattle.reader.specs.Readings.{ControlReading, DataReading, readControl, readData, planeOf}
 use Rattle.reader.specs.declared.answer.PlaneAnswer.{PlaneAnswer}
-use Rattle.reader.specs.Readings.{readControl, readData, planeOf}
 use Rattle.ips_state.specs.declared.state.State.{State}
 use Rattle.ips_state.specs.Limits.{stateFits}
-use Rattle.endpoint.specs.declared.radio.Heard.{Heard}
+use Rattle.endpoint.specs.declared.radio.AfterRadio.{AfterRadio}
 use Rattle.endpoint.specs.Radio.{refusedHeard, controlHeard, dataHeard, handedIn}
 
-module _ (s : State) (datagram : List ℕ) (h : Heard) where
-  pub handed-unfit : stateFits s ≡ false → h ≡ refusedHeard (record { number = CONFIGURATION; place = 0 }) s → h ≡ handedIn s datagram
+module _ (s : State) (datagram : List ℕ) (h : AfterRadio) where
+  pub handed-unfit : stateFits s ≡ false → h ≡ refusedHeard (record { number = OUTSIDE-LIMITS; place = 0 }) s → h ≡ handedIn s datagram
   unfolding handedIn
   handed-unfit e is = rw e is
 

@@ -1,35 +1,30 @@
 -- Any calls of the code's own functions, one after the other, each with whatever outcome its contract allows, are a run of the rules: the world and every reply.
 -- Assumes nothing.
 use Prim.Native.Nat.{ℕ}
-use mathlib.Core.Bool.{Bool, true, false, cond}
-use mathlib.Core.List.{List, _∷_}
-use mathlib.Core.Path.{_≡_, refl, ap, ap₂, _∙_}
+use mathlib.Core.Bool.{Bool, true, false, and-eq-true-iff}
+use mathlib.Core.List.{List, [], _∷_}
+use mathlib.Core.Path.{_≡_, refl, sym, ap, ap₂, _∙_}
 use borrow.Author.Tests.{eqb-true}
-use lib.ListN.{length, take}
+use lib.ListN.{length}
 use Rattle.quantity.specs.Limits.{MOST-CHANNELS}
 use Rattle.meaning.specs.declared.message.End.the-variants as ends
-use Rattle.read_rules.specs.declared.answer.Verdict.{Verdict}
-use Rattle.read_rules.specs.declared.answer.ControlReading.{ControlReading}
+use Rattle.reader.specs.Readings.{Verdict, ControlReading, readControl, planeOf}
 use Rattle.reader.specs.declared.answer.PlaneAnswer.{PlaneAnswer}
-use Rattle.reader.specs.Readings.{readControl, planeOf}
-use Rattle.writer.specs.declared.answer.WriteAnswer.{WriteAnswer}
-use Rattle.store.specs.Packets.{Packet}
 use Rattle.ips_state.specs.declared.state.Configuration.{Configuration}
 use Rattle.ips_state.specs.declared.state.State.{State}
 use Rattle.ips_state.specs.Table.{configured, freshState}
 use Rattle.ips_state.specs.Limits.{sizes, stateFits, configurationFits}
-use Rattle.ips_state.proofs.Channels.{both}
 use Rattle.ips_state.proofs.Places.{fit, fresh-fits, fresh-configured}
-use Rattle.ips_run.specs.Run.{Call, offer, next, withdraw, radio, query, World, ifAccepted, acceptedIn, hearEach, after, afterAll, freshWorld}
-use Rattle.endpoint.specs.declared.call.Offered.{Offered}
-use Rattle.endpoint.specs.declared.call.Asked.{Asked}
-use Rattle.endpoint.specs.declared.call.Emptied.{Emptied}
-use Rattle.endpoint.specs.declared.radio.Heard.{Heard}
-use Rattle.endpoint.specs.declared.start.Begun.{Begun}
-use Rattle.endpoint.specs.Calls.{Offers, Asks, Withdraws, Starts, startFits, settingSizes}
+use Rattle.ips_state.specs.Memory.{World}
+use Rattle.ips_radio.specs.declared.RadioAnswer.{RadioAnswer}
+use Rattle.ips_run.specs.Run.{Call, radio, ifAccepted, acceptedIn, acceptedBy, hearEach, after, afterAll, freshWorld}
+use Rattle.ips_state.specs.declared.state.StartAnswer.{StartAnswer}
+use Rattle.endpoint.specs.declared.radio.AfterRadio.{AfterRadio}
 use Rattle.endpoint.specs.Radio.{handedIn, controlHeard}
-use Rattle.endpoint.specs.Query.{Queries}
-use Rattle.endpoint.specs.Ran.{Reply, offered, asked, emptied, heard, queried, lending, Ran, over, ran-offer, ran-next, ran-withdraw, ran-radio, ran-query, replyTo, repliesOf}
+use Rattle.endpoint.specs.Replies.{EndpointReply, ofRadio}
+use Rattle.endpoint.specs.Calls.{lending, Performed, PerformedWithAny}
+use Rattle.endpoint.specs.Start.{storesOf, startFits, Started}
+use Rattle.endpoint.specs.Ran.{Ran, over, ran, repliesOf}
 use Rattle.endpoint.proofs.Refused.{radio-data-same}
 
 -- ---- a radio message handed in leaves what the run has: its message heard, if it is accepted
@@ -41,89 +36,56 @@ control-hears reading s = go (reading .verdict) refl
     go Verdict.OtherPlane e = rw e
     go (Verdict.Refused refusal) e = rw e
 
-handed-state : (s : State) (datagram : List ℕ) → handedIn s datagram .state ≡ cond (stateFits s) (hearEach (acceptedIn (s .datalink) datagram) s) s
-unfolding handedIn acceptedIn
-handed-state s datagram = go (stateFits s) refl (planeOf datagram) refl
+handed-state : (w : World) (datagram : List ℕ) → handedIn (w .state) datagram .state ≡ hearEach (acceptedBy (radio datagram) w) (w .state)
+unfolding handedIn acceptedIn acceptedBy
+handed-state w datagram = go (stateFits (w .state)) refl (planeOf datagram) refl
   where
-    go : (fits : Bool) → stateFits s ≡ fits → (plane : PlaneAnswer) → planeOf datagram ≡ plane
-        → handedIn s datagram .state ≡ cond (stateFits s) (hearEach (acceptedIn (s .datalink) datagram) s) s
+    go : (fits : Bool) → stateFits (w .state) ≡ fits → (plane : PlaneAnswer) → planeOf datagram ≡ plane
+        → handedIn (w .state) datagram .state ≡ hearEach (acceptedBy (radio datagram) w) (w .state)
     go false f plane p = rw f
-    go true f PlaneAnswer.Control p = rw (f, p) (control-hears (readControl ends.Radio (s .datalink) datagram) s)
-    go true f PlaneAnswer.Data p = radio-data-same s datagram p ∙ rw (f, p)
+    go true f PlaneAnswer.Control p = rw (f, p) (control-hears (readControl ends.Radio (w .state .datalink) datagram) (w .state))
+    go true f PlaneAnswer.Data p = radio-data-same (w .state) datagram p ∙ rw (f, p)
     go true f (PlaneAnswer.Refused refusal) p = rw (f, p)
 
--- ---- one call: its reply and the world it leaves are those of the definitions
-record Does (c : Call) (w : World) (x : Reply) (w′ : World) : Type 0 where
-  reply-is : x ≡ replyTo c w
-  world-is : w′ ≡ after c w
-
-module _ (w : World) where
-  offer-does : (id : ℕ) (p : Packet) (time : ℕ) (r : Offered) (memory′ : List ℕ) → Offers (w .state) (w .memory) id p time r memory′
-      → Does (offer id p time) w (offered (r .answer)) (lending (r .state) memory′)
-  unfolding after
-  offer-does id p time r memory′ h = record { reply-is = ap offered (h .answer-is); world-is = ap₂ lending (h .state-is) (h .memory-is) }
-
-  next-does : (id time : ℕ) (out : List ℕ) (r : Asked) (memory′ out′ : List ℕ) → Asks (w .state) (w .memory) id time out r memory′ out′
-      → Does (next id time out) w (asked (r .answer) out′) (lending (r .state) memory′)
-  unfolding after
-  next-does id time out r memory′ out′ h = record { reply-is = ap₂ asked (h .answer-is) (h .out-is); world-is = ap₂ lending (h .state-is) (h .memory-is) }
-
-  withdraw-does : (id : ℕ) (r : Emptied) (memory′ : List ℕ) → Withdraws (w .state) (w .memory) id r memory′ → Does (withdraw id) w (emptied (r .answer)) (lending (r .state) memory′)
-  unfolding after
-  withdraw-does id r memory′ h = record { reply-is = ap emptied (h .answer-is); world-is = ap₂ lending (h .state-is) (h .memory-is) }
-
-  radio-does : (datagram : List ℕ) (r : Heard) → r ≡ handedIn (w .state) datagram → Does (radio datagram) w (heard (r .answer)) (lending (r .state) (w .memory))
-  unfolding after
-  radio-does datagram r h = record {
-    reply-is = ap (λ (x : Heard). heard (x .answer)) h;
-    world-is = ap (λ (x : Heard). lending (x .state) (w .memory)) h ∙ ap (λ (s : State). lending s (w .memory)) (handed-state (w .state) datagram);
-  }
-
-  query-does : (out : List ℕ) (r : WriteAnswer) (out′ : List ℕ) → Queries (w .state) out r out′ → Does (query out) w (queried r out′) w
-  unfolding after
-  query-does out r out′ h = record { reply-is = ap₂ queried (h .answer-is) (h .out-is); world-is = refl }
-
--- ---- any calls
-record Runs (w : World) (cs : List Call) (xs : List Reply) (last : World) : Type 0 where
-  replies-are : xs ≡ repliesOf cs w
-  last-is : last ≡ afterAll cs w
-
-go-on : {w w′ last : World} {c : Call} {x : Reply} {cs : List Call} {xs : List Reply} → Does c w x w′ → Runs w′ cs xs last → Runs w (c ∷ cs) (x ∷ xs) last
-go-on {cs} d more = record {
-  replies-are = ap₂ (λ (x : Reply) (xs : List Reply). x ∷ xs) (d .reply-is) (more .replies-are ∙ ap (repliesOf cs) (d .world-is));
-  last-is = more .last-is ∙ ap (afterAll cs) (d .world-is);
+-- the contract of a radio message handed in, with any memory, from the equation that its ways out give
+pub radio-performed : (s : State) (datagram : List ℕ) (r : AfterRadio) → r ≡ handedIn s datagram → (memory : List ℕ)
+    → Performed (radio datagram) (lending s memory) (ofRadio (r .answer)) (lending (r .state) memory)
+unfolding after
+radio-performed s datagram r h memory = record {
+  reply-is = ap (λ (x : AfterRadio). ofRadio (x .answer)) h;
+  world-is = ap (λ (x : AfterRadio). lending (x .state) memory) h ∙ ap (λ (x : State). lending x memory) (handed-state (lending s memory) datagram);
 }
 
-runs : {w last : World} {cs : List Call} {xs : List Reply} → Ran w cs xs last → Runs w cs xs last
-runs over = record { replies-are = refl; last-is = refl }
-runs {w} (ran-offer {id} {p} {time} {r} {memory′} h more) = go-on (offer-does w id p time r memory′ h) (runs more)
-runs {w} (ran-next {id} {time} {out} {r} {memory′} {out′} h more) = go-on (next-does w id time out r memory′ out′ h) (runs more)
-runs {w} (ran-withdraw {id} {r} {memory′} h more) = go-on (withdraw-does w id r memory′ h) (runs more)
-runs {w} (ran-radio {datagram} {r} h more) = go-on (radio-does w datagram r h) (runs more)
-runs {w} (ran-query {out} {r} {out′} h more) = go-on (query-does w out r out′ h) (runs more)
+-- and back: its contract says no less than that equation
+pub radio-handed : {s : State} {datagram : List ℕ} {answer : RadioAnswer} {s′ : State} → PerformedWithAny (radio datagram) s (ofRadio answer) s′
+    → (answer ≡ handedIn s datagram .answer) × (s′ ≡ handedIn s datagram .state)
+unfolding after
+radio-handed {s} {datagram} h = (cc (h [] .reply-is), ap (λ (w : World). w .state) (h [] .world-is) ∙ sym (handed-state (lending s []) datagram))
 
-module _ {w last : World} {cs : List Call} {xs : List Reply} (run : Ran w cs xs last) where
-  pub ran-world : last ≡ afterAll cs w
-  ran-world = runs run .last-is
+-- ---- any calls
+pub ran-world : {w last : World} {cs : List Call} {xs : List EndpointReply} → Ran w cs xs last → last ≡ afterAll cs w
+ran-world over = refl
+ran-world (ran {cs} h more) = ran-world more ∙ ap (afterAll cs) (h .world-is)
 
-  pub ran-replies : xs ≡ repliesOf cs w
-  ran-replies = runs run .replies-are
+pub ran-replies : {w last : World} {cs : List Call} {xs : List EndpointReply} → Ran w cs xs last → xs ≡ repliesOf cs w
+ran-replies over = refl
+ran-replies (ran {cs} h more) = ap₂ (λ (x : EndpointReply) (xs : List EndpointReply). x ∷ xs) (h .reply-is) (ran-replies more ∙ ap (repliesOf cs) (h .world-is))
 
 -- ---- a start that is not refused leaves the fresh world
-module _ (k : Configuration) (full : length (k .settings) ≡ MOST-CHANNELS) (memory : List ℕ) (fits : startFits k memory ≡ true) where
-  start-parts : (configurationFits k ≡ true) × (length memory ≡ settingSizes (take (k .count) (k .settings)))
+module _ (k : Configuration) (full : length (k .starts) ≡ MOST-CHANNELS) (memory : List ℕ) (fits : startFits k memory ≡ true) where
+  start-parts : (configurationFits k ≡ true) × (length memory ≡ storesOf k)
   unfolding startFits
   start-parts =
-      let parts = both (configurationFits k) _ fits in
+      let parts = and-eq-true-iff (configurationFits k) _ .0 fits in
       (parts .0, eqb-true _ _ (parts .1))
 
   pub start-configured : configurationFits k ≡ true
   start-configured = start-parts .0
 
   memory-length : length memory ≡ sizes (configured (freshState k))
-  unfolding settingSizes freshState
+  unfolding storesOf freshState
   memory-length = rw (fresh-configured k full (fit (freshState k) (fresh-fits k full ∙ start-configured) .few)) (start-parts .1)
 
-  pub begins : (r : Begun) (memory′ : List ℕ) → Starts k memory r memory′ → lending (r .state) memory′ ≡ freshWorld k
+  pub begins : (answer : StartAnswer) (w : World) → Started k memory answer w → w ≡ freshWorld k
   unfolding freshWorld
-  begins r memory′ h = ap₂ lending (ap (λ (x : Begun). x .state) (h .begins) ∙ rw fits) (h .memory-is ∙ rw (fits, memory-length))
+  begins answer w h = h .world-is ∙ rw (fits, memory-length)

@@ -2,93 +2,83 @@
 use Prim.Native.Nat.{ℕ}
 use mathlib.Core.Bool.{Bool, true, false, cond}
 use mathlib.Core.List.{List}
-use mathlib.Core.Path.{_≡_, refl, sym, ap, _∙_}
+use mathlib.Core.Path.{_≡_, refl, ap, _∙_}
 use lib.ListN.{length}
+use Rattle.facts.proofs.Tests.{clash}
 use Rattle.quantity.specs.declared.refusal.Refusal.{Refusal}
-use Rattle.quantity.specs.declared.count.DatalinkId.{DatalinkId}
 use Rattle.meaning.specs.declared.message.End.the-variants as ends
-use Rattle.meaning.proofs.Amongst.{clash}
-use Rattle.read_rules.specs.declared.answer.Verdict.{Verdict}
+use Rattle.reader.specs.Readings.{Verdict, readControl, readData, planeOf}
 use Rattle.reader.specs.declared.answer.PlaneAnswer.{PlaneAnswer}
-use Rattle.reader.specs.Readings.{readControl, readData, planeOf}
 use Rattle.writer.specs.declared.answer.WriteAnswer.{WriteAnswer}
-use Rattle.writer.specs.Written.{noRoom, controlWritten}
+use Rattle.writer.specs.Written.{noRoom}
 use Rattle.store.specs.Packets.{Packet}
-use Rattle.ips_channel_rules.specs.Machine.{machine}
-use Rattle.ips_channel_rules.specs.Life.{Result, Answer, refused, taken, nothingWaiting, notOperational, windowShut, done, sent}
-use Rattle.ips_channel.specs.declared.state.Channel.{Channel}
+use Rattle.ips_channel_rules.specs.Rules.{ChannelCall, offer, next, withdraw, Taken, taken, Tried, nothingWaiting, notOperational, windowShut, sent, Emptied, emptied, Answer, refused, answered, Terms}
 use Rattle.ips_channel_calls.specs.declared.offering.OfferAnswer.{OfferAnswer}
 use Rattle.ips_channel_calls.specs.declared.asking.NextAnswer.{NextAnswer}
-use Rattle.ips_channel_calls.specs.Calls.{offerAnswer, nextAnswer, withdrawResult}
+use Rattle.ips_channel_calls.specs.Calls.{offerAnswer, nextAnswer, withdrawAnswer, outputAfter, Reply, offered, asked, withdrawn}
 use Rattle.ips_state.specs.declared.state.Configuration.{Configuration}
 use Rattle.ips_state.specs.declared.state.State.{State}
 use Rattle.ips_state.specs.Limits.{stateFits}
-use Rattle.ips_run.specs.Calling.{calling, offering, asking}
-use Rattle.ips_run.proofs.Exact as rules
+use Rattle.ips_state.specs.Memory.{World, indexIn}
+use Rattle.ips_run.specs.Calling.{termsIn, calling}
+use Rattle.ips_run.specs.Run.{on, query, after}
+use Rattle.ips_run.proofs.Exact.{refused-world}
 use Rattle.ips_radio.specs.Heard.{dueOf}
-use Rattle.ips_query.specs.Query.{queryOf}
-use Rattle.answer.specs.declared.WithdrawAnswer.{WithdrawAnswer}
-use Rattle.answer.specs.declared.RadioAnswer.{RadioAnswer}
-use Rattle.answer.specs.declared.StartAnswer.{StartAnswer}
-use Rattle.endpoint.specs.declared.call.Offered.{Offered}
-use Rattle.endpoint.specs.declared.call.Asked.{Asked}
-use Rattle.endpoint.specs.declared.call.Emptied.{Emptied}
-use Rattle.endpoint.specs.declared.radio.Heard.{Heard}
-use Rattle.endpoint.specs.declared.start.Begun.{Begun}
-use Rattle.endpoint.specs.Calls.{Same, Offers, Asks, Withdraws, withdrawAnswer, startFits, Starts}
+use Rattle.ips_channel_calls.specs.declared.offering.WithdrawAnswer.{WithdrawAnswer}
+use Rattle.ips_radio.specs.declared.RadioAnswer.{RadioAnswer}
+use Rattle.ips_state.specs.declared.state.StartAnswer.{StartAnswer}
+use Rattle.endpoint.specs.declared.radio.AfterRadio.{AfterRadio}
 use Rattle.endpoint.specs.Radio.{byVerdict, heardControl, unchanged, handedIn}
-use Rattle.endpoint.specs.Query.{Queries}
-
--- ---- any call that the rules refuse
-module _ (call : Channel → List ℕ → Result machine) (s : State) (memory : List ℕ) (number : ℕ) where
-  pub refused-same : (id : ℕ) → calling call s memory id .answer ≡ refused number → Same s (calling call s memory id .state) memory (calling call s memory id .memory)
-  refused-same id e = let same = rules.refused-same call s memory id number e in record { state-same = same .0; memory-same = same .1 }
+use Rattle.endpoint.specs.Query.{queryBytes}
+use Rattle.endpoint.specs.Replies.{ofChannel, ofQuery}
+use Rattle.endpoint.specs.Calls.{Performed}
+use Rattle.endpoint.specs.Start.{startFits, Started}
+use Rattle.endpoint.proofs.Querying.{query-gives}
 
 -- ---- the code's answers: only a refusal of the rules is told as one
-offer-told : (a : Answer) (refusal : Refusal) → offerAnswer a ≡ OfferAnswer.Refused refusal → a ≡ refused (refusal .number)
+offer-told : (a : Answer Taken) (refusal : Refusal) → offerAnswer a ≡ OfferAnswer.Refused refusal → a ≡ refused (refusal .number)
 offer-told (refused number) refusal e = let n : number ≡ refusal .number = cc in rw n
-offer-told (sent packet sequence) refusal e = clash (cc)
-offer-told taken refusal e = clash (cc)
-offer-told nothingWaiting refusal e = clash (cc)
-offer-told notOperational refusal e = clash (cc)
-offer-told windowShut refusal e = clash (cc)
-offer-told done refusal e = clash (cc)
+offer-told (answered taken) refusal e = clash (cc)
 
-next-told : (datalink : DatalinkId) (id : ℕ) (a : Answer) (refusal : Refusal) → nextAnswer datalink id a ≡ NextAnswer.Refused refusal → a ≡ refused (refusal .number)
-next-told datalink id (refused number) refusal e = let n : number ≡ refusal .number = cc in rw n
-next-told datalink id (sent packet sequence) refusal e = clash (cc)
-next-told datalink id taken refusal e = clash (cc)
-next-told datalink id nothingWaiting refusal e = clash (cc)
-next-told datalink id notOperational refusal e = clash (cc)
-next-told datalink id windowShut refusal e = clash (cc)
-next-told datalink id done refusal e = clash (cc)
+next-told : (k : Terms) (a : Answer Tried) (refusal : Refusal) → nextAnswer k a ≡ NextAnswer.Refused refusal → a ≡ refused (refusal .number)
+next-told k (refused number) refusal e = let n : number ≡ refusal .number = cc in rw n
+next-told k (answered nothingWaiting) refusal e = clash (cc)
+next-told k (answered notOperational) refusal e = clash (cc)
+next-told k (answered windowShut) refusal e = clash (cc)
+next-told k (answered (sent packet sequence)) refusal e = clash (cc)
 
-withdraw-told : (a : Answer) (refusal : Refusal) → withdrawAnswer a ≡ WithdrawAnswer.Refused refusal → a ≡ refused (refusal .number)
+withdraw-told : (a : Answer Emptied) (refusal : Refusal) → withdrawAnswer a ≡ WithdrawAnswer.Refused refusal → a ≡ refused (refusal .number)
 withdraw-told (refused number) refusal e = let n : number ≡ refusal .number = cc in rw n
-withdraw-told (sent packet sequence) refusal e = clash (cc)
-withdraw-told taken refusal e = clash (cc)
-withdraw-told nothingWaiting refusal e = clash (cc)
-withdraw-told notOperational refusal e = clash (cc)
-withdraw-told windowShut refusal e = clash (cc)
-withdraw-told done refusal e = clash (cc)
+withdraw-told (answered emptied) refusal e = clash (cc)
 
-module _ (s : State) (memory : List ℕ) (id : ℕ) (refusal : Refusal) where
-  pub offer-refused-same : (p : Packet) (time : ℕ) (r : Offered) (memory′ : List ℕ) → Offers s memory id p time r memory′ → r .answer ≡ OfferAnswer.Refused refusal → Same s (r .state) memory memory′
-  offer-refused-same p time r memory′ h e =
-      let same = refused-same (offering p time) s memory (refusal .number) id (offer-told _ refusal (sym (h .answer-is) ∙ e)) in
-      record { state-same = h .state-is ∙ same .state-same; memory-same = h .memory-is ∙ same .memory-same }
+one-reply : {x y : Reply} → ofChannel x ≡ ofChannel y → x ≡ y
+one-reply e = cc
 
-  pub next-refused-same : (time : ℕ) (out : List ℕ) (r : Asked) (memory′ out′ : List ℕ) → Asks s memory id time out r memory′ out′ → r .answer ≡ NextAnswer.Refused refusal
-      → Same s (r .state) memory memory′ × (out′ ≡ out)
-  next-refused-same time out r memory′ out′ h e =
-      let told = next-told (s .datalink) id _ refusal (sym (h .answer-is) ∙ e) in
-      let same = refused-same (asking (s .datalink) time (length out)) s memory (refusal .number) id told in
-      (record { state-same = h .state-is ∙ same .state-same; memory-same = h .memory-is ∙ same .memory-same }, h .out-is ∙ rw told)
+module _ (w : World) (id : ℕ) (refusal : Refusal) (w′ : World) where
+  -- any call that the rules refuse
+  refused-same : (c : ChannelCall) (x : Reply) → Performed (on id c) w (ofChannel x) w′ → calling id c w .answer ≡ refused (refusal .number) → w′ ≡ w
+  unfolding after
+  refused-same c x h e = h .world-is ∙ refused-world id c w (refusal .number) e
 
-  pub withdraw-refused-same : (r : Emptied) (memory′ : List ℕ) → Withdraws s memory id r memory′ → r .answer ≡ WithdrawAnswer.Refused refusal → Same s (r .state) memory memory′
-  withdraw-refused-same r memory′ h e =
-      let same = refused-same withdrawResult s memory (refusal .number) id (withdraw-told _ refusal (sym (h .answer-is) ∙ e)) in
-      record { state-same = h .state-is ∙ same .state-same; memory-same = h .memory-is ∙ same .memory-same }
+  pub offer-refused-same : (p : Packet) (time : ℕ) (answer : OfferAnswer) → Performed (on id (offer p time)) w (ofChannel (offered answer)) w′ → answer ≡ OfferAnswer.Refused refusal → w′ ≡ w
+  offer-refused-same p time answer h e =
+      let is : offerAnswer (calling id (offer p time) w .answer) ≡ OfferAnswer.Refused refusal = cc (one-reply (h .reply-is)) in
+      refused-same (offer p time) (offered answer) h (offer-told _ refusal is)
+
+  pub next-refused-same : (time : ℕ) (out out′ : List ℕ) (answer : NextAnswer) → Performed (on id (next time out)) w (ofChannel (asked answer out′)) w′ → answer ≡ NextAnswer.Refused refusal
+      → (w′ ≡ w) × (out′ ≡ out)
+  next-refused-same time out out′ answer h e =
+      let k = termsIn w (indexIn w id) in
+      let a = calling id (next time out) w .answer in
+      let is : nextAnswer k a ≡ NextAnswer.Refused refusal = cc (one-reply (h .reply-is)) in
+      let told = next-told k a refusal is in
+      let bytes : out′ ≡ outputAfter k a out = cc (one-reply (h .reply-is)) in
+      (refused-same (next time out) (asked answer out′) h told, bytes ∙ rw told)
+
+  pub withdraw-refused-same : (answer : WithdrawAnswer) → Performed (on id withdraw) w (ofChannel (withdrawn answer)) w′ → answer ≡ WithdrawAnswer.Refused refusal → w′ ≡ w
+  withdraw-refused-same answer h e =
+      let is : withdrawAnswer (calling id withdraw w .answer) ≡ WithdrawAnswer.Refused refusal = cc (one-reply (h .reply-is)) in
+      refused-same withdraw (withdrawn answer) h (withdraw-told _ refusal is)
 
 -- ---- a radio message; "an accepted radio data message changes nothing"
 module _ (s : State) where
@@ -97,7 +87,7 @@ module _ (s : State) where
   data-same Verdict.OtherPlane = refl
   data-same (Verdict.Refused refusal) = refl
 
-  control-same : (verdict : Verdict) (accepted : Heard) (refusal : Refusal) → (accepted .answer ≡ RadioAnswer.Refused refusal → ⊥)
+  control-same : (verdict : Verdict) (accepted : AfterRadio) (refusal : Refusal) → (accepted .answer ≡ RadioAnswer.Refused refusal → ⊥)
       → byVerdict verdict s accepted .answer ≡ RadioAnswer.Refused refusal → byVerdict verdict s accepted .state ≡ s
   control-same Verdict.Accepted accepted refusal other e = absurd (other e)
   control-same Verdict.OtherPlane accepted refusal other e = refl
@@ -129,17 +119,19 @@ module _ (s : State) where
         go true f (PlaneAnswer.Refused why) p = rw (f, p)
 
 -- ---- a start, and a query
-pub start-refused-same : (k : Configuration) (memory : List ℕ) (r : Begun) (memory′ : List ℕ) (refusal : Refusal) → Starts k memory r memory′ → r .answer ≡ StartAnswer.Refused refusal → memory′ ≡ memory
-start-refused-same k memory r memory′ refusal h e = go (startFits k memory) refl
+pub start-refused-same : (k : Configuration) (memory : List ℕ) (answer : StartAnswer) (w : World) (refusal : Refusal) → Started k memory answer w → answer ≡ StartAnswer.Refused refusal → w .memory ≡ memory
+start-refused-same k memory answer w refusal h e = go (startFits k memory) refl
   where
-    go : (fits : Bool) → startFits k memory ≡ fits → memory′ ≡ memory
-    go true f = let started : r .answer ≡ StartAnswer.Started = ap (λ (b : Begun). b .answer) (rw f at (h .begins)) in clash (cc)
-    go false f = h .memory-is ∙ rw f
+    go : (fits : Bool) → startFits k memory ≡ fits → w .memory ≡ memory
+    go true f = let started : answer ≡ StartAnswer.Started = rw f at (h .answer-is) in clash (cc)
+    go false f = ap (λ (x : World). x .memory) (h .world-is) ∙ rw f
 
-pub query-refused-same : (s : State) (out : List ℕ) (r : WriteAnswer) (out′ : List ℕ) (refusal : Refusal) → Queries s out r out′ → r ≡ WriteAnswer.Refused refusal → out′ ≡ out
-query-refused-same s out r out′ refusal h e = go (stateFits s) refl (noRoom (length (controlWritten (queryOf s))) (length out)) refl
+pub query-refused-same : (w : World) (out : List ℕ) (r : WriteAnswer) (out′ : List ℕ) (w′ : World) (refusal : Refusal) → Performed (query out) w (ofQuery r out′) w′ → r ≡ WriteAnswer.Refused refusal
+    → (w′ ≡ w) × (out′ ≡ out)
+unfolding after
+query-refused-same w out r out′ w′ refusal h e = (h .world-is, go (stateFits (w .state)) refl (noRoom (length (queryBytes (w .state))) (length out)) refl)
   where
-    go : (fits : Bool) → stateFits s ≡ fits → (full : Bool) → noRoom (length (controlWritten (queryOf s))) (length out) ≡ full → out′ ≡ out
-    go false f full l = h .out-is ∙ rw f
-    go true f true l = h .out-is ∙ rw (f, l)
-    go true f false l = clash (cc (rw (f, l) at (h .answer-is)))
+    go : (fits : Bool) → stateFits (w .state) ≡ fits → (full : Bool) → noRoom (length (queryBytes (w .state))) (length out) ≡ full → out′ ≡ out
+    go false f full l = query-gives h .1 ∙ rw f
+    go true f true l = query-gives h .1 ∙ rw (f, l)
+    go true f false l = clash (cc (rw (f, l) at (query-gives h .0)))

@@ -5,52 +5,49 @@ use mathlib.Core.List.{List}
 use mathlib.Core.Path.{_≡_}
 use Rattle.quantity.specs.declared.count.DatalinkId.{DatalinkId}
 use Rattle.quantity.specs.declared.refusal.Refusal.{Refusal}
-use Rattle.quantity.specs.Refusals.{CONFIGURATION}
+use Rattle.quantity.specs.Refusals.{OUTSIDE-LIMITS}
 use Rattle.meaning.specs.declared.message.End.the-variants as ends
 use Rattle.meaning.specs.declared.message.Control.{Control}
-use Rattle.read_rules.specs.declared.answer.Verdict.{Verdict}
-use Rattle.read_rules.specs.declared.answer.ControlReading.{ControlReading}
-use Rattle.reader.specs.declared.answer.DataReading.{DataReading}
+use Rattle.reader.specs.Readings.{Verdict, ControlReading, DataReading, readControl, readData, planeOf}
 use Rattle.reader.specs.declared.answer.PlaneAnswer.{PlaneAnswer}
-use Rattle.reader.specs.Readings.{readControl, readData, planeOf}
 use Rattle.ips_state.specs.declared.state.State.{State}
 use Rattle.ips_state.specs.Limits.{stateFits}
 use Rattle.ips_radio.specs.Heard.{heardBy, dueOf}
-use Rattle.answer.specs.declared.RadioAnswer.{RadioAnswer}
-use Rattle.endpoint.specs.declared.radio.Heard.{Heard}
+use Rattle.ips_radio.specs.declared.RadioAnswer.{RadioAnswer}
+use Rattle.endpoint.specs.declared.radio.AfterRadio.{AfterRadio}
 
-abbrev pub refusedHeard : Refusal → State → Heard
+abbrev pub refusedHeard : Refusal → State → AfterRadio
 refusedHeard refusal s = record { answer = RadioAnswer.Refused refusal; state = s }
 
-abbrev pub unchanged : State → Heard
+abbrev pub unchanged : State → AfterRadio
 unchanged s = record { answer = RadioAnswer.Accepted; state = s }
 
 -- "A mobility message is reported due when .."
-abbrev pub heardControl : Control → State → Heard
+abbrev pub heardControl : Control → State → AfterRadio
 heardControl message s = record { answer = cond (dueOf (s .context) (message .context)) RadioAnswer.Due RadioAnswer.Accepted; state = heardBy message s }
 
 -- by the reader's verdict; it is asked for a message of its own plane only
-abbrev pub byVerdict : Verdict → State → Heard → Heard
+abbrev pub byVerdict : Verdict → State → AfterRadio → AfterRadio
 byVerdict Verdict.Accepted s accepted = accepted
 byVerdict Verdict.OtherPlane s accepted = unchanged s
 byVerdict (Verdict.Refused refusal) s accepted = refusedHeard refusal s
 
-abbrev pub controlHeard : ControlReading → State → Heard
+abbrev pub controlHeard : ControlReading → State → AfterRadio
 controlHeard reading s = byVerdict (reading .verdict) s (heardControl (reading .message) s)
 
-abbrev pub dataHeard : DataReading → State → Heard
+abbrev pub dataHeard : DataReading → State → AfterRadio
 dataHeard reading s = byVerdict (reading .verdict) s (unchanged s)
 
-abbrev pub byPlane : PlaneAnswer → State → (control data′ : Heard) → Heard
+abbrev pub byPlane : PlaneAnswer → State → (control data′ : AfterRadio) → AfterRadio
 byPlane PlaneAnswer.Control s control data′ = control
 byPlane PlaneAnswer.Data s control data′ = data′
 byPlane (PlaneAnswer.Refused refusal) s control data′ = refusedHeard refusal s
 
-unfoldable pub handedIn : State → List ℕ → Heard
+unfoldable pub handedIn : State → List ℕ → AfterRadio
 handedIn s datagram =
     cond (stateFits s)
     (byPlane (planeOf datagram) s (controlHeard (readControl ends.Radio (s .datalink) datagram) s) (dataHeard (readData ends.Radio (s .datalink) datagram) s))
-    (refusedHeard (record { number = CONFIGURATION; place = 0 }) s)
+    (refusedHeard (record { number = OUTSIDE-LIMITS; place = 0 }) s)
 
 -- ---- "A radio message handed in: as for reading": what reading the datagram refuses it by, number and place
 pub data ReadingRefuses (datalink : DatalinkId) (datagram : List ℕ) (refusal : Refusal) : Type 0 where

@@ -3,22 +3,21 @@ use Prim.Native.Nat.{ℕ, _<_, _^_}
 use mathlib.Core.List.{List}
 use mathlib.Core.Path.{_≡_}
 use lib.ListN.{take}
-use Rattle.quantity.specs.declared.count.DatalinkId.{DatalinkId}
 use Rattle.meaning.specs.declared.message.End.the-variants as ends
 use Rattle.meaning.specs.declared.message.Sequence.{Sequence}
-use Rattle.read_rules.specs.declared.answer.Verdict.{Verdict}
-use Rattle.reader.specs.Readings.{readData, packetOf}
-use Rattle.ips_channel_rules.specs.Life.{messageOf}
+use Rattle.reader.specs.Readings.{Verdict, readData, packetOf}
+use Rattle.ips_channel_rules.specs.Rules.{Terms, messageOf}
 use Rattle.ips_channel_calls.specs.declared.asking.NextAnswer.{NextAnswer}
 use Rattle.ips_state.specs.declared.state.State.{State}
 use Rattle.ips_state.specs.Table.{channelAt}
 
 -- Next: the count that was answered, and in so many bytes that packet, that channel and that Flow Sequence
-pub record ReadBack (datalink : DatalinkId) (id : ℕ) (packet : List ℕ) (sequence : Sequence) (answer : NextAnswer) (out′ : List ℕ) : Type 0 where
+pub record ReadBack (k : Terms) (id : ℕ) (packet : List ℕ) (sequence : Sequence) (answer : NextAnswer) (out : List ℕ) : Type 0 where
+  pub named : k .id ≡ id
   pub size : ℕ
   pub counted : answer ≡ NextAnswer.Sent (record { 0 = size })
-  pub accepted : readData ends.Ips datalink (take size out′) ≡ record { verdict = Verdict.Accepted; message = messageOf datalink id sequence }
-  pub carries : packetOf (take size out′) ≡ packet
+  pub accepted : readData ends.Ips (k .datalink) (take size out) ≡ record { verdict = Verdict.Accepted; message = messageOf k sequence }
+  pub carries : packetOf (take size out) ≡ packet
 
 -- what a state has as a value of its struct: the sequences of its channels have 32 bits
 abbrev pub SequenceWords : State → Type 0

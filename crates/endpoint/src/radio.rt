@@ -2,8 +2,11 @@
 ghost use mathlib.Core.Path.{_≡_};
 ghost use mathlib.Core.Bool.{true};
 ghost use Rattle.ips_state.specs.Limits.{stateFits};
-ghost use Rattle.endpoint.specs.Radio.{refusedHeard, unchanged, heardControl, controlHeard, dataHeard, handedIn};
-use answer::RadioAnswer;
+ghost use Rattle.ips_run.specs.Run as run;
+ghost use Rattle.endpoint.specs.Radio.{refusedHeard, unchanged, heardControl, controlHeard, dataHeard};
+ghost use Rattle.endpoint.specs.Replies.{ofRadio};
+ghost use Rattle.endpoint.specs.Calls.{PerformedWithAny};
+use ips_radio::RadioAnswer;
 use ips_state::state::State;
 use ips_state::survey;
 use meaning::message::Control;
@@ -16,31 +19,31 @@ use reader::answer::PlaneAnswer;
 use reader::answer::Verdict;
 use reader::header;
 
-pub struct Heard {
+pub struct AfterRadio {
     pub answer: RadioAnswer,
     pub state: State,
 }
 
-fn refused(state: State, refusal: Refusal) -> Heard
+fn refused(state: State, refusal: Refusal) -> AfterRadio
     ensures { λ r. ⌜ r ≡ refusedHeard refusal state ⌝ }
 {
-    Heard {
+    AfterRadio {
         answer: RadioAnswer::Refused(refusal),
         state,
     }
 }
 
 // An accepted radio data message changes nothing.
-fn passed(state: State) -> Heard
+fn passed(state: State) -> AfterRadio
     ensures { λ r. ⌜ r ≡ unchanged state ⌝ }
 {
-    Heard {
+    AfterRadio {
         answer: RadioAnswer::Accepted,
         state,
     }
 }
 
-fn accepted(state: State, message: Control) -> Heard
+fn accepted(state: State, message: Control) -> AfterRadio
     requires { ⌜ stateFits state ≡ true ⌝ }
     ensures { λ r. ⌜ r ≡ heardControl message state ⌝ }
 {
@@ -48,18 +51,18 @@ fn accepted(state: State, message: Control) -> Heard
     let given = message.context;
     let after = ips_radio::hear(state, message);
     if ips_radio::is_due(last, given) {
-        return Heard {
+        return AfterRadio {
             answer: RadioAnswer::Due,
             state: after,
         };
     }
-    Heard {
+    AfterRadio {
         answer: RadioAnswer::Accepted,
         state: after,
     }
 }
 
-fn control(state: State, reading: ControlReading) -> Heard
+fn control(state: State, reading: ControlReading) -> AfterRadio
     requires { ⌜ stateFits state ≡ true ⌝ }
     ensures { λ r. ⌜ r ≡ controlHeard reading state ⌝ }
 {
@@ -72,7 +75,7 @@ fn control(state: State, reading: ControlReading) -> Heard
     }
 }
 
-fn data(state: State, reading: DataReading) -> Heard
+fn data(state: State, reading: DataReading) -> AfterRadio
     ensures { λ r. ⌜ r ≡ dataHeard reading state ⌝ }
 {
     let verdict = reading.verdict;
@@ -84,15 +87,15 @@ fn data(state: State, reading: DataReading) -> Heard
 }
 
 // 19, then as for reading.
-pub fn hand_in(state: State, datagram: &[u8]) -> Heard
-    ensures { λ r. ⌜ r ≡ handedIn state (now (datagram .entry)) ⌝ }
+pub fn hand_in(state: State, datagram: &[u8]) -> AfterRadio
+    ensures { λ r. ⌜ PerformedWithAny (run.radio (now (datagram .entry))) state (ofRadio (r .answer)) (r .state) ⌝ }
 {
-    let survey = survey::look(state, 0);
+    let survey = survey::survey_state(state, 0);
     if !survey.fits {
         return refused(
             state,
             Refusal {
-                number: refusal::CONFIGURATION,
+                number: refusal::OUTSIDE_LIMITS,
                 place: 0,
             },
         );

@@ -27,7 +27,7 @@ pub fn first(controlled: bool) -> Flow
     }
 }
 
-// Whether a packet of so many bytes may go.
+// Whether a packet of this length may go.
 pub fn may_go(flow: Flow, sequence: FlowSequence, bytes: ByteCount) -> bool
     ensures { λ r. ⌜ r ≡ mayGo flow sequence bytes ⌝ }
 {
@@ -38,7 +38,7 @@ pub fn may_go(flow: Flow, sequence: FlowSequence, bytes: ByteCount) -> bool
     }
 }
 
-// The sequence after a packet of so many bytes went: a free channel's stands still.
+// The sequence after a packet of this length went: a free channel's stands still.
 pub fn counted(flow: Flow, sequence: FlowSequence, bytes: ByteCount) -> FlowSequence
     ensures { λ r. ⌜ r ≡ sequenceOn flow sequence bytes ⌝ }
 {

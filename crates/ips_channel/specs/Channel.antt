@@ -1,37 +1,42 @@
--- The code's channel: from a channel and its store to a state of the rules, and back; how it starts, and what it hears.
+-- The code's channel: from a channel and its store to a condition of the rules, and back; how it starts, and what it hears.
 use Prim.Native.Nat.{ℕ}
-use mathlib.Core.Bool.{Bool, cond}
+use mathlib.Core.Bool.{cond}
 use mathlib.Core.List.{List, []}
+use Rattle.quantity.specs.declared.count.DatalinkId.{DatalinkId}
 use Rattle.quantity.specs.declared.count.FlowSequence.{FlowSequence}
-use Rattle.quantity.specs.declared.count.ByteCount.{ByteCount}
 use Rattle.meaning.specs.declared.message.Status.{Status}
 use Rattle.meaning.specs.declared.message.Window.{Window}
 use Rattle.store.specs.declared.queue.Queue.{Queue}
 use Rattle.store.specs.Waiting.{packetsOf, queueOf}
-use Rattle.ips_channel.specs.declared.state.Channel.{Channel}
 use Rattle.flow.specs.Counting.{flowAfter, firstFlow}
+use Rattle.ips_channel_rules.specs.Rules.{Terms, Condition}
 use Rattle.ips_channel_rules.specs.Machine.{machine}
-use Rattle.ips_channel_rules.specs.Life.{State}
+use Rattle.ips_channel.specs.declared.state.Setting.{Setting}
+use Rattle.ips_channel.specs.declared.state.Channel.{Channel}
 
--- ---- a channel and its store as a state, however untidy they are behind what waits
-unfoldable pub stateOf : Channel → List ℕ → State machine
-stateOf c store = record { meter = record { flow = c .flow; sequence = c .sequence }; book = packetsOf (c .queue) store; status = c .status; latest = c .latest }
+-- ---- how a channel is configured, as the rules take it
+abbrev pub termsOf : DatalinkId → Setting → Terms
+termsOf datalink setting = record { datalink = datalink; id = setting .id; controlled = setting .controlled; size = setting .size .0 }
 
--- ---- and back: the one channel and the one store that hold a state
-unfoldable pub channelOf : Channel → State machine → Channel
-channelOf c st =
-    record { id = c .id; controlled = c .controlled; size = c .size; status = st .status; flow = st .meter .flow; sequence = st .meter .sequence; latest = st .latest; queue = queueOf (st .book) }
+-- ---- a channel and its store as a condition, however untidy they are behind what waits
+unfoldable pub conditionOf : Channel → List ℕ → Condition machine
+conditionOf c store = record { counting = record { flow = c .flow; sequence = c .sequence }; keeping = packetsOf (c .queue) store; status = c .status; latest = c .latest }
+
+-- ---- and back: the one channel of this setting that is in a condition
+unfoldable pub withCondition : Channel → Condition machine → Channel
+withCondition c st =
+    record { setting = c .setting; status = st .status; flow = st .counting .flow; sequence = st .counting .sequence; latest = st .latest; queue = queueOf (st .keeping) }
 
 -- the channel with what waits on it now, and a time that was accepted
-unfoldable pub queued : Channel → Queue → ℕ → Channel
-queued c queue time = record { id = c .id; controlled = c .controlled; size = c .size; status = c .status; flow = c .flow; sequence = c .sequence; latest = time; queue = queue }
+unfoldable pub withQueue : Channel → Queue → ℕ → Channel
+withQueue c queue time = record { setting = c .setting; status = c .status; flow = c .flow; sequence = c .sequence; latest = time; queue = queue }
 
 -- a radio message touches neither queue nor store
 unfoldable pub heardOf : Channel → Status → Window → Channel
 heardOf c status window =
-    record { id = c .id; controlled = c .controlled; size = c .size; status = status; flow = cond (c .controlled) (flowAfter window) (c .flow); sequence = c .sequence; latest = c .latest; queue = c .queue }
+    record { setting = c .setting; status = status; flow = cond (c .setting .controlled) (flowAfter window) (c .flow); sequence = c .sequence; latest = c .latest; queue = c .queue }
 
 -- "A channel has a status (fresh: not reported)"; "Latest time is .. 0 when fresh"
-unfoldable pub freshChannel : ℕ → Bool → ByteCount → FlowSequence → Channel
-freshChannel id controlled size first =
-    record { id = id; controlled = controlled; size = size; status = Status.Absent; flow = firstFlow controlled; sequence = first; latest = 0; queue = queueOf [] }
+unfoldable pub freshChannel : Setting → FlowSequence → Channel
+freshChannel setting first =
+    record { setting = setting; status = Status.Absent; flow = firstFlow (setting .controlled); sequence = first; latest = 0; queue = queueOf [] }

@@ -9,15 +9,13 @@ use meaning::message::Window;
 pub fn hear(channel: Channel, status: Status, window: Window) -> Channel
     ensures { λ r. ⌜ r ≡ heardOf channel status window ⌝ }
 {
+    let setting = channel.setting;
     let before = channel.flow;
-    let after = flow::heard(channel.controlled, before, window);
+    let after = flow::heard(setting.controlled, before, window);
     let sequence = channel.sequence;
     let queue = channel.queue;
-    let size = channel.size;
     Channel {
-        id: channel.id,
-        controlled: channel.controlled,
-        size,
+        setting,
         status,
         flow: after,
         sequence,

@@ -1,6 +1,6 @@
 // A channel, by value; its store is lent beside it.
 ghost use mathlib.Core.Path.{_≡_};
-ghost use Rattle.ips_channel.specs.Channel.{freshChannel, queued};
+ghost use Rattle.ips_channel.specs.Channel.{freshChannel, withQueue};
 use flow::Flow;
 use meaning::message::Status;
 use quantity::count::ByteCount;
@@ -8,12 +8,17 @@ use quantity::count::FlowSequence;
 use store::queue;
 use store::queue::Queue;
 
-pub struct Channel {
+// How a channel is configured.
+pub struct Setting {
     pub id: u8,
     // Flow-controlled, or else plain.
     pub controlled: bool,
     // The length of its store.
     pub size: ByteCount,
+}
+
+pub struct Channel {
+    pub setting: Setting,
     // `Absent` while it is not reported.
     pub status: Status,
     pub flow: Flow,
@@ -23,15 +28,13 @@ pub struct Channel {
 }
 
 // A channel that starts: not reported, its first sequence, time 0, nothing waiting.
-pub fn fresh(id: u8, controlled: bool, size: ByteCount, first: FlowSequence) -> Channel
-    ensures { λ r. ⌜ r ≡ freshChannel id controlled size first ⌝ }
+pub fn fresh(setting: Setting, first: FlowSequence) -> Channel
+    ensures { λ r. ⌜ r ≡ freshChannel setting first ⌝ }
 {
-    let flow = flow::first(controlled);
+    let flow = flow::first(setting.controlled);
     let queue = queue::empty();
     Channel {
-        id,
-        controlled,
-        size,
+        setting,
         status: Status::Absent,
         flow,
         sequence: first,
@@ -42,7 +45,7 @@ pub fn fresh(id: u8, controlled: bool, size: ByteCount, first: FlowSequence) -> 
 
 // The channel with what waits on it now, and a time that was accepted.
 pub fn with_queue(channel: Channel, queue: Queue, time: u64) -> Channel
-    ensures { λ r. ⌜ r ≡ queued channel queue time ⌝ }
+    ensures { λ r. ⌜ r ≡ withQueue channel queue time ⌝ }
 {
     let mut left = channel;
     left.queue = queue;

@@ -1,7 +1,7 @@
 -- One channel's calls meet the rules of a channel's life.
 pub mod Leaving
 pub mod Message
-pub mod Offers
-pub mod Asks
+pub mod OfferWays
+pub mod NextWays
 pub mod Again
-pub mod Ran
+pub mod ChannelRan

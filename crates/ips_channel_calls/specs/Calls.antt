@@ -1,4 +1,4 @@
--- What each call on one channel and its store does, by the rules of `Life`: the answer, the channel and every byte of the store.
+-- What a call on one channel and its store does, by the rules of a channel's life: the reply, the channel and every byte of the store.
 use Prim.Native.Nat.{ℕ, _<_}
 use mathlib.Core.Bool.{true}
 use mathlib.Core.List.{List}
@@ -6,95 +6,86 @@ use mathlib.Core.Path.{_≡_}
 use lib.ListN.{length}
 use Rattle.quantity.specs.declared.count.DatalinkId.{DatalinkId}
 use Rattle.quantity.specs.declared.count.FlowSequence.{FlowSequence}
+use Rattle.quantity.specs.declared.refusal.Refusal.{Refusal}
 use Rattle.quantity.specs.Limits.{RESERVED-CHANNEL}
 use Rattle.wire.specs.Options.{over}
 use Rattle.store.specs.Packets.{Packet}
 use Rattle.store.specs.Waiting.{storeOf, wellFormed}
-use Rattle.ips_channel.specs.declared.state.Channel.{Channel}
-use Rattle.ips_channel_calls.specs.declared.offering.OfferAnswer.{OfferAnswer}
-use Rattle.ips_channel_calls.specs.declared.asking.NextAnswer.{NextAnswer}
-use Rattle.ips_channel_calls.specs.declared.offering.Offered.{Offered}
-use Rattle.ips_channel_calls.specs.declared.asking.Asked.{Asked}
+use Rattle.ips_channel_rules.specs.Rules.{ChannelCall, offer, next, withdraw, Taken, taken, Tried, nothingWaiting, notOperational, windowShut, sent, Emptied, emptied, Says, Answer, refused, answered, unlessRefused, Terms, Result, messageBytes, callAt}
 use Rattle.ips_channel_rules.specs.Machine.{machine}
-use Rattle.ips_channel_rules.specs.Life.{Result, Answer, taken, nothingWaiting, notOperational, windowShut, done, sent, refused, messageBytes, offerAt, nextAt, withdrawAt}
-use Rattle.ips_channel.specs.Channel.{stateOf, channelOf}
+use Rattle.ips_channel.specs.declared.state.Channel.{Channel}
+use Rattle.ips_channel.specs.Channel.{termsOf, conditionOf, withCondition}
+use Rattle.ips_channel_calls.specs.declared.offering.OfferAnswer.{OfferAnswer}
+use Rattle.ips_channel_calls.specs.declared.offering.WithdrawAnswer.{WithdrawAnswer}
+use Rattle.ips_channel_calls.specs.declared.asking.NextAnswer.{NextAnswer}
 
--- "changes no state and no lent byte": after a refusal what was there, else what the result leaves
-abbrev pub unlessRefused : {A : Type 0} → Answer → A → A → A
-unlessRefused (refused number) was is = was
-unlessRefused (sent packet sequence) was is = is
-unlessRefused taken was is = is
-unlessRefused nothingWaiting was is = is
-unlessRefused notOperational was is = is
-unlessRefused windowShut was is = is
-unlessRefused done was is = is
+-- ---- each answer of the rules as the code gives it
 
-unfoldable pub channelAfter : Channel → Result machine → Channel
-channelAfter c r = unlessRefused (r .answer) c (channelOf c (r .state))
+-- place: "0 for all others"
+abbrev pub refusedWith : ℕ → Refusal
+refusedWith number = record { number = number; place = 0 }
 
-unfoldable pub storeAfter : Channel → List ℕ → Result machine → List ℕ
-storeAfter c store r = unlessRefused (r .answer) store (storeOf (c .size .0) (r .state .book))
+abbrev pub offerAnswer : Answer Taken → OfferAnswer
+offerAnswer (refused number) = OfferAnswer.Refused (refusedWith number)
+offerAnswer (answered taken) = OfferAnswer.Taken
 
--- each answer of the rules as the code gives it: Offer gives no others than these two, Next none of `taken` and `done`; a refusal's place is 0
-abbrev pub offerAnswer : Answer → OfferAnswer
-offerAnswer (refused number) = OfferAnswer.Refused (record { number = number; place = 0 })
-offerAnswer (sent packet sequence) = OfferAnswer.Taken
-offerAnswer taken = OfferAnswer.Taken
-offerAnswer nothingWaiting = OfferAnswer.Taken
-offerAnswer notOperational = OfferAnswer.Taken
-offerAnswer windowShut = OfferAnswer.Taken
-offerAnswer done = OfferAnswer.Taken
+abbrev pub nextAnswer : Terms → Answer Tried → NextAnswer
+nextAnswer k (refused number) = NextAnswer.Refused (refusedWith number)
+nextAnswer k (answered nothingWaiting) = NextAnswer.NothingWaiting
+nextAnswer k (answered notOperational) = NextAnswer.NotOperational
+nextAnswer k (answered windowShut) = NextAnswer.WindowShut
+nextAnswer k (answered (sent packet sequence)) = NextAnswer.Sent (record { 0 = length (messageBytes k sequence packet) })
 
-abbrev pub nextAnswer : DatalinkId → ℕ → Answer → NextAnswer
-nextAnswer datalink id (refused number) = NextAnswer.Refused (record { number = number; place = 0 })
-nextAnswer datalink id (sent packet sequence) = NextAnswer.Sent (record { 0 = length (messageBytes datalink id sequence packet) })
-nextAnswer datalink id taken = NextAnswer.NothingWaiting
-nextAnswer datalink id nothingWaiting = NextAnswer.NothingWaiting
-nextAnswer datalink id notOperational = NextAnswer.NotOperational
-nextAnswer datalink id windowShut = NextAnswer.WindowShut
-nextAnswer datalink id done = NextAnswer.NothingWaiting
+abbrev pub withdrawAnswer : Answer Emptied → WithdrawAnswer
+withdrawAnswer (refused number) = WithdrawAnswer.Refused (refusedWith number)
+withdrawAnswer (answered emptied) = WithdrawAnswer.Withdrawn
 
 -- the message over the output's first bytes; all other answers "leave the output's bytes as they stood"
-abbrev pub outAfter : DatalinkId → ℕ → Answer → List ℕ → List ℕ
-outAfter datalink id (refused number) out = out
-outAfter datalink id (sent packet sequence) out = over (messageBytes datalink id sequence packet) out
-outAfter datalink id taken out = out
-outAfter datalink id nothingWaiting out = out
-outAfter datalink id notOperational out = out
-outAfter datalink id windowShut out = out
-outAfter datalink id done out = out
+abbrev pub outputAfter : Terms → Answer Tried → List ℕ → List ℕ
+outputAfter k (refused number) out = out
+outputAfter k (answered nothingWaiting) out = out
+outputAfter k (answered notOperational) out = out
+outputAfter k (answered windowShut) out = out
+outputAfter k (answered (sent packet sequence)) out = over (messageBytes k sequence packet) out
 
--- ---- what the functions behind the calls leave
-pub record Leaves (c : Channel) (ps : List Packet) (sequence : FlowSequence) (time : ℕ) (r : Channel) (store′ : List ℕ) : Type 0 where
-  pub channel-is : r ≡ channelOf c (record { meter = record { flow = c .flow; sequence = sequence }; book = ps; status = c .status; latest = time })
-  pub store-is : store′ ≡ storeOf (c .size .0) ps
+-- ---- what the caller gets: the answer, and of Next the output after it
+pub data Reply : Type 0 where
+  offered : OfferAnswer → Reply
+  asked : NextAnswer → (out : List ℕ) → Reply
+  withdrawn : WithdrawAnswer → Reply
+
+abbrev pub replyTo : Terms → (call : ChannelCall) → Answer (Says call) → Reply
+replyTo k (offer packet time) answer = offered (offerAnswer answer)
+replyTo k (next time out) answer = asked (nextAnswer k answer) (outputAfter k answer out)
+replyTo k withdraw answer = withdrawn (withdrawAnswer answer)
+
+-- ---- what a result leaves of the channel and of its store; a refusal "changes no state and no lent byte"
+unfoldable pub channelAfter : {A : Type 0} → Channel → Result machine A → Channel
+channelAfter c r = unlessRefused (r .answer) c (withCondition c (r .condition))
+
+unfoldable pub storeAfter : {A : Type 0} → Channel → List ℕ → Result machine A → List ℕ
+storeAfter c store r = unlessRefused (r .answer) store (storeOf (c .setting .size .0) (r .condition .keeping))
 
 -- ---- what the calls require and do: number 19 has been tested
 pub record Ready (c : Channel) (store : List ℕ) : Type 0 where
-  pub id : c .id < RESERVED-CHANNEL
-  pub well : wellFormed (c .queue) (c .size .0) ≡ true
-  pub size : length store ≡ c .size .0
+  pub id : c .setting .id < RESERVED-CHANNEL
+  pub well : wellFormed (c .queue) (c .setting .size .0) ≡ true
+  pub size : length store ≡ c .setting .size .0
 
-abbrev pub offerResult : Channel → List ℕ → Packet → ℕ → Result machine
-offerResult c store p time = offerAt machine (c .size .0) p time (stateOf c store)
+-- by the rules
+abbrev pub resultOf : DatalinkId → (call : ChannelCall) → Channel → List ℕ → Result machine (Says call)
+resultOf datalink call c store = callAt machine (termsOf datalink (c .setting)) call (conditionOf c store)
 
-pub record Offers (c : Channel) (store : List ℕ) (p : Packet) (time : ℕ) (r : Offered) (store′ : List ℕ) : Type 0 where
-  pub answer-is : r .answer ≡ offerAnswer (offerResult c store p time .answer)
-  pub channel-is : r .channel ≡ channelAfter c (offerResult c store p time)
-  pub store-is : store′ ≡ storeAfter c store (offerResult c store p time)
+pub record Serves (datalink : DatalinkId) (call : ChannelCall) (c : Channel) (store : List ℕ) (reply : Reply) (c′ : Channel) (store′ : List ℕ) : Type 0 where
+  pub reply-is : reply ≡ replyTo (termsOf datalink (c .setting)) call (resultOf datalink call c store .answer)
+  pub channel-is : c′ ≡ channelAfter c (resultOf datalink call c store)
+  pub store-is : store′ ≡ storeAfter c store (resultOf datalink call c store)
 
-abbrev pub nextResult : Channel → List ℕ → DatalinkId → (time room : ℕ) → Result machine
-nextResult c store datalink time room = nextAt machine datalink (c .id) time room (stateOf c store)
+-- a call that sends nothing comes to the same on every datalink
+abbrev pub ServesAnywhere : ChannelCall → Channel → List ℕ → Reply → Channel → List ℕ → Type 0
+ServesAnywhere call c store reply c′ store′ = (datalink : DatalinkId) → Serves datalink call c store reply c′ store′
 
-pub record Asks (c : Channel) (store : List ℕ) (datalink : DatalinkId) (time : ℕ) (out : List ℕ) (r : Asked) (store′ out′ : List ℕ) : Type 0 where
-  pub answer-is : r .answer ≡ nextAnswer datalink (c .id) (nextResult c store datalink time (length out) .answer)
-  pub channel-is : r .channel ≡ channelAfter c (nextResult c store datalink time (length out))
-  pub store-is : store′ ≡ storeAfter c store (nextResult c store datalink time (length out))
-  pub out-is : out′ ≡ outAfter datalink (c .id) (nextResult c store datalink time (length out) .answer) out
-
-abbrev pub withdrawResult : Channel → List ℕ → Result machine
-withdrawResult c store = withdrawAt machine (stateOf c store)
-
-pub record Withdraws (c : Channel) (store : List ℕ) (r : Channel) (store′ : List ℕ) : Type 0 where
-  pub channel-is : r ≡ channelAfter c (withdrawResult c store)
-  pub store-is : store′ ≡ storeAfter c store (withdrawResult c store)
+-- ---- what the functions behind Next leave
+pub record LeftWith (c : Channel) (ps : List Packet) (sequence : FlowSequence) (time : ℕ) (c′ : Channel) (store′ : List ℕ) : Type 0 where
+  pub channel-is : c′ ≡ withCondition c (record { counting = record { flow = c .flow; sequence = sequence }; keeping = ps; status = c .status; latest = time })
+  pub store-is : store′ ≡ storeOf (c .setting .size .0) ps

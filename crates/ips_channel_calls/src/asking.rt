@@ -6,10 +6,13 @@ ghost use lib.ListN.{length};
 ghost use Rattle.writer.specs.Written.{Outcome};
 ghost use Rattle.store.specs.Packets.{alive, firstBytes};
 ghost use Rattle.store.specs.Waiting.{packetsOf};
-ghost use Rattle.ips_channel_rules.specs.Life.{countedOn, messageOf, messageBytes};
-ghost use Rattle.ips_channel_calls.specs.Calls.{Ready, Asks, Leaves};
+ghost use Rattle.ips_channel_rules.specs.Rules as rules;
+ghost use Rattle.ips_channel_rules.specs.Rules.{countedOn, messageOf, messageBytes};
+ghost use Rattle.ips_channel.specs.Channel.{termsOf};
+ghost use Rattle.ips_channel_calls.specs.Calls.{refusedWith, asked, Ready, Serves, LeftWith};
 use ips_channel::state;
 use ips_channel::state::Channel;
+use ips_channel::state::Setting;
 use meaning::message;
 use meaning::message::Counted;
 use meaning::message::Data;
@@ -35,15 +38,16 @@ pub enum NextAnswer {
     Refused(Refusal),
 }
 
-pub struct Asked {
+// The answer, and the channel then.
+pub struct NextOutcome {
     pub answer: NextAnswer,
     pub channel: Channel,
 }
 
-fn refused(channel: Channel, number: u8) -> Asked
-    ensures { λ r. ⌜ r ≡ record { answer = NextAnswer.Refused (record { number = number; place = 0 }); channel = channel } ⌝ }
+fn refused(channel: Channel, number: u8) -> NextOutcome
+    ensures { λ r. ⌜ r ≡ record { answer = NextAnswer.Refused (refusedWith number); channel = channel } ⌝ }
 {
-    Asked {
+    NextOutcome {
         answer: NextAnswer::Refused(Refusal { number, place: 0 }),
         channel,
     }
@@ -62,7 +66,7 @@ fn first_length(channel: Channel, store: &[u8], time: u64) -> ByteCount
 // The expired packets leave, and no other.
 fn expired(channel: Channel, store: &mut [u8], time: u64) -> Channel
     requires { ⌜ Ready channel (now store) ⌝ }
-    ensures { λ r. ⌜ Leaves channel (alive time (packetsOf (channel .queue) (now (store .entry)))) (channel .sequence) time r (now (store .exit)) ⌝ }
+    ensures { λ r. ⌜ LeftWith channel (alive time (packetsOf (channel .queue) (now (store .entry)))) (channel .sequence) time r (now (store .exit)) ⌝ }
 {
     let queue = channel.queue;
     let left = waiting::expire(queue, store, time);
@@ -72,7 +76,7 @@ fn expired(channel: Channel, store: &mut [u8], time: u64) -> Channel
 // The expired packets leave, and the first of the others, which is counted.
 fn sent(channel: Channel, store: &mut [u8], sequence: FlowSequence, time: u64) -> Channel
     requires { ⌜ Ready channel (now store) ⌝ }
-    ensures { λ r. ⌜ Leaves channel (tail (alive time (packetsOf (channel .queue) (now (store .entry))))) sequence time r (now (store .exit)) ⌝ }
+    ensures { λ r. ⌜ LeftWith channel (tail (alive time (packetsOf (channel .queue) (now (store .entry))))) sequence time r (now (store .exit)) ⌝ }
 {
     let queue = channel.queue;
     let left = waiting::pop(queue, store, time);
@@ -91,14 +95,14 @@ fn counted_on(id: u8, sequence: Sequence) -> Counted
 }
 
 // The message that carries the first packet.
-fn carrier(datalink: DatalinkId, id: u8, sequence: Sequence) -> Data
-    ensures { λ r. ⌜ r ≡ messageOf datalink id sequence ⌝ }
+fn carrier(datalink: DatalinkId, setting: Setting, sequence: Sequence) -> Data
+    ensures { λ r. ⌜ r ≡ messageOf (termsOf datalink setting) sequence ⌝ }
 {
-    let counted = counted_on(id, sequence);
+    let counted = counted_on(setting.id, sequence);
     Data {
         datalink: Datalink::Given(datalink),
         sequence: counted,
-        channel: message::Channel::Given(id),
+        channel: message::Channel::Given(setting.id),
         expiration: Expiration::Absent,
     }
 }
@@ -113,16 +117,12 @@ fn write_first(
     out: &mut [u8],
 ) -> WriteAnswer
     requires { ⌜ Ready channel (now store) ⌝ }
-    ensures { λ r. ⌜ Outcome true (messageBytes datalink (channel .id) sequence (firstBytes (alive time (packetsOf (channel .queue) (now (store .entry)))))) (now (out .entry)) r (now (out .exit)) ⌝ }
+    ensures { λ r. ⌜ Outcome true (messageBytes (termsOf datalink (channel .setting)) sequence (firstBytes (alive time (packetsOf (channel .queue) (now (store .entry)))))) (now (out .entry)) r (now (out .exit)) ⌝ }
 {
     let queue = channel.queue;
     let packet = waiting::peek(queue, store, time);
-    writer::data::write(
-        End::Ips,
-        carrier(datalink, channel.id, sequence),
-        packet,
-        out,
-    )
+    let setting = channel.setting;
+    writer::data::write(End::Ips, carrier(datalink, setting, sequence), packet, out)
 }
 
 // 15, then the three answers in their order, then 18 where there is a message to write.
@@ -132,9 +132,9 @@ pub fn next(
     datalink: DatalinkId,
     time: u64,
     out: &mut [u8],
-) -> Asked
+) -> NextOutcome
     requires { ⌜ Ready channel (now store) ⌝ }
-    ensures { λ r. ⌜ Asks channel (now (store .entry)) datalink time (now (out .entry)) r (now (store .exit)) (now (out .exit)) ⌝ }
+    ensures { λ r. ⌜ Serves datalink (rules.next time (now (out .entry))) channel (now (store .entry)) (asked (r .answer) (now (out .exit))) (r .channel) (now (store .exit)) ⌝ }
 {
     if time < channel.latest {
         return refused(channel, refusal::EARLIER_TIME);
@@ -144,13 +144,13 @@ pub fn next(
     let code = channel.status;
     let operational = status::is_operational(code);
     if first == 0 {
-        return Asked {
+        return NextOutcome {
             answer: NextAnswer::NothingWaiting,
             channel: expired(channel, store, time),
         };
     }
     if !operational {
-        return Asked {
+        return NextOutcome {
             answer: NextAnswer::NotOperational,
             channel: expired(channel, store, time),
         };
@@ -158,7 +158,7 @@ pub fn next(
     let rule = channel.flow;
     let sequence = channel.sequence;
     if !flow::may_go(rule, sequence, bytes) {
-        return Asked {
+        return NextOutcome {
             answer: NextAnswer::WindowShut,
             channel: expired(channel, store, time),
         };
@@ -169,7 +169,7 @@ pub fn next(
     else {
         return refused(channel, refusal::NO_ROOM);
     };
-    Asked {
+    NextOutcome {
         answer: NextAnswer::Sent(length),
         channel: sent(channel, store, after, time),
     }

@@ -1,7 +1,8 @@
 // Offer and Withdraw, on a channel and its store. Number 19 was tested, and the channel found: `Ready` is what that gives.
 ghost use mathlib.Core.Path.{_≡_};
 ghost use Rattle.store.specs.Packets.{packetFor};
-ghost use Rattle.ips_channel_calls.specs.Calls.{Ready, Offers, Withdraws};
+ghost use Rattle.ips_channel_rules.specs.Rules as rules;
+ghost use Rattle.ips_channel_calls.specs.Calls.{refusedWith, offered, withdrawn, Ready, ServesAnywhere};
 use ips_channel::state;
 use ips_channel::state::Channel;
 use quantity::limit::LONGEST_PACKET;
@@ -14,25 +15,37 @@ pub enum OfferAnswer {
     Refused(Refusal),
 }
 
+// A channel that is found gives `Withdrawn`; 19 and 12 are given before.
+pub enum WithdrawAnswer {
+    Withdrawn,
+    Refused(Refusal),
+}
+
 // The answer, and the channel then.
-pub struct Offered {
+pub struct OfferOutcome {
     pub answer: OfferAnswer,
     pub channel: Channel,
 }
 
-fn refused(channel: Channel, number: u8) -> Offered
-    ensures { λ r. ⌜ r ≡ record { answer = OfferAnswer.Refused (record { number = number; place = 0 }); channel = channel } ⌝ }
+fn refused(channel: Channel, number: u8) -> OfferOutcome
+    ensures { λ r. ⌜ r ≡ record { answer = OfferAnswer.Refused (refusedWith number); channel = channel } ⌝ }
 {
-    Offered {
+    OfferOutcome {
         answer: OfferAnswer::Refused(Refusal { number, place: 0 }),
         channel,
     }
 }
 
 // 13 to 16, then the store's own judgement, 17, which changes nothing where it refuses.
-pub fn offer(channel: Channel, store: &mut [u8], packet: &[u8], expiry: u64, time: u64) -> Offered
+pub fn offer(
+    channel: Channel,
+    store: &mut [u8],
+    packet: &[u8],
+    expiry: u64,
+    time: u64,
+) -> OfferOutcome
     requires { ⌜ Ready channel (now store) ⌝ }
-    ensures { λ r. ⌜ Offers channel (now (store .entry)) (packetFor (now (packet .entry)) expiry) time r (now (store .exit)) ⌝ }
+    ensures { λ r. ⌜ ServesAnywhere (rules.offer (packetFor (now (packet .entry)) expiry) time) channel (now (store .entry)) (offered (r .answer)) (r .channel) (now (store .exit)) ⌝ }
 {
     if !ipv6::is_ipv6(packet) {
         return refused(channel, refusal::NOT_IPV6);
@@ -53,7 +66,7 @@ pub fn offer(channel: Channel, store: &mut [u8], packet: &[u8], expiry: u64, tim
         return refused(channel, refusal::FULL);
     }
     let left = offered.queue;
-    Offered {
+    OfferOutcome {
         answer: OfferAnswer::Taken,
         channel: state::with_queue(channel, left, time),
     }
@@ -62,7 +75,7 @@ pub fn offer(channel: Channel, store: &mut [u8], packet: &[u8], expiry: u64, tim
 // All packets leave; the latest time stays.
 pub fn withdraw(channel: Channel, store: &mut [u8]) -> Channel
     requires { ⌜ Ready channel (now store) ⌝ }
-    ensures { λ r. ⌜ Withdraws channel (now (store .entry)) r (now (store .exit)) ⌝ }
+    ensures { λ r. ⌜ ServesAnywhere rules.withdraw channel (now (store .entry)) (withdrawn WithdrawAnswer.Withdrawn) r (now (store .exit)) ⌝ }
 {
     let empty = waiting::clear(store);
     state::with_queue(channel, empty, channel.latest)

@@ -5,27 +5,27 @@ use mathlib.Core.List.{List, [], _∷_, _++_, map, tail}
 use mathlib.Core.Path.{_≡_, refl, sym, ap, subst, _∙_}
 use lib.Dec.{T}
 use borrow.Author.Tests.{lt-ltb, le-ltb}
+use Rattle.facts.proofs.Tests.{by-le}
 use Rattle.quantity.specs.declared.count.FlowSequence.{FlowSequence}
 use Rattle.quantity.specs.declared.count.ByteCount.{ByteCount}
 use Rattle.quantity.specs.Window.{sequenceAt}
-use Rattle.quantity.proofs.Tests.{by-le}
 use Rattle.quantity.proofs.Window.{fits-is, stands-on, standing-stands, advance-is, sequence-start}
 use Rattle.meaning.specs.declared.message.Status.{Status}
 use Rattle.meaning.specs.declared.message.Window.{Window}
-use Rattle.store.specs.Packets.{Packet, lastsAt, lasting, alive}
+use Rattle.store.specs.Packets.{Packet, lastsAt, lasting, alive, isFull}
 use Rattle.flow.specs.declared.Flow.{Flow}
 use Rattle.flow.specs.Counting.{mayGo, sequenceOn, carriedBy, flowAfter}
-use Rattle.ips_channel_rules.specs.Life.{Event, Setting, State, step, answers, final}
-use Rattle.ips_channel_rules.specs.Machine.{Meter, machine, freshMachine}
+use Rattle.ips_channel_rules.specs.Rules.{Event, Terms, Condition, step, happens, history, final}
+use Rattle.ips_channel_rules.specs.Machine.{WordCounter, machine, freshMachine}
 use Rattle.ips_channel_rules.specs.Simple.{Limit, free, none, Counter, fitsBelow, countOn, carriedAt, limitAt, waits, withdrawn, Entry, isWaiting, having, become, due, sendFirst, simple, freshSimple}
 use Rattle.ips_channel_rules.specs.Agreement.{SameFlow, both-free, both-none, both-in-force, Agrees}
 use Rattle.ips_channel_rules.proofs.Entries.{entry, by-entry}
-use Rattle.ips_channel_rules.proofs.Alike.{Alike, Related, related, step-same, answers-same, final-same}
+use Rattle.ips_channel_rules.proofs.Alike.{Alike, Related, related, step-same, happens-same, history-same, final-same}
 
 -- ---- counting
 
 -- the part of `Agrees` that is about counting
-record Counts (m : Meter) (x : Counter) : Type 0 where
+record Counts (m : WordCounter) (x : Counter) : Type 0 where
   pub sequence : m .sequence ≡ sequenceAt (x .count)
   pub flow : SameFlow (x .count) (m .flow) (x .limit)
 
@@ -54,7 +54,7 @@ hear-flow c Window.Absent = both-free
 hear-flow c Window.Empty = both-none
 hear-flow c (Window.Given w) = both-in-force (standing-stands c w)
 
-module _ (m : Meter) (x : Counter) (h : Counts m x) where
+module _ (m : WordCounter) (x : Counter) (h : Counts m x) where
   fits-counts : (n : ByteCount) → machine .fits m n ≡ simple .fits x n
   fits-counts n = rw (h .sequence) (fits-flow (x .count) n _ _ (h .flow))
 
@@ -94,8 +94,8 @@ clear-waiting = by-entry (λ es. [] ≡ having isWaiting (map (become (λ p. wit
 abbrev alike : Alike machine simple
 alike =
     record {
-      Meters = Counts;
-      Books = λ ps es. ps ≡ having isWaiting es;
+      Counts = Counts;
+      Keeps = λ ps es. ps ≡ having isWaiting es;
       fits-same = fits-counts;
       grow-on = grow-counts;
       carried-same = carried-counts;
@@ -105,30 +105,32 @@ alike =
       join-on = λ ps es r p. ap (λ (l : List Packet). l ++ (p ∷ [])) r ∙ join-waiting p es;
       send-on = λ ps es r. ap tail r ∙ send-waiting es;
       clear-on = λ ps es r. clear-waiting es;
+      longest-same = λ k. refl;
+      full-same = λ k ps es r p. ap (λ (l : List Packet). isFull (k .size) l p) r;
     }
 
-agrees : (c : State machine) (s : State simple) → Related alike c s → Agrees c s
+agrees : (c : Condition machine) (s : Condition simple) → Related alike c s → Agrees c s
 agrees _ _ (related m r) = record { sequence = m .sequence; flow = m .flow; waiting = r; status = refl; latest = refl }
 
-agreed : (c : State machine) (s : State simple) → Agrees c s → Related alike c s
+agreed : (c : Condition machine) (s : Condition simple) → Agrees c s → Related alike c s
 agreed c s h =
-    subst (λ (y : Status). Related alike c (record { meter = s .meter; book = s .book; status = y; latest = s .latest })) (h .status)
-    (subst (λ (t : ℕ). Related alike c (record { meter = s .meter; book = s .book; status = c .status; latest = t })) (h .latest)
+    subst (λ (y : Status). Related alike c (record { counting = s .counting; keeping = s .keeping; status = y; latest = s .latest })) (h .status)
+    (subst (λ (t : ℕ). Related alike c (record { counting = s .counting; keeping = s .keeping; status = c .status; latest = t })) (h .latest)
     (related (record { sequence = h .sequence; flow = h .flow }) (h .waiting)))
 
--- ---- from states that agree, the same answers, and again states that agree
-module _ (k : Setting) where
-  -- one call
-  pub agrees-step : (e : Event) (c : State machine) (s : State simple) → Agrees c s → Agrees (step machine k e c .state) (step simple k e s .state)
-  agrees-step e c s h = agrees _ _ (step-same alike k e c s (agreed c s h) .state)
+-- ---- from conditions that agree the same happens, and again conditions that agree are left
+module _ (k : Terms) where
+  -- one event
+  pub agrees-step : (e : Event) (c : Condition machine) (s : Condition simple) → Agrees c s → Agrees (step machine k e c) (step simple k e s)
+  agrees-step e c s h = agrees _ _ (step-same alike k e c s (agreed c s h))
 
-  pub agrees-answer : (e : Event) (c : State machine) (s : State simple) → Agrees c s → step machine k e c .answer ≡ step simple k e s .answer
-  agrees-answer e c s h = step-same alike k e c s (agreed c s h) .answer
+  pub agrees-happens : (e : Event) (c : Condition machine) (s : Condition simple) → Agrees c s → happens machine k e c ≡ happens simple k e s
+  agrees-happens e c s h = happens-same alike k e c s (agreed c s h)
 
-  module _ (es : List Event) (c : State machine) (s : State simple) (h : Agrees c s) where
-    -- any calls
-    pub agrees-answers : answers machine k es c ≡ answers simple k es s
-    agrees-answers = answers-same alike k es c s (agreed c s h)
+  module _ (es : List Event) (c : Condition machine) (s : Condition simple) (h : Agrees c s) where
+    -- any events
+    pub agrees-history : history machine k es c ≡ history simple k es s
+    agrees-history = history-same alike k es c s (agreed c s h)
 
     pub agrees-final : Agrees (final machine k es c) (final simple k es s)
     agrees-final = agrees _ _ (final-same alike k es c s (agreed c s h))
@@ -143,10 +145,10 @@ first-flow false count = both-free
 pub fresh-agrees : (controlled : Bool) (first : FlowSequence) → first .0 < 2 ^ 32 → Agrees (freshMachine controlled first) (freshSimple controlled first)
 fresh-agrees controlled first small = record { sequence = sym (sequence-start first small); flow = first-flow controlled (first .0); waiting = refl; status = refl; latest = refl }
 
-module _ (k : Setting) (first : FlowSequence) (small : first .0 < 2 ^ 32) (es : List Event) where
+module _ (k : Terms) (first : FlowSequence) (small : first .0 < 2 ^ 32) (es : List Event) where
   -- demand 3: whatever is called, every answer is the simple channel's
-  pub same-answers : answers machine k es (freshMachine (k .controlled) first) ≡ answers simple k es (freshSimple (k .controlled) first)
-  same-answers = agrees-answers k es _ _ (fresh-agrees (k .controlled) first small)
+  pub same-history : history machine k es (freshMachine (k .controlled) first) ≡ history simple k es (freshSimple (k .controlled) first)
+  same-history = agrees-history k es _ _ (fresh-agrees (k .controlled) first small)
 
   -- and where they end agrees: the sequence is the count's low 32 bits, the window stands for the number, what waits is what the ledger has waiting
   pub same-end : Agrees (final machine k es (freshMachine (k .controlled) first)) (final simple k es (freshSimple (k .controlled) first))

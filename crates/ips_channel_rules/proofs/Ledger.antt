@@ -5,9 +5,9 @@ use mathlib.Core.List.{List, [], _∷_, _++_, map, append-nil, append-assoc, map
 use mathlib.Core.Path.{_≡_, refl, sym, ap, _∙_}
 use native.Mathlib.Omega.{arith}
 use borrow.Author.Tests.{lt-ltb, le-ltb}
-use Rattle.quantity.proofs.Tests.{by-le}
+use Rattle.facts.proofs.Tests.{by-le}
 use Rattle.store.specs.Packets.{Packet}
-use Rattle.ips_channel_rules.specs.Life.{Event, offer, next, withdraw, radio, Answer, refused, Setting, State, step, answers, final}
+use Rattle.ips_channel_rules.specs.Rules.{Event, Happened, Terms, Condition, step, history, final}
 use Rattle.ips_channel_rules.specs.Simple.{Fate, waits, sent, expired, withdrawn, Entry, isWaiting, isSent, having, become, due, sendFirst, simple}
 use Rattle.ips_channel_rules.specs.Fates.{byTime}
 use Rattle.ips_channel_rules.specs.Account.{tookBy, takenIn, handedBy, handedOver, fairly, Fair}
@@ -32,28 +32,22 @@ packets-become new es = map-map _ (become new) es
 packets-send : (es : List Entry) → packets (sendFirst es) ≡ packets es
 packets-send = by-entry (λ es. packets (sendFirst es) ≡ packets es) refl (λ p es h. refl) (λ p es h. rw h) (λ p es h. rw h) (λ p es h. rw h)
 
-took-refused : (e : Event) (number : ℕ) → tookBy e (refused number) ≡ []
-took-refused (offer p time) number = refl
-took-refused (next time room) number = refl
-took-refused withdraw number = refl
-took-refused (radio status window) number = refl
-
-module _ (k : Setting) where
-  packets-step : {e : Event} {st : State simple} {a : Answer} {st′ : State simple} → Leaves simple k e st a st′ → packets (st′ .book) ≡ packets (st .book) ++ tookBy e a
-  packets-step (stays {e} {number}) = rw (took-refused e number) (sym (append-nil _))
-  packets-step (joins {p} {time} {st} t x) = map-append _ (aged time (st .book)) _ ∙ ap (λ (l : List Packet). l ++ (p ∷ [])) (packets-become (due time) (st .book))
-  packets-step (looks {time} {st} n t) = packets-become (due time) (st .book) ∙ sym (append-nil _)
-  packets-step (sends {time} {st} t w f) = packets-send (aged time (st .book)) ∙ packets-become (due time) (st .book) ∙ sym (append-nil _)
-  packets-step (clears {st}) = packets-become (λ p. withdrawn) (st .book) ∙ sym (append-nil _)
+module _ (k : Terms) where
+  packets-step : {e : Event} {st : Condition simple} {h : Happened} {st′ : Condition simple} → Leaves simple k e st h st′ → packets (st′ .keeping) ≡ packets (st .keeping) ++ tookBy h
+  packets-step stays = sym (append-nil _)
+  packets-step (joins {p} {time} {st} t x) = map-append _ (aged time (st .keeping)) _ ∙ ap (λ (l : List Packet). l ++ (p ∷ [])) (packets-become (due time) (st .keeping))
+  packets-step (looks {time} {st} n t) = packets-become (due time) (st .keeping) ∙ sym (append-nil _)
+  packets-step (sends {time} {st} t w f) = packets-send (aged time (st .keeping)) ∙ packets-become (due time) (st .keeping) ∙ sym (append-nil _)
+  packets-step (clears {st}) = packets-become (λ p. withdrawn) (st .keeping) ∙ sym (append-nil _)
   packets-step hears = sym (append-nil _)
 
   -- "Every packet taken in"
-  pub ledger-is-taken : (es : List Event) (st : State simple)
-      → map (λ (e : Entry). e .packet) (final simple k es st .book) ≡ map (λ (e : Entry). e .packet) (st .book) ++ takenIn es (answers simple k es st)
+  pub ledger-is-taken : (es : List Event) (st : Condition simple)
+      → map (λ (e : Entry). e .packet) (final simple k es st .keeping) ≡ map (λ (e : Entry). e .packet) (st .keeping) ++ takenIn (history simple k es st)
   ledger-is-taken [] st = sym (append-nil _)
   ledger-is-taken (e ∷ es) st =
-      let after = step simple k e st .state in
-      ledger-is-taken es after ∙ ap (λ (l : List Packet). l ++ takenIn es (answers simple k es after)) (packets-step (leaves simple k e st)) ∙ append-assoc (packets (st .book)) _ _
+      let after = step simple k e st in
+      ledger-is-taken es after ∙ ap (λ (l : List Packet). l ++ takenIn (history simple k es after)) (packets-step (leaves simple k e st)) ∙ append-assoc (packets (st .keeping)) _ _
 
 -- ---- those the ledger has as sent are the packets handed over, each once, in the order they came
 
@@ -114,38 +108,38 @@ sent-aged time = sent-become (due time) (due-unsent time)
 ordered-aged : (time : ℕ) (es : List Entry) → Ordered es → Ordered (aged time es)
 ordered-aged time = ordered-become (due time) (due-unsent time)
 
-module _ (k : Setting) where
-  ordered-step : {e : Event} {st : State simple} {a : Answer} {st′ : State simple} → Leaves simple k e st a st′ → Ordered (st .book) → Ordered (st′ .book)
+module _ (k : Terms) where
+  ordered-step : {e : Event} {st : Condition simple} {h : Happened} {st′ : Condition simple} → Leaves simple k e st h st′ → Ordered (st .keeping) → Ordered (st′ .keeping)
   ordered-step stays o = o
-  ordered-step (joins {p} {time} {st} t x) o = ordered-join p (aged time (st .book)) (ordered-aged time (st .book) o)
-  ordered-step (looks {time} {st} n t) o = ordered-aged time (st .book) o
-  ordered-step (sends {time} {st} t w f) o = ordered-send (aged time (st .book)) (ordered-aged time (st .book) o)
-  ordered-step (clears {st}) o = ordered-become (λ p. withdrawn) (λ p. refl) (st .book) o
+  ordered-step (joins {p} {time} {st} t x) o = ordered-join p (aged time (st .keeping)) (ordered-aged time (st .keeping) o)
+  ordered-step (looks {time} {st} n t) o = ordered-aged time (st .keeping) o
+  ordered-step (sends {time} {st} t w f) o = ordered-send (aged time (st .keeping)) (ordered-aged time (st .keeping) o)
+  ordered-step (clears {st}) o = ordered-become (λ p. withdrawn) (λ p. refl) (st .keeping) o
   ordered-step hears o = o
 
   -- it stays so, whatever is called: `ledger-is-sent` can be said from any moment on
-  pub ordered-always : (es : List Event) (st : State simple) → Ordered (st .book) → Ordered (final simple k es st .book)
-  ordered-always = kept simple k (λ st. Ordered (st .book)) (λ e st. ordered-step (leaves simple k e st))
+  pub ordered-always : (es : List Event) (st : Condition simple) → Ordered (st .keeping) → Ordered (final simple k es st .keeping)
+  ordered-always = kept simple k (λ st. Ordered (st .keeping)) (λ e st. ordered-step (leaves simple k e st))
 
-  sent-step : {e : Event} {st : State simple} {a : Answer} {st′ : State simple} → Leaves simple k e st a st′ → Ordered (st .book)
-      → sentBytes (st′ .book) ≡ sentBytes (st .book) ++ handedBy a
+  sent-step : {e : Event} {st : Condition simple} {h : Happened} {st′ : Condition simple} → Leaves simple k e st h st′ → Ordered (st .keeping)
+      → sentBytes (st′ .keeping) ≡ sentBytes (st .keeping) ++ handedBy h
   sent-step stays o = sym (append-nil _)
-  sent-step (joins {p} {time} {st} t x) o = rw (sent-join p (aged time (st .book)), sent-aged time (st .book)) (sym (append-nil _))
-  sent-step (looks {time} {st} n t) o = rw (n, sent-aged time (st .book)) (sym (append-nil _))
+  sent-step (joins {p} {time} {st} t x) o = rw (sent-join p (aged time (st .keeping)), sent-aged time (st .keeping)) (sym (append-nil _))
+  sent-step (looks {time} {st} n t) o = rw (n, sent-aged time (st .keeping)) (sym (append-nil _))
   sent-step (sends {time} {st} {p} {ps} t w f) o =
-      rw (sent-send p ps (aged time (st .book)) (ordered-aged time (st .book) o) w, sent-aged time (st .book))
-      (map-append _ (having isSent (st .book)) (p ∷ []))
-  sent-step (clears {st}) o = rw (sent-become (λ p. withdrawn) (λ p. refl) (st .book)) (sym (append-nil _))
+      rw (sent-send p ps (aged time (st .keeping)) (ordered-aged time (st .keeping) o) w, sent-aged time (st .keeping))
+      (map-append _ (having isSent (st .keeping)) (p ∷ []))
+  sent-step (clears {st}) o = rw (sent-become (λ p. withdrawn) (λ p. refl) (st .keeping)) (sym (append-nil _))
   sent-step hears o = sym (append-nil _)
 
   -- "those sent on a channel leave in the order they came"
-  pub ledger-is-sent : (es : List Event) (st : State simple) → Ordered (st .book)
-      → map (λ (p : Packet). p .bytes) (having isSent (final simple k es st .book)) ≡ map (λ (p : Packet). p .bytes) (having isSent (st .book)) ++ handedOver (answers simple k es st)
+  pub ledger-is-sent : (es : List Event) (st : Condition simple) → Ordered (st .keeping)
+      → map (λ (p : Packet). p .bytes) (having isSent (final simple k es st .keeping)) ≡ map (λ (p : Packet). p .bytes) (having isSent (st .keeping)) ++ handedOver (history simple k es st)
   ledger-is-sent [] st o = sym (append-nil _)
   ledger-is-sent (e ∷ es) st o =
-      let after = step simple k e st .state in
+      let after = step simple k e st in
       let l = leaves simple k e st in
-      ledger-is-sent es after (ordered-step l o) ∙ ap (λ (l : List (List ℕ)). l ++ handedOver (answers simple k es after)) (sent-step l o) ∙ append-assoc (sentBytes (st .book)) _ _
+      ledger-is-sent es after (ordered-step l o) ∙ ap (λ (l : List (List ℕ)). l ++ handedOver (history simple k es after)) (sent-step l o) ∙ append-assoc (sentBytes (st .keeping)) _ _
 
 -- ---- time: what waits is not due at the channel's latest time, what expired was
 
@@ -163,8 +157,8 @@ due-fair time p = by (due time p) (due-by-time time p)
     by sent l = tt
     by withdrawn l = tt
 
-fair-aged : (time : ℕ) (st : State simple) → st .latest ≤ time → Fair (st .latest) (st .book) → Fair time (aged time (st .book))
-fair-aged time st t = fair-become (due time) (st .latest) time t (due-fair time) (st .book)
+fair-aged : (time : ℕ) (st : Condition simple) → st .latest ≤ time → Fair (st .latest) (st .keeping) → Fair time (aged time (st .keeping))
+fair-aged time st t = fair-become (due time) (st .latest) time t (due-fair time) (st .keeping)
 
 fair-join : (time : ℕ) (p : Packet) → time < p .expiry → (es : List Entry) → Fair time es → Fair time (es ++ (entry p waits ∷ []))
 fair-join time p x [] f = (x, tt)
@@ -174,15 +168,15 @@ fair-send : (time : ℕ) (es : List Entry) → Fair time es → Fair time (sendF
 fair-send time =
     by-entry (λ es. Fair time es → Fair time (sendFirst es)) (λ f. tt) (λ p es h f. (tt, f .1)) (λ p es h f. (tt, h (f .1))) (λ p es h f. (f .0, h (f .1))) (λ p es h f. (tt, h (f .1)))
 
-module _ (k : Setting) where
-  fair-step : {e : Event} {st : State simple} {a : Answer} {st′ : State simple} → Leaves simple k e st a st′ → Fair (st .latest) (st .book) → Fair (st′ .latest) (st′ .book)
+module _ (k : Terms) where
+  fair-step : {e : Event} {st : Condition simple} {h : Happened} {st′ : Condition simple} → Leaves simple k e st h st′ → Fair (st .latest) (st .keeping) → Fair (st′ .latest) (st′ .keeping)
   fair-step stays f = f
-  fair-step (joins {p} {time} {st} t x) f = fair-join time p x (aged time (st .book)) (fair-aged time st t f)
+  fair-step (joins {p} {time} {st} t x) f = fair-join time p x (aged time (st .keeping)) (fair-aged time st t f)
   fair-step (looks {time} {st} n t) f = fair-aged time st t f
-  fair-step (sends {time} {st} t w g) f = fair-send time (aged time (st .book)) (fair-aged time st t f)
-  fair-step (clears {st}) f = fair-become (λ p. withdrawn) (st .latest) (st .latest) (omega arith) (λ p. tt) (st .book) f
+  fair-step (sends {time} {st} t w g) f = fair-send time (aged time (st .keeping)) (fair-aged time st t f)
+  fair-step (clears {st}) f = fair-become (λ p. withdrawn) (st .latest) (st .latest) (omega arith) (λ p. tt) (st .keeping) f
   fair-step hears f = f
 
   -- "every packet of that channel whose expiry is at or before the time given is expired", and no other
-  pub fair-always : (es : List Event) (st : State simple) → Fair (st .latest) (st .book) → Fair (final simple k es st .latest) (final simple k es st .book)
-  fair-always = kept simple k (λ st. Fair (st .latest) (st .book)) (λ e st. fair-step (leaves simple k e st))
+  pub fair-always : (es : List Event) (st : Condition simple) → Fair (st .latest) (st .keeping) → Fair (final simple k es st .latest) (final simple k es st .keeping)
+  fair-always = kept simple k (λ st. Fair (st .latest) (st .keeping)) (λ e st. fair-step (leaves simple k e st))

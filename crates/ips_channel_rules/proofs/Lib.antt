@@ -1,5 +1,6 @@
 -- The simple channel, and that every channel equals it.
 pub mod Exact
+pub mod Limits
 pub mod Alike
 pub mod Entries
 pub mod Agree
@@ -8,3 +9,6 @@ pub mod Ledger
 pub mod Fates
 pub mod Account
 pub mod Within
+pub mod FlowCases
+pub mod Lives
+pub mod CallCases

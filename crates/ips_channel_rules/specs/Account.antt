@@ -5,45 +5,44 @@ use mathlib.Core.List.{List, [], _∷_, _++_, map}
 use mathlib.Core.Path.{_≡_}
 use lib.ListN.{length}
 use Rattle.store.specs.Packets.{Packet}
-use Rattle.ips_channel_rules.specs.Life.{Event, offer, next, withdraw, radio, Answer, taken, nothingWaiting, notOperational, windowShut, done, sent, refused}
+use Rattle.ips_channel_rules.specs.Rules.{offer, next, withdraw, taken, Tried, nothingWaiting, notOperational, windowShut, sent, emptied, refused, answered, Event, call, radio, Happened, called, heard}
 use Rattle.ips_channel_rules.specs.Simple as simples
 use Rattle.ips_channel_rules.specs.Simple.{Fate, Entry, isSent, isWaiting, having}
 
 -- ---- what the caller saw
 
 -- the packet of an offer, if it was taken
-abbrev pub tookBy : Event → Answer → List Packet
-tookBy (offer packet time) taken = packet ∷ []
-tookBy (offer packet time) nothingWaiting = []
-tookBy (offer packet time) notOperational = []
-tookBy (offer packet time) windowShut = []
-tookBy (offer packet time) done = []
-tookBy (offer packet time) (sent bytes sequence) = []
-tookBy (offer packet time) (refused number) = []
-tookBy (next time room) answer = []
-tookBy withdraw answer = []
-tookBy (radio status window) answer = []
+abbrev pub tookBy : Happened → List Packet
+tookBy (called c (refused number)) = []
+tookBy (called (offer packet time) (answered taken)) = packet ∷ []
+tookBy (called (next time out) (answered says)) = []
+tookBy (called withdraw (answered emptied)) = []
+tookBy (heard status window) = []
 
 -- "Every packet taken in", in the order they came
-abbrev pub takenIn : List Event → List Answer → List Packet
-takenIn [] answers = []
-takenIn (e ∷ es) [] = []
-takenIn (e ∷ es) (a ∷ answers) = tookBy e a ++ takenIn es answers
+abbrev pub takenIn : List Happened → List Packet
+takenIn [] = []
+takenIn (h ∷ hs) = tookBy h ++ takenIn hs
 
--- the packet of an answer, if one was sent
-abbrev pub handedBy : Answer → List (List ℕ)
-handedBy (sent bytes sequence) = bytes ∷ []
-handedBy taken = []
-handedBy nothingWaiting = []
-handedBy notOperational = []
-handedBy windowShut = []
-handedBy done = []
-handedBy (refused number) = []
+-- the packet that Next says was sent
+abbrev pub sentBy : Tried → List (List ℕ)
+sentBy nothingWaiting = []
+sentBy notOperational = []
+sentBy windowShut = []
+sentBy (sent bytes sequence) = bytes ∷ []
+
+-- the packet of a call, if one was sent
+abbrev pub handedBy : Happened → List (List ℕ)
+handedBy (called c (refused number)) = []
+handedBy (called (offer packet time) (answered taken)) = []
+handedBy (called (next time out) (answered says)) = sentBy says
+handedBy (called withdraw (answered emptied)) = []
+handedBy (heard status window) = []
 
 -- the packets handed over, in the order of the calls
-abbrev pub handedOver : List Answer → List (List ℕ)
+abbrev pub handedOver : List Happened → List (List ℕ)
 handedOver [] = []
-handedOver (a ∷ answers) = handedBy a ++ handedOver answers
+handedOver (h ∷ hs) = handedBy h ++ handedOver hs
 
 abbrev pub bytesOver : List (List ℕ) → ℕ
 bytesOver [] = 0
@@ -78,12 +77,10 @@ pub data Later : List Entry → List Entry → Type 0 where
   settled : {p : Packet} {fate : Fate} {es fs : List Entry} → Later es fs → Later (record { packet = p; fate = simples.waits } ∷ es) (record { packet = p; fate = fate } ∷ fs)
 
 -- ---- between two radio messages
-abbrev pub quietly : Event → Type 0
-quietly (offer packet time) = Unit {0}
-quietly (next time room) = Unit {0}
-quietly withdraw = Unit {0}
-quietly (radio status window) = ⊥
+abbrev pub isCall : Event → Type 0
+isCall (call c) = Unit {0}
+isCall (radio status window) = ⊥
 
-abbrev pub Quiet : List Event → Type 0
-Quiet [] = Unit {0}
-Quiet (e ∷ es) = quietly e × Quiet es
+abbrev pub NoRadio : List Event → Type 0
+NoRadio [] = Unit {0}
+NoRadio (e ∷ es) = isCall e × NoRadio es

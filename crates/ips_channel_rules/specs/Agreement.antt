@@ -5,7 +5,7 @@ use lib.IntN.{ℤ}
 use Rattle.quantity.specs.declared.count.FlowWindow.{FlowWindow}
 use Rattle.quantity.specs.Window.{Stands, sequenceAt}
 use Rattle.flow.specs.declared.Flow.{Flow}
-use Rattle.ips_channel_rules.specs.Life.{State}
+use Rattle.ips_channel_rules.specs.Rules.{Condition}
 use Rattle.ips_channel_rules.specs.Machine.{machine}
 use Rattle.ips_channel_rules.specs.Simple.{simple, Limit, free, none, upTo, isWaiting, having}
 
@@ -15,9 +15,9 @@ pub data SameFlow (count : ℕ) : Flow → Limit → Type 0 where
   both-none : SameFlow count Flow.NoWindow none
   both-in-force : {window : FlowWindow} {number : ℤ} → Stands count window number → SameFlow count (Flow.InForce window) (upTo number)
 
-pub record Agrees (c : State machine) (s : State simple) : Type 0 where
-  pub sequence : c .meter .sequence ≡ sequenceAt (s .meter .count)
-  pub flow : SameFlow (s .meter .count) (c .meter .flow) (s .meter .limit)
-  pub waiting : c .book ≡ having isWaiting (s .book)
+pub record Agrees (c : Condition machine) (s : Condition simple) : Type 0 where
+  pub sequence : c .counting .sequence ≡ sequenceAt (s .counting .count)
+  pub flow : SameFlow (s .counting .count) (c .counting .flow) (s .counting .limit)
+  pub waiting : c .keeping ≡ having isWaiting (s .keeping)
   pub status : c .status ≡ s .status
   pub latest : c .latest ≡ s .latest

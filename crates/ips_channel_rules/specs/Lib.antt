@@ -1,8 +1,11 @@
-pub mod Life
-pub mod Given
+pub mod Rules
+pub mod Exactly
 pub mod Machine
 pub mod Simple
+pub mod Limits
 pub mod Agreement
 pub mod Fates
 pub mod Account
 pub mod Windows
+pub mod FlowCases
+pub mod Lives

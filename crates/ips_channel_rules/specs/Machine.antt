@@ -2,31 +2,34 @@
 use mathlib.Core.Bool.{Bool}
 use mathlib.Core.List.{List, [], _∷_, _++_, tail}
 use Rattle.quantity.specs.declared.count.FlowSequence.{FlowSequence}
+use Rattle.quantity.specs.Limits.{LONGEST-PACKET}
 use Rattle.meaning.specs.declared.message.Status.the-variants as statuses
-use Rattle.store.specs.Packets.{Packet, alive}
+use Rattle.store.specs.Packets.{Packet, alive, isFull}
 use Rattle.flow.specs.declared.Flow.{Flow}
 use Rattle.flow.specs.Counting.{mayGo, sequenceOn, carriedBy, flowAfter, firstFlow}
-use Rattle.ips_channel_rules.specs.Life.{Parts, State}
+use Rattle.ips_channel_rules.specs.Rules.{ChannelParts, Condition}
 
-pub record Meter : Type 0 where
+pub record WordCounter : Type 0 where
   pub flow : Flow
   pub sequence : FlowSequence
 
-abbrev pub machine : Parts
+abbrev pub machine : ChannelParts
 machine =
     record {
-      Meter = Meter;
-      Book = List Packet;
-      fits = λ m bytes. mayGo (m .flow) (m .sequence) bytes;
-      grow = λ bytes m. record { flow = m .flow; sequence = sequenceOn (m .flow) (m .sequence) bytes };
-      carried = λ m. carriedBy (m .flow) (m .sequence);
-      hear = λ window m. record { flow = flowAfter window; sequence = m .sequence };
+      Counting = WordCounter;
+      Keeping = List Packet;
+      fits = λ x bytes. mayGo (x .flow) (x .sequence) bytes;
+      grow = λ bytes x. record { flow = x .flow; sequence = sequenceOn (x .flow) (x .sequence) bytes };
+      carried = λ x. carriedBy (x .flow) (x .sequence);
+      hear = λ window x. record { flow = flowAfter window; sequence = x .sequence };
       waiting = λ ps. ps;
       expire = alive;
       join = λ p ps. ps ++ (p ∷ []);
       send = tail;
       clear = λ ps. [];
+      longest = λ k. LONGEST-PACKET;
+      full = λ k ps p. isFull (k .size) ps p;
     }
 
-abbrev pub freshMachine : Bool → FlowSequence → State machine
-freshMachine controlled first = record { meter = record { flow = firstFlow controlled; sequence = first }; book = []; status = statuses.Absent; latest = 0 }
+abbrev pub freshMachine : Bool → FlowSequence → Condition machine
+freshMachine controlled first = record { counting = record { flow = firstFlow controlled; sequence = first }; keeping = []; status = statuses.Absent; latest = 0 }

@@ -1,4 +1,4 @@
--- THE SIMPLE CHANNEL: the rules of `Life` over a count that never wraps, and over a ledger of every packet ever taken in, in the order they came, each with what
+-- THE SIMPLE CHANNEL: the rules of `Rules` over a count that never wraps, and over a ledger of every packet ever taken in, in the order they came, each with what
 -- became of it. So "exactly one of sent, expired, withdrawn or waiting" holds by what an entry of the ledger is.
 use Prim.Native.Nat.{ℕ, _+_}
 use mathlib.Core.Bool.{Bool, true, false, cond}
@@ -6,12 +6,13 @@ use mathlib.Core.List.{List, [], _∷_, _++_, map}
 use lib.IntN.{ℤ, pos}
 use lib.Signed.{leZ}
 use Rattle.quantity.specs.declared.count.FlowSequence.{FlowSequence}
+use Rattle.quantity.specs.Limits.{LONGEST-PACKET}
 use Rattle.quantity.specs.Window.{sequenceAt, standingAt}
 use Rattle.meaning.specs.declared.message.Status.the-variants as statuses
 use Rattle.meaning.specs.declared.message.Sequence.{Sequence}
 use Rattle.meaning.specs.declared.message.Window.{Window}
-use Rattle.store.specs.Packets.{Packet, lastsAt}
-use Rattle.ips_channel_rules.specs.Life.{Parts, State}
+use Rattle.store.specs.Packets.{Packet, lastsAt, isFull}
+use Rattle.ips_channel_rules.specs.Rules.{ChannelParts, Condition}
 
 -- ---- counting
 
@@ -99,11 +100,11 @@ sendFirst [] = []
 sendFirst (e ∷ es) = sendOr (e .fate) (e .packet) es (sendFirst es)
 
 -- ---- the parts, and a fresh start
-abbrev pub simple : Parts
+abbrev pub simple : ChannelParts
 simple =
     record {
-      Meter = Counter;
-      Book = List Entry;
+      Counting = Counter;
+      Keeping = List Entry;
       fits = λ x bytes. fitsBelow (x .count) (x .limit) (bytes .0);
       grow = λ bytes x. record { count = countOn (x .count) (x .limit) (bytes .0); limit = x .limit };
       carried = λ x. carriedAt (x .count) (x .limit);
@@ -113,8 +114,10 @@ simple =
       join = λ p ledger. ledger ++ (record { packet = p; fate = waits } ∷ []);
       send = sendFirst;
       clear = map (become (λ p. withdrawn));
+      longest = λ k. LONGEST-PACKET;
+      full = λ k ledger p. isFull (k .size) (having isWaiting ledger) p;
     }
 
 -- "Plain channels are always free. Fresh flow-controlled channels have no window."; the count "starts as the configured first sequence"
-abbrev pub freshSimple : Bool → FlowSequence → State simple
-freshSimple controlled first = record { meter = record { count = first .0; limit = cond controlled none free }; book = []; status = statuses.Absent; latest = 0 }
+abbrev pub freshSimple : Bool → FlowSequence → Condition simple
+freshSimple controlled first = record { counting = record { count = first .0; limit = cond controlled none free }; keeping = []; status = statuses.Absent; latest = 0 }

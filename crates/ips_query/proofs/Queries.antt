@@ -2,13 +2,16 @@
 use Prim.Native.Nat.{ℕ, zero, suc, _+_, _*_, _≤_, _<_}
 use mathlib.Core.Path.{_≡_, refl, sym, ap, _∙_}
 use mathlib.Core.List.{List, [], _∷_, _++_, append-nil, map-append}
-use mathlib.Core.Bool.{Bool, true, false, cond, not, _&&_, and-false, and-true}
+use mathlib.Core.Bool.{Bool, true, false, cond, not, _&&_, and-false, and-true, and-eq-true-iff}
 use native.Mathlib.Numerals.{add-one}
 use native.Mathlib.Omega.{arith}
 use borrow.Author.Tests.{eqb-true, eqb-false, eq-eqb, ne-eqb, not-true}
 use lib.Dec.{eqb}
 use lib.ListN.{length, getD, take, drop, set, replicate, length-append}
 use lib.Seq.{take-suc, take-all, split-at, getD-append-seam}
+use Rattle.facts.proofs.Tests.{clash}
+use Rattle.facts.specs.Tables.{tabulate}
+use Rattle.facts.proofs.Tables.{getD-tabulate, set-tabulate, length-tabulate}
 use Rattle.quantity.specs.Limits.{MOST-CHANNELS, CHANNEL-IDS, LONGEST-DATAGRAM}
 use Rattle.wire.specs.Numbers.{bytesOf}
 use Rattle.wire.specs.Options.{Options, done, optionBytes, bytes}
@@ -18,21 +21,17 @@ use Rattle.meaning.specs.declared.message.End.the-variants as ends
 use Rattle.meaning.specs.declared.message.Sequence.{Sequence}
 use Rattle.meaning.specs.declared.message.SequenceCell.{SequenceCell}
 use Rattle.meaning.specs.Kinds.{among, DATALINK-IDENTIFIER, FLOW-SEQUENCE}
-use Rattle.meaning.proofs.Amongst.{clash}
-use Rattle.meaning.proofs.Tables.{noStatus, noSequence, noWindow}
-use Rattle.read_option.specs.Stated.{tabulate}
-use Rattle.acceptance.proofs.Tables.{getD-tabulate, set-tabulate}
+use Rattle.meaning.specs.Cells.{noStatus, noSequence, noWindow}
 use Rattle.writable.specs.Allowed.{statusesAllowed, sequenceAllowed, sequencesAllowed, windowsAllowed, controlAllowed}
 use Rattle.write_option.specs.Parts.{tableThen, sequenceThen}
 use Rattle.write_option.proofs.Tables.{statusAt, sequenceAt, windowAt}
 use Rattle.writer.specs.Written.{controlOptions, controlWritten}
-use Rattle.roundtrip.proofs.HeldControl.{length-tabulate}
 use Rattle.ips_channel.specs.declared.state.Channel.{Channel}
 use Rattle.ips_state.specs.declared.state.State.{State}
 use Rattle.ips_state.specs.Table.{configured, channelAt, noChannel}
 use Rattle.ips_state.specs.Limits.{stateFits, ids, distinct}
 use Rattle.ips_query.specs.Query.{sequenceFor, sequencesOf, queryOf}
-use Rattle.ips_state.proofs.Channels.{both, stands-among}
+use Rattle.ips_state.proofs.Channels.{stands-among}
 use Rattle.ips_state.proofs.Places.{configured-length, configured-at, fit, channel-fitting-at}
 
 -- ---- numbers that are all different
@@ -49,9 +48,9 @@ none-of n x xs h = go (eqb n x) refl h
 -- one of them is neither among those before it nor among those behind it
 alone : (xs rest : List ℕ) (n : ℕ) → distinct (xs ++ (n ∷ rest)) ≡ true → (among n xs ≡ false) × (among n rest ≡ false)
 unfolding distinct
-alone [] rest n d = (refl, not-true (among n rest) (both (not (among n rest)) (distinct rest) d .0))
+alone [] rest n d = (refl, not-true (among n rest) (and-eq-true-iff (not (among n rest)) (distinct rest) .0 d .0))
 alone (x ∷ xs) rest n d =
-    let parts = both (not (among x (xs ++ (n ∷ rest)))) (distinct (xs ++ (n ∷ rest))) d in
+    let parts = and-eq-true-iff (not (among x (xs ++ (n ∷ rest)))) (distinct (xs ++ (n ∷ rest))) .0 d in
     let later = alone xs rest n (parts .1) in
     (rw (ne-eqb n x (λ e. clash (sym (not-true _ (parts .0)) ∙ among-here xs rest x n e))) (later .0), later .1)
 
@@ -61,10 +60,10 @@ module _ (id : ℕ) where
   unfolding sequenceFor ids
   sequence-past [] ys h = refl
   sequence-past (x ∷ xs) ys h =
-      let none = none-of id (x .id) (ids xs) h in
-      rw (ne-eqb (x .id) id (none .0), and-false) (sequence-past xs ys (none .1))
+      let none = none-of id (x .setting .id) (ids xs) h in
+      rw (ne-eqb (x .setting .id) id (none .0), and-false) (sequence-past xs ys (none .1))
 
-  sequence-other : (xs : List Channel) (c : Channel) → (c .controlled && eqb (c .id) id) ≡ false → sequenceFor id (xs ++ (c ∷ [])) ≡ sequenceFor id xs
+  sequence-other : (xs : List Channel) (c : Channel) → (c .setting .controlled && eqb (c .setting .id) id) ≡ false → sequenceFor id (xs ++ (c ∷ [])) ≡ sequenceFor id xs
   unfolding sequenceFor
   sequence-other [] c h = rw h
   sequence-other (x ∷ xs) c h = rw (sequence-other xs c h)
@@ -73,31 +72,31 @@ module _ (id : ℕ) where
   unfolding sequenceFor
   sequence-none cs h = ap (sequenceFor id) (sym (append-nil cs)) ∙ sequence-past cs [] h
 
-sequence-own : (xs rest : List Channel) (c : Channel) → among (c .id) (ids xs) ≡ false → among (c .id) (ids rest) ≡ false
-    → sequenceFor (c .id) (xs ++ (c ∷ rest)) ≡ cond (c .controlled) (Sequence.Given (c .sequence)) Sequence.Absent
+sequence-own : (xs rest : List Channel) (c : Channel) → among (c .setting .id) (ids xs) ≡ false → among (c .setting .id) (ids rest) ≡ false
+    → sequenceFor (c .setting .id) (xs ++ (c ∷ rest)) ≡ cond (c .setting .controlled) (Sequence.Given (c .sequence)) Sequence.Absent
 unfolding sequenceFor
 sequence-own xs rest c before behind =
-    sequence-past (c .id) xs (c ∷ rest) before ∙ rw (eq-eqb (c .id) (c .id) refl, and-true, sequence-none (c .id) rest behind)
+    sequence-past (c .setting .id) xs (c ∷ rest) before ∙ rw (eq-eqb (c .setting .id) (c .setting .id) refl, and-true, sequence-none (c .setting .id) rest behind)
 
 -- ---- the table with one channel more
 abbrev pub cellOf : Sequence → SequenceCell
 cellOf sequence = record { sequence = sequence }
 
 module _ (xs : List Channel) (c : Channel) where
-  sequences-plain : c .controlled ≡ false → sequencesOf (xs ++ (c ∷ [])) ≡ sequencesOf xs
+  sequences-plain : c .setting .controlled ≡ false → sequencesOf (xs ++ (c ∷ [])) ≡ sequencesOf xs
   unfolding sequencesOf
   sequences-plain plain i = tabulate CHANNEL-IDS (λ id. record { sequence = sequence-other id xs c (rw plain) i })
 
-  module _ (new : among (c .id) (ids xs) ≡ false) (controlled : c .controlled ≡ true) where
-    cell-more : (id : ℕ) (b : Bool) → eqb id (c .id) ≡ b → cond b (cellOf (Sequence.Given (c .sequence))) (cellOf (sequenceFor id xs)) ≡ cellOf (sequenceFor id (xs ++ (c ∷ [])))
+  module _ (new : among (c .setting .id) (ids xs) ≡ false) (controlled : c .setting .controlled ≡ true) where
+    cell-more : (id : ℕ) (b : Bool) → eqb id (c .setting .id) ≡ b → cond b (cellOf (Sequence.Given (c .sequence))) (cellOf (sequenceFor id xs)) ≡ cellOf (sequenceFor id (xs ++ (c ∷ [])))
     unfolding ids
-    cell-more id true e = rw (eqb-true id (c .id) e, sequence-own xs [] c new refl, controlled)
-    cell-more id false e = rw (sequence-other id xs c (rw (controlled, ne-eqb (c .id) id (λ q. eqb-false id (c .id) e (sym q)))))
+    cell-more id true e = rw (eqb-true id (c .setting .id) e, sequence-own xs [] c new refl, controlled)
+    cell-more id false e = rw (sequence-other id xs c (rw (controlled, ne-eqb (c .setting .id) id (λ q. eqb-false id (c .setting .id) e (sym q)))))
 
-    sequences-more : set (sequencesOf xs) (c .id) (cellOf (Sequence.Given (c .sequence))) ≡ sequencesOf (xs ++ (c ∷ []))
+    sequences-more : set (sequencesOf xs) (c .setting .id) (cellOf (Sequence.Given (c .sequence))) ≡ sequencesOf (xs ++ (c ∷ []))
     unfolding sequencesOf
     sequences-more =
-        set-tabulate CHANNEL-IDS (λ id. cellOf (sequenceFor id xs)) (λ id. cellOf (sequenceFor id (xs ++ (c ∷ [])))) (c .id) (cellOf (Sequence.Given (c .sequence))) (λ id. cell-more id (eqb id (c .id)) refl)
+        set-tabulate CHANNEL-IDS (λ id. cellOf (sequenceFor id xs)) (λ id. cellOf (sequenceFor id (xs ++ (c ∷ [])))) (c .setting .id) (cellOf (Sequence.Given (c .sequence))) (λ id. cell-more id (eqb id (c .setting .id)) refl)
 
 -- ---- the configured channels of a state within the limits
 module _ (s : State) (full : length (s .channels) ≡ MOST-CHANNELS) (fits : stateFits s ≡ true) where
@@ -112,23 +111,23 @@ module _ (s : State) (full : length (s .channels) ≡ MOST-CHANNELS) (fits : sta
     one-more = rw (add-one, ← (configured-at s index inside)) (take-suc (configured s) index noChannel (omega (arith, long)))
 
     -- no other has its Channel ID
-    alone-at : (among (channelAt s index .id) (ids (take index (configured s))) ≡ false) × (among (channelAt s index .id) (ids (drop (suc index) (configured s))) ≡ false)
+    alone-at : (among (channelAt s index .setting .id) (ids (take index (configured s))) ≡ false) × (among (channelAt s index .setting .id) (ids (drop (suc index) (configured s))) ≡ false)
     unfolding ids
     alone-at =
-        alone (ids (take index (configured s))) (ids (drop (suc index) (configured s))) (channelAt s index .id)
+        alone (ids (take index (configured s))) (ids (drop (suc index) (configured s))) (channelAt s index .setting .id)
         (ap distinct (sym (ap ids around ∙ map-append _ (take index (configured s)) _)) ∙ fit s fits .apart)
 
-    id-inside : channelAt s index .id < CHANNEL-IDS
+    id-inside : channelAt s index .setting .id < CHANNEL-IDS
     id-inside = channel-fitting-at s full fits index inside .unreserved
 
     -- the Flow Sequence of a configured channel
-    pub sequence-at : sequenceFor (channelAt s index .id) (configured s) ≡ cond (channelAt s index .controlled) (Sequence.Given (channelAt s index .sequence)) Sequence.Absent
+    pub sequence-at : sequenceFor (channelAt s index .setting .id) (configured s) ≡ cond (channelAt s index .setting .controlled) (Sequence.Given (channelAt s index .sequence)) Sequence.Absent
     sequence-at = rw around (sequence-own (take index (configured s)) (drop (suc index) (configured s)) (channelAt s index) (alone-at .0) (alone-at .1))
 
-    pub sequence-controlled : channelAt s index .controlled ≡ true → sequenceFor (channelAt s index .id) (configured s) ≡ Sequence.Given (channelAt s index .sequence)
+    pub sequence-controlled : channelAt s index .setting .controlled ≡ true → sequenceFor (channelAt s index .setting .id) (configured s) ≡ Sequence.Given (channelAt s index .sequence)
     sequence-controlled controlled = sequence-at ∙ rw controlled
 
-    pub sequence-plain : channelAt s index .controlled ≡ false → sequenceFor (channelAt s index .id) (configured s) ≡ Sequence.Absent
+    pub sequence-plain : channelAt s index .setting .controlled ≡ false → sequenceFor (channelAt s index .setting .id) (configured s) ≡ Sequence.Absent
     sequence-plain plain = sequence-at ∙ rw plain
 
 -- ---- the loop: the channels before a place are in the table
@@ -146,16 +145,16 @@ module _ (s : State) (cells : List SequenceCell) (at : ℕ) (h : at < s .count) 
   pub gathering-place : at < MOST-CHANNELS
   gathering-place = omega (arith, fit s (g .fits) .few)
 
-  pub gathering-id : channelAt s at .id < CHANNEL-IDS
+  pub gathering-id : channelAt s at .setting .id < CHANNEL-IDS
   gathering-id = id-inside s (g .full) (g .fits) at h
 
   turned : {cells′ : List SequenceCell} → cells′ ≡ sequencesOf (take at (configured s) ++ (channelAt s at ∷ [])) → Gathering s cells′ (at + 1)
   turned e = record { full = g .full; fits = g .fits; inside = omega arith; gathered = rw (one-more s (g .full) (g .fits) at h) e }
 
-  pub gathering-plain : channelAt s at .controlled ≡ false → Gathering s cells (at + 1)
+  pub gathering-plain : channelAt s at .setting .controlled ≡ false → Gathering s cells (at + 1)
   gathering-plain plain = turned (g .gathered ∙ sym (sequences-plain (take at (configured s)) (channelAt s at) plain))
 
-  pub gathering-controlled : channelAt s at .controlled ≡ true → Gathering s (set cells (channelAt s at .id) (cellOf (Sequence.Given (channelAt s at .sequence)))) (at + 1)
+  pub gathering-controlled : channelAt s at .setting .controlled ≡ true → Gathering s (set cells (channelAt s at .setting .id) (cellOf (Sequence.Given (channelAt s at .sequence)))) (at + 1)
   gathering-controlled controlled =
       turned (rw (g .gathered) (sequences-more (take at (configured s)) (channelAt s at) (alone-at s (g .full) (g .fits) at h .0) controlled))
 

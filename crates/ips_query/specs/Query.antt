@@ -3,7 +3,7 @@ use Prim.Native.Nat.{ℕ}
 use mathlib.Core.Bool.{cond, _&&_}
 use mathlib.Core.List.{List, [], _∷_}
 use lib.ListN.{replicate}
-use Rattle.read_option.specs.Stated.{tabulate}
+use Rattle.facts.specs.Tables.{tabulate}
 use lib.Dec.{eqb}
 use Rattle.quantity.specs.Limits.{CHANNEL-IDS}
 use Rattle.meaning.specs.declared.message.Datalink.{Datalink}
@@ -21,7 +21,7 @@ use Rattle.ips_state.specs.Table.{configured}
 -- the Flow Sequence of a Channel ID: that of the flow-controlled channel that has it
 unfoldable pub sequenceFor : ℕ → List Channel → Sequence
 sequenceFor id [] = Sequence.Absent
-sequenceFor id (c ∷ cs) = cond (c .controlled && eqb (c .id) id) (Sequence.Given (c .sequence)) (sequenceFor id cs)
+sequenceFor id (c ∷ cs) = cond (c .setting .controlled && eqb (c .setting .id) id) (Sequence.Given (c .sequence)) (sequenceFor id cs)
 
 unfoldable pub sequencesOf : List Channel → List SequenceCell
 sequencesOf cs = tabulate CHANNEL-IDS (λ id. record { sequence = sequenceFor id cs })

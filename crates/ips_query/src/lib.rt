@@ -29,9 +29,10 @@ fn sequences(state: State) -> [SequenceCell; CHANNEL_IDS]
     let mut at = 0;
     while at < count {
         let channel = state.channels[at];
-        let id = channel.id as usize;
+        let setting = channel.setting;
+        let id = setting.id as usize;
         let sequence = channel.sequence;
-        if channel.controlled {
+        if setting.controlled {
             cells[id] = SequenceCell {
                 sequence: Sequence::Given(sequence),
             };
@@ -41,6 +42,7 @@ fn sequences(state: State) -> [SequenceCell; CHANNEL_IDS]
     cells
 }
 
+// The message that Query writes.
 pub fn message(state: State) -> Control
     requires { ⌜ stateFits state ≡ true ⌝ }
     ensures { λ r. ⌜ r ≡ queryOf state ⌝ }

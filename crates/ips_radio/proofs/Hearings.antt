@@ -2,10 +2,11 @@
 use Prim.Native.Nat.{ℕ, zero, suc, _+_, _≤_, _<_}
 use mathlib.Core.Path.{_≡_, refl, ap, _∙_}
 use mathlib.Core.List.{List, [], _∷_, _++_, map, map-map}
-use mathlib.Core.Bool.{Bool, true, false, cond}
+use mathlib.Core.Bool.{Bool, true, false, cond, and-eq-true-iff}
 use native.Mathlib.Numerals.{add-one}
 use native.Mathlib.Omega.{arith}
 use lib.ListN.{length, getD, take, drop, set}
+use Rattle.facts.proofs.Tables.{each-place}
 use Rattle.quantity.specs.Limits.{MOST-CHANNELS, RESERVED-CHANNEL}
 use Rattle.meaning.specs.declared.message.End.the-variants as ends
 use Rattle.meaning.specs.declared.message.Instance.{Instance}
@@ -15,9 +16,8 @@ use Rattle.meaning.specs.declared.message.Window.{Window}
 use Rattle.meaning.specs.declared.message.StatusCell.{StatusCell}
 use Rattle.meaning.specs.declared.message.WindowCell.{WindowCell}
 use Rattle.meaning.specs.declared.message.Control.{Control}
-use Rattle.meaning.proofs.Tables.{noStatus, noWindow}
+use Rattle.meaning.specs.Cells.{noStatus, noWindow}
 use Rattle.writable.specs.Allowed.{instanceAllowed, contextAllowed, statusAllowed, statusesAllowed}
-use Rattle.roundtrip.proofs.Tables.{each-place}
 use Rattle.flow.specs.declared.Flow.{Flow}
 use Rattle.flow.specs.Counting.{flowAfter}
 use Rattle.ips_channel.specs.declared.state.Channel.{Channel}
@@ -27,7 +27,7 @@ use Rattle.ips_state.specs.Table.{configured, channelAt, noChannel}
 use Rattle.ips_state.specs.Limits.{flowFits, channelFits, allFit, ids, namesFit, stateFits, sizes}
 use Rattle.ips_state.specs.Memory.{startOf}
 use Rattle.ips_radio.specs.Heard.{statusIn, windowIn, keptInstance, keptContext, heardFrom, heardChannels, heardBy}
-use Rattle.ips_state.proofs.Channels.{both, fitting, fitting-fits}
+use Rattle.ips_state.proofs.Channels.{fitting, fitting-fits}
 use Rattle.ips_state.proofs.Places.{fit, fit-fits, channel-fitting-at}
 
 -- ---- a list whose first places are changed
@@ -68,12 +68,12 @@ module _ {A : Type 0} (f : A → A) where
 
 -- ---- the loop: the channels before a place have heard the message
 abbrev pub heardIn : List StatusCell → List WindowCell → Channel → Channel
-heardIn statuses windows c = heardOf c (getD statuses (c .id) noStatus .status) (getD windows (c .id) noWindow .window)
+heardIn statuses windows c = heardOf c (getD statuses (c .setting .id) noStatus .status) (getD windows (c .setting .id) noWindow .window)
 
 pub record Hearing (statuses : List StatusCell) (windows : List WindowCell) (count : ℕ) (before : List Channel) (channels : List Channel) (at : ℕ) : Type 0 where
   pub full : length before ≡ MOST-CHANNELS
   pub few : count ≤ MOST-CHANNELS
-  pub named : (i : ℕ) → i < count → getD before i noChannel .id < RESERVED-CHANNEL
+  pub named : (i : ℕ) → i < count → getD before i noChannel .setting .id < RESERVED-CHANNEL
   pub inside : at ≤ count
   pub heard : channels ≡ changed (heardIn statuses windows) at before
 
@@ -96,7 +96,7 @@ module _ (statuses : List StatusCell) (windows : List WindowCell) (count : ℕ) 
     pub hearing-place : at < MOST-CHANNELS
     hearing-place = omega (arith, hearing .few)
 
-    pub hearing-named : getD channels at noChannel .id < RESERVED-CHANNEL
+    pub hearing-named : getD channels at noChannel .setting .id < RESERVED-CHANNEL
     hearing-named = rw hearing-next (hearing .named at h)
 
     pub hearing-turn : (r : Channel) → r ≡ heardIn statuses windows (getD channels at noChannel) → Hearing statuses windows count before (set channels at r) (at + 1)
@@ -148,15 +148,15 @@ module _ (message : Control) where
           unreserved = f .unreserved;
           smallest = f .smallest;
           largest = f .largest;
-          status-allowed = status-heard (c .id);
-          flow-fits = flow-heard (c .controlled) (c .flow) (windowIn message (c .id)) (f .flow-fits);
+          status-allowed = status-heard (c .setting .id);
+          flow-fits = flow-heard (c .setting .controlled) (c .flow) (windowIn message (c .setting .id)) (f .flow-fits);
           well-formed = f .well-formed;
         })
 
     all-heard : (cs : List Channel) → allFit cs ≡ true → allFit (map (heardFrom message) cs) ≡ true
     unfolding allFit
     all-heard [] fits = refl
-    all-heard (c ∷ cs) fits = let parts = both (channelFits c) (allFit cs) fits in rw (fits-heard c (parts .0), all-heard cs (parts .1))
+    all-heard (c ∷ cs) fits = let parts = and-eq-true-iff (channelFits c) (allFit cs) .0 fits in rw (fits-heard c (parts .0), all-heard cs (parts .1))
 
 module _ (message : Control) (s : State) where
   heard-configured : configured (heardBy message s) ≡ map (heardFrom message) (configured s)
@@ -188,7 +188,7 @@ module _ (message : Control) (s : State) where
   unfolding heardBy namesFit
   heard-fits fits statuses instance context =
       let f = fit s fits in
-      let names = both (instanceAllowed ends.Radio (s .instance)) (contextAllowed ends.Radio (s .context)) (f .names) in
+      let names = and-eq-true-iff (instanceAllowed ends.Radio (s .instance)) (contextAllowed ends.Radio (s .context)) .0 (f .names) in
       fit-fits (heardBy message s) (record {
         some = f .some;
         few = f .few;
@@ -203,18 +203,18 @@ module _ (message : Control) (s : State) where
     unfolding channelAt configured heardBy heardChannels
     heard-at = changed-at (heardFrom message) (s .count) (s .channels) index noChannel inside (omega arith)
 
-    pub heard-status : channelAt (heardBy message s) index .status ≡ statusIn message (channelAt s index .id)
+    pub heard-status : channelAt (heardBy message s) index .status ≡ statusIn message (channelAt s index .setting .id)
     unfolding heardFrom heardOf
     heard-status = rw heard-at
 
     -- a configured channel that the message doesn't name
-    pub heard-unnamed : statusIn message (channelAt s index .id) ≡ Status.Absent → channelAt (heardBy message s) index .status ≡ Status.Absent
+    pub heard-unnamed : statusIn message (channelAt s index .setting .id) ≡ Status.Absent → channelAt (heardBy message s) index .status ≡ Status.Absent
     heard-unnamed absent = heard-status ∙ absent
 
-    pub heard-plain : channelAt s index .controlled ≡ false → channelAt (heardBy message s) index .flow ≡ channelAt s index .flow
+    pub heard-plain : channelAt s index .setting .controlled ≡ false → channelAt (heardBy message s) index .flow ≡ channelAt s index .flow
     unfolding heardFrom heardOf
     heard-plain plain = rw (heard-at, plain)
 
-    pub heard-flow : channelAt s index .controlled ≡ true → channelAt (heardBy message s) index .flow ≡ flowAfter (windowIn message (channelAt s index .id))
+    pub heard-flow : channelAt s index .setting .controlled ≡ true → channelAt (heardBy message s) index .flow ≡ flowAfter (windowIn message (channelAt s index .setting .id))
     unfolding heardFrom heardOf
     heard-flow controlled = rw (heard-at, controlled)

@@ -23,7 +23,7 @@ windowIn message id = getD (message .windows) id (record { window = Window.Absen
 
 -- "a configured channel that it names takes its Status; one that it doesn't name is not reported. For each flow-controlled channel: .."
 unfoldable pub heardFrom : Control → Channel → Channel
-heardFrom message c = heardOf c (statusIn message (c .id)) (windowIn message (c .id))
+heardFrom message c = heardOf c (statusIn message (c .setting .id)) (windowIn message (c .setting .id))
 
 -- "Unconfigured channels are skipped."
 unfoldable pub heardChannels : Control → State → List Channel

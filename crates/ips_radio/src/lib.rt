@@ -13,6 +13,14 @@ use meaning::message::Instance;
 use meaning::message::StatusCell;
 use meaning::message::WindowCell;
 use quantity::limit::MOST_CHANNELS;
+use quantity::refusal::Refusal;
+
+// `Due`: accepted, and a mobility message is due.
+pub enum RadioAnswer {
+    Accepted,
+    Due,
+    Refused(Refusal),
+}
 
 // A channel hears what the message states of its own Channel ID.
 fn hear_own(channel: Channel, status: StatusCell, window: WindowCell) -> Channel
@@ -35,7 +43,8 @@ fn hear_all(state: State, message: Control) -> [Channel; MOST_CHANNELS]
     let mut at = 0;
     while at < count {
         let channel = channels[at];
-        let id = channel.id as usize;
+        let setting = channel.setting;
+        let id = setting.id as usize;
         channels[at] = hear_own(channel, statuses[id], windows[id]);
         at += 1;
     }
@@ -62,6 +71,7 @@ fn keep_context(before: Context, given: Context) -> Context
     }
 }
 
+// The state after an accepted message: every configured channel has heard it, Link Instance and Context are kept.
 pub fn hear(state: State, message: Control) -> State
     requires { ⌜ stateFits state ≡ true ⌝ }
     ensures { λ r. ⌜ r ≡ heardBy message state ⌝ }

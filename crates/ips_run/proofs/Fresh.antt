@@ -8,20 +8,20 @@ use borrow.Author.Tests.{eq-eqb}
 use lib.ListN.{length, take, drop, replicate, length-replicate}
 use Rattle.quantity.specs.declared.count.DatalinkId.{DatalinkId}
 use Rattle.quantity.specs.Limits.{MOST-CHANNELS}
-use Rattle.store.specs.Waiting.{Holds, packetsOf, queueOf, cut}
+use Rattle.store.specs.Waiting.{packetsOf, queueOf, cut}
 use Rattle.store.proofs.Held.{waiting-of}
 use Rattle.store.proofs.Changes.{cleared}
 use Rattle.ips_channel_rules.specs.Machine.{freshMachine}
-use Rattle.ips_channel.specs.Channel.{freshChannel}
-use Rattle.ips_channel_calls.proofs.Again.{fresh-state}
-use Rattle.ips_state.specs.declared.state.Setting.{Setting}
+use Rattle.ips_channel.specs.Channel.{termsOf, freshChannel}
+use Rattle.ips_channel_calls.proofs.Again.{fresh-condition}
+use Rattle.ips_state.specs.declared.state.ChannelStart.{ChannelStart}
 use Rattle.ips_state.specs.declared.state.Configuration.{Configuration}
-use Rattle.ips_state.specs.Table.{configured, channelAt, freshOf, freshState}
+use Rattle.ips_state.specs.Table.{configured, channelAt, startAt, freshOf, freshState}
 use Rattle.ips_state.specs.Limits.{sizes, stateFits, configurationFits}
 use Rattle.ips_state.specs.Memory.{memoryFits, startOf, storeAt}
 use Rattle.ips_state.proofs.Places.{fit, fresh-full, fresh-fits, fresh-at, store-room}
 use Rattle.ips_run.specs.Run.{freshWorld}
-use Rattle.ips_run.specs.Demand.{settingAt, lifeOf, ruledBy, InOrder, Seat, Placed}
+use Rattle.ips_run.specs.Demand.{ruled, freshAt, InOrder, Tidy, AsRuled, RuledIn}
 
 abbrev zeros : ℕ → List ℕ
 zeros n = replicate n 0
@@ -37,19 +37,16 @@ drop-zeros n zero h = let e : n ≡ n - 0 = omega arith in ap zeros e
 drop-zeros zero (suc k) h = absurd (omega arith)
 drop-zeros (suc n) (suc k) h = let e : n - k ≡ suc n - suc k = omega arith in drop-zeros n k (omega arith) ∙ ap zeros e
 
-fresh-tidy : (x : Setting) (store : List ℕ) → store ≡ zeros (x .size .0) → Holds (freshOf x .size .0) (packetsOf (freshOf x .queue) store) (freshOf x .queue) store
+fresh-tidy : (x : ChannelStart) (store : List ℕ) → store ≡ zeros (x .setting .size .0) → Tidy (freshOf x) store
 unfolding freshChannel packetsOf cut
-fresh-tidy x store e = rw (waiting-of []) (cleared (x .size .0) (queueOf []) store refl e)
+fresh-tidy x store e = rw (waiting-of []) (cleared (x .setting .size .0) (queueOf []) store refl e)
 
-by-fresh : (datalink : DatalinkId) (x : Setting) → ruledBy datalink (freshOf x) ≡ lifeOf datalink x
+fresh-ruled : (datalink : DatalinkId) (x : ChannelStart) (store : List ℕ) → store ≡ zeros (x .setting .size .0)
+    → AsRuled (termsOf datalink (x .setting)) datalink (freshOf x) store (freshMachine (x .setting .controlled) (x .first))
 unfolding freshChannel
-by-fresh datalink x = refl
+fresh-ruled datalink x store e = record { terms = refl; condition = fresh-condition (x .setting) (x .first) store; tidy = fresh-tidy x store e }
 
-fresh-seat : (datalink : DatalinkId) (x : Setting) (store : List ℕ) → store ≡ zeros (x .size .0)
-    → Seat (lifeOf datalink x) datalink (freshOf x) store (freshMachine (x .controlled) (x .first))
-fresh-seat datalink x store e = record { setting = by-fresh datalink x; view = fresh-state (x .id) (x .controlled) (x .size) (x .first) store; tidy = fresh-tidy x store e }
-
-module _ (k : Configuration) (full : length (k .settings) ≡ MOST-CHANNELS) (fits : configurationFits k ≡ true) where
+module _ (k : Configuration) (full : length (k .starts) ≡ MOST-CHANNELS) (fits : configurationFits k ≡ true) where
   abbrev begun : stateFits (freshState k) ≡ true
   begun = fresh-fits k full ∙ fits
 
@@ -73,27 +70,27 @@ module _ (k : Configuration) (full : length (k .settings) ≡ MOST-CHANNELS) (fi
     unfolding freshState
     inside-fresh = inside
 
-    at-fresh : channelAt (freshState k) index ≡ freshOf (settingAt k index)
+    at-fresh : channelAt (freshState k) index ≡ freshOf (startAt k index)
     at-fresh = fresh-at k full few index inside
 
-    size-fresh : channelAt (freshState k) index .size .0 ≡ settingAt k index .size .0
+    size-fresh : channelAt (freshState k) index .setting .size .0 ≡ startAt k index .setting .size .0
     unfolding freshChannel
     size-fresh = rw at-fresh
 
     -- "fills each store with zeros"
-    store-fresh : storeAt (freshState k) index (freshWorld k .memory) ≡ zeros (settingAt k index .size .0)
+    store-fresh : storeAt (freshState k) index (freshWorld k .memory) ≡ zeros (startAt k index .setting .size .0)
     unfolding freshWorld storeAt memoryFits
     store-fresh =
         let total = sizes (configured (freshState k)) in
         let start = startOf (freshState k) index in
-        let size = settingAt k index .size .0 in
+        let size = startAt k index .setting .size .0 in
         let room : start + size ≤ total =
         omega (arith, size-fresh, length-replicate {A = ℕ} total 0, store-room (freshState k) (fresh-full k full) counted-few (zeros total) zeros-fit index inside-fresh) in
         rw (size-fresh, drop-zeros total start (omega arith)) (take-zeros (total - start) size (omega arith))
 
-    pub fresh-placed : Placed (lifeOf (k .datalink) (settingAt k index)) (k .count) index (freshWorld k) (freshMachine (settingAt k index .controlled) (settingAt k index .first))
+    pub fresh-in : RuledIn (ruled k index) (k .count) index (freshWorld k) (freshAt k index)
     unfolding freshWorld freshState
-    fresh-placed = record {
+    fresh-in = record {
       order = fresh-order;
-      seat = rw at-fresh (fresh-seat (k .datalink) (settingAt k index) (storeAt (freshState k) index (freshWorld k .memory)) store-fresh);
+      as-ruled = rw at-fresh (fresh-ruled (k .datalink) (startAt k index) (storeAt (freshState k) index (freshWorld k .memory)) store-fresh);
     }

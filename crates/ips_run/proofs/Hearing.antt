@@ -1,30 +1,27 @@
 -- What a datagram from the radio leaves: its message, if it is accepted, is heard by every channel. Assumes nothing.
 use Prim.Native.Nat.{ℕ, _<_}
-use mathlib.Core.Bool.{true}
+use mathlib.Core.Bool.{true, and-eq-true-iff}
 use mathlib.Core.List.{List, [], _∷_}
 use mathlib.Core.Path.{_≡_, refl, _∙_}
 use Rattle.quantity.specs.declared.count.DatalinkId.{DatalinkId}
 use Rattle.wire.specs.Numbers.{Octets}
 use Rattle.meaning.specs.declared.message.End.the-variants as ends
 use Rattle.meaning.specs.declared.message.Control.{Control}
-use Rattle.read_rules.specs.declared.answer.Verdict.{Verdict}
+use Rattle.reader.specs.Readings.{Verdict, readControl, planeOf}
 use Rattle.reader.specs.declared.answer.PlaneAnswer.{PlaneAnswer}
-use Rattle.reader.specs.Readings.{readControl, planeOf}
 use Rattle.writable.specs.Allowed.{datalinkAllowed, instanceAllowed, contextAllowed, statusesAllowed, controlAllowed}
 use Rattle.roundtrip.proofs.Writable.{control-writable}
-use Rattle.store.specs.Waiting.{Holds, packetsOf}
+use Rattle.ips_channel_rules.specs.Rules.{Terms, Condition, step}
 use Rattle.ips_channel_rules.specs.Machine.{machine}
-use Rattle.ips_channel_rules.specs.Life.{Setting, State, step}
 use Rattle.ips_channel.specs.declared.state.Channel.{Channel}
-use Rattle.ips_channel.specs.Channel.{stateOf, heardOf}
-use Rattle.ips_channel_calls.proofs.Again.{heard-state}
+use Rattle.ips_channel.specs.Channel.{termsOf, conditionOf, heardOf}
+use Rattle.ips_channel_calls.proofs.Again.{heard-condition}
 use Rattle.ips_state.specs.Table.{channelAt}
-use Rattle.ips_state.specs.Memory.{memoryFits, storeAt}
-use Rattle.ips_state.proofs.Channels.{both}
+use Rattle.ips_state.specs.Memory.{memoryFits, storeAt, World, channelIn, storeIn}
 use Rattle.ips_radio.specs.Heard.{statusIn, windowIn, heardFrom, heardBy}
 use Rattle.ips_radio.proofs.Hearings.{heard-length, heard-count, heard-sizes, heard-start, heard-fits, heard-at}
-use Rattle.ips_run.specs.Run.{World, partOf, ifAccepted, ifControl, acceptedIn}
-use Rattle.ips_run.specs.Demand.{ruledBy, InOrder, Seat}
+use Rattle.ips_run.specs.Run.{partOf, ifAccepted, ifControl, acceptedIn}
+use Rattle.ips_run.specs.Demand.{InOrder, Tidy, AsRuled}
 use Rattle.ips_run.proofs.Serving.{here, few}
 
 -- ---- what a datagram comes to: nothing, or one message that the radio may state
@@ -47,10 +44,10 @@ brings datalink datagram octets = plane (planeOf datagram)
     plane (PlaneAnswer.Refused refusal) = nothing
 
 -- ---- the message heard
-seated : (m : Control) (datalink : DatalinkId) (c : Channel) (store : List ℕ) → Holds (c .size .0) (packetsOf (c .queue) store) (c .queue) store
-    → Seat (ruledBy datalink c) datalink (heardFrom m c) store (step machine (ruledBy datalink c) (partOf (c .id) m) (stateOf c store) .state)
+heard-ruled : (m : Control) (datalink : DatalinkId) (c : Channel) (store : List ℕ) → Tidy c store
+    → AsRuled (termsOf datalink (c .setting)) datalink (heardFrom m c) store (step machine (termsOf datalink (c .setting)) (partOf (c .setting .id) m) (conditionOf c store))
 unfolding heardFrom heardOf
-seated m datalink c store tidy = record { setting = refl; view = heard-state c store (statusIn m (c .id)) (windowIn m (c .id)); tidy = tidy }
+heard-ruled m datalink c store tidy = record { terms = refl; condition = heard-condition datalink c store (statusIn m (c .setting .id)) (windowIn m (c .setting .id)); tidy = tidy }
 
 module _ (count : ℕ) (w : World) (o : InOrder count w) (m : Control) where
   abbrev heard : World
@@ -59,10 +56,10 @@ module _ (count : ℕ) (w : World) (o : InOrder count w) (m : Control) where
   pub heard-order : controlAllowed ends.Radio m ≡ true → InOrder count heard
   unfolding controlAllowed memoryFits
   heard-order allowed =
-      let a = both (datalinkAllowed (m .datalink)) _ allowed in
-      let b = both (instanceAllowed ends.Radio (m .instance)) _ (a .1) in
-      let d = both (contextAllowed ends.Radio (m .context)) _ (b .1) in
-      let f = both (statusesAllowed ends.Radio (m .statuses)) _ (d .1) in
+      let a = and-eq-true-iff (datalinkAllowed (m .datalink)) _ .0 allowed in
+      let b = and-eq-true-iff (instanceAllowed ends.Radio (m .instance)) _ .0 (a .1) in
+      let d = and-eq-true-iff (contextAllowed ends.Radio (m .context)) _ .0 (b .1) in
+      let f = and-eq-true-iff (statusesAllowed ends.Radio (m .statuses)) _ .0 (d .1) in
       record {
         full = heard-length m (w .state) ∙ o .full;
         counted = heard-count m (w .state) ∙ o .counted;
@@ -83,8 +80,8 @@ module _ (count : ℕ) (w : World) (o : InOrder count w) (m : Control) where
     unfolding storeAt heardFrom heardOf
     store-heard = rw (at-heard, heard-start m (w .state) index)
 
-    pub seat-heard : (k : Setting) (st : State machine) → Seat k (w .state .datalink) (channelAt (w .state) index) (storeAt (w .state) index (w .memory)) st
-        → Seat k (heard .state .datalink) (channelAt (heard .state) index) (storeAt (heard .state) index (heard .memory)) (step machine k (partOf (k .id) m) st .state)
-    seat-heard k st seat =
-        rw (store-heard, at-heard, heard-datalink, ← (seat .setting), ← (seat .view))
-        (seated m (w .state .datalink) (channelAt (w .state) index) (storeAt (w .state) index (w .memory)) (seat .tidy))
+    pub ruled-heard : (k : Terms) (st : Condition machine) → AsRuled k (w .state .datalink) (channelIn w index) (storeIn w index) st
+        → AsRuled k (heard .state .datalink) (channelIn heard index) (storeIn heard index) (step machine k (partOf (k .id) m) st)
+    ruled-heard k st before =
+        rw (store-heard, at-heard, heard-datalink, ← (before .terms), ← (before .condition))
+        (heard-ruled m (w .state .datalink) (channelIn w index) (storeIn w index) (before .tidy))

@@ -3,6 +3,7 @@ pub mod Exact
 pub mod Serving
 pub mod Hearing
 pub mod Project
+pub mod Datagrams
 pub mod Fresh
 pub mod Whole
 pub mod Kept

@@ -7,175 +7,200 @@ use mathlib.Core.Path.{_≡_, refl, sym, ap, _∙_}
 use native.Mathlib.Omega.{arith}
 use lib.ListN.{length}
 use lib.Dec.{eqb}
+use Rattle.facts.proofs.Tests.{clash}
 use Rattle.quantity.specs.declared.count.FlowWindow.{FlowWindow}
-use Rattle.quantity.specs.declared.count.DatalinkId.{DatalinkId}
 use Rattle.quantity.specs.Limits.{MOST-CHANNELS}
 use Rattle.quantity.specs.Window.{standingAt}
 use Rattle.wire.specs.Numbers.{Octets}
 use Rattle.meaning.specs.declared.message.Window.{Window}
 use Rattle.meaning.specs.declared.message.Control.{Control}
-use Rattle.store.specs.Waiting.{Holds, packetsOf}
+use Rattle.store.specs.Waiting.{packetsOf}
 use Rattle.flow.specs.declared.Flow.{Flow}
 use Rattle.ips_channel_rules.specs.Machine.{machine}
 use Rattle.ips_channel_rules.specs.Simple.{simple}
 use Rattle.ips_channel_rules.specs.Agreement.{Agrees}
-use Rattle.ips_channel_rules.specs.Account.{takenIn, handedOver, bytesOver, Account, Later, quietly, Quiet}
-use Rattle.ips_channel_rules.specs.Life as life
-use Rattle.ips_channel_rules.specs.Life.{Event, State, answers, final}
-use Rattle.ips_channel_rules.proofs.Agree.{same-answers, same-end}
+use Rattle.ips_channel_rules.specs.Account.{takenIn, handedOver, bytesOver, Account, Later, isCall, NoRadio}
+use Rattle.ips_channel_rules.specs.Rules as rules
+use Rattle.ips_channel_rules.specs.Rules.{Event, Terms, Condition, history, final}
+use Rattle.ips_channel_rules.proofs.Agree.{same-history, same-end}
 use Rattle.ips_channel_rules.proofs.Account.{account, account-ledger, account-later}
 use Rattle.ips_channel_rules.specs.Windows.{Within, Under}
 use Rattle.ips_channel_rules.proofs.Within.{within-window, from-arrival, none-sends}
 use Rattle.ips_channel.specs.declared.state.Channel.{Channel}
-use Rattle.ips_channel.specs.Channel.{stateOf}
+use Rattle.ips_channel.specs.Channel.{conditionOf}
 use Rattle.ips_state.specs.declared.state.Configuration.{Configuration}
+use Rattle.ips_state.specs.Table.{startAt}
 use Rattle.ips_state.specs.Limits.{configurationFits}
 use Rattle.ips_state.proofs.Places.{fit}
 use Rattle.ips_radio.specs.Heard.{statusIn, windowIn}
-use Rattle.ips_run.specs.Run.{Call, offer, next, withdraw, radio, query, freshWorld, after, acceptedIn, ifOwn, sees, seesAll, answersAll}
-use Rattle.ips_run.specs.Demand.{BytesIn, Silent, settingAt, reached, channelIn, storeIn, ruled, seen, said, freshAt, simplyAt, elsewhere, Follows, Untouched, Reached}
+use Rattle.ips_state.specs.Memory.{World, channelIn, storeIn}
+use Rattle.ips_run.specs.Run.{Call, on, radio, query, freshWorld, acceptedBy, acceptedAll, after, afterAll, ifOwn, sees, seesAll}
+use Rattle.ips_run.specs.Datagrams.{acceptedAllWithin, seesAllWithin}
+use Rattle.ips_run.specs.Demand.{BytesIn, idAt, reached, ruled, seen, happened, seenSince, happenedSince, freshAt, simplyAt, TidyIn, Follows, Untouched, Reached}
 use Rattle.ips_run.specs.Settling.{ledgerAt}
 use Rattle.ips_run.proofs.Project.{untouched, all-follow}
-use Rattle.ips_run.proofs.Fresh.{fresh-order, fresh-placed}
+use Rattle.ips_run.proofs.Datagrams.{accepted-within, sees-within}
+use Rattle.ips_run.proofs.Fresh.{fresh-order, fresh-in}
 
--- ---- what is seen and answered of some calls and then others
-pub sees-append : (datalink : DatalinkId) (own : ℕ) (cs ds : List Call) → seesAll datalink own (cs ++ ds) ≡ seesAll datalink own cs ++ seesAll datalink own ds
-sees-append datalink own [] ds = refl
-sees-append datalink own (c ∷ cs) ds = rw (sees-append datalink own cs ds) (sym (append-assoc (sees datalink own c) (seesAll datalink own cs) (seesAll datalink own ds)))
+-- ---- what is seen of some calls and then others
+pub sees-append : (own : ℕ) (cs ds : List Call) (w : World) → seesAll own (cs ++ ds) w ≡ seesAll own cs w ++ seesAll own ds (afterAll cs w)
+sees-append own [] ds w = refl
+sees-append own (c ∷ cs) ds w = rw (sees-append own cs ds (after c w)) (sym (append-assoc (sees own c w) (seesAll own cs (after c w)) (seesAll own ds (afterAll cs (after c w)))))
 
 -- between two radio messages
-quiet-own : (own id : ℕ) (e : Event) → quietly e → (es : List Event) → Quiet es → Quiet (ifOwn own id e ++ es)
-quiet-own own id e q es r = by (eqb own id)
+none-first : {A : Type 0} (xs ys : List A) → xs ++ ys ≡ [] → xs ≡ []
+none-first [] ys e = refl
+none-first (x ∷ xs) ys e = clash (cc)
+
+none-rest : {A : Type 0} (xs ys : List A) → xs ++ ys ≡ [] → ys ≡ []
+none-rest [] ys e = e
+none-rest (x ∷ xs) ys e = clash (cc)
+
+calls-own : (own id : ℕ) (e : Event) → isCall e → (es : List Event) → NoRadio es → NoRadio (ifOwn own id e ++ es)
+calls-own own id e q es r = by (eqb own id)
   where
-    by : (b : Bool) → Quiet (cond b (e ∷ []) [] ++ es)
+    by : (b : Bool) → NoRadio (cond b (e ∷ []) [] ++ es)
     by true = (q, r)
     by false = r
 
-quiet-sees : (datalink : DatalinkId) (own : ℕ) (cs : List Call) → Silent datalink cs → Quiet (seesAll datalink own cs)
-quiet-sees datalink own [] s = tt
-quiet-sees datalink own (offer id p time ∷ cs) s = quiet-own own id (life.offer p time) tt _ (quiet-sees datalink own cs (s .1))
-quiet-sees datalink own (next id time out ∷ cs) s = quiet-own own id (life.next time (length out)) tt _ (quiet-sees datalink own cs (s .1))
-quiet-sees datalink own (withdraw id ∷ cs) s = quiet-own own id life.withdraw tt _ (quiet-sees datalink own cs (s .1))
-quiet-sees datalink own (radio datagram ∷ cs) s = rw (s .0) (quiet-sees datalink own cs (s .1))
-quiet-sees datalink own (query out ∷ cs) s = quiet-sees datalink own cs (s .1)
+calls-seen : (own : ℕ) (cs : List Call) (w : World) → acceptedAll cs w ≡ [] → NoRadio (seesAll own cs w)
+calls-seen own [] w none = tt
+calls-seen own (on id c ∷ cs) w none = calls-own own id (rules.call c) tt _ (calls-seen own cs (after (on id c) w) (none-rest (acceptedBy (on id c) w) _ none))
+calls-seen own (radio datagram ∷ cs) w none =
+    rw (none-first (acceptedBy (radio datagram) w) _ none) (calls-seen own cs (after (radio datagram) w) (none-rest (acceptedBy (radio datagram) w) _ none))
+calls-seen own (query out ∷ cs) w none = calls-seen own cs (after (query out) w) (none-rest (acceptedBy (query out) w) _ none)
 
-pub state-book : (c : Channel) (store : List ℕ) → stateOf c store .book ≡ packetsOf (c .queue) store
-unfolding stateOf
-state-book c store = refl
+pub waiting-of : (c : Channel) (store : List ℕ) → conditionOf c store .keeping ≡ packetsOf (c .queue) store
+unfolding conditionOf
+waiting-of c store = refl
 
-state-latest : (c : Channel) (store : List ℕ) → stateOf c store .latest ≡ c .latest
-unfolding stateOf
-state-latest c store = refl
+latest-of : (c : Channel) (store : List ℕ) → conditionOf c store .latest ≡ c .latest
+unfolding conditionOf
+latest-of c store = refl
 
-state-meter : (c : Channel) (store : List ℕ) → (stateOf c store .meter .flow ≡ c .flow) × (stateOf c store .meter .sequence ≡ c .sequence)
-unfolding stateOf
-state-meter c store = (refl, refl)
+counting-of : (c : Channel) (store : List ℕ) → (conditionOf c store .counting .flow ≡ c .flow) × (conditionOf c store .counting .sequence ≡ c .sequence)
+unfolding conditionOf
+counting-of c store = (refl, refl)
 
-module _ (k : Configuration) (full : length (k .settings) ≡ MOST-CHANNELS) (fits : configurationFits k ≡ true) where
+module _ (k : Configuration) (full : length (k .starts) ≡ MOST-CHANNELS) (fits : configurationFits k ≡ true) where
   -- ---- each channel
   module _ (index : ℕ) (inside : index < k .count) where
-    follows : (cs : List Call) → BytesIn cs → Follows (ruled k index) (k .count) index (reached k cs) (said k index cs) (seen k index cs) (freshAt k index)
-    follows cs bytes = all-follow (ruled k index) (k .count) index inside cs bytes (freshWorld k) (freshAt k index) (fresh-placed k full fits index inside)
+    follows : (cs : List Call) → BytesIn cs → Follows (ruled k index) (k .count) index (reached k cs) (happened k index cs) (seen k index cs) (freshAt k index)
+    follows cs bytes = all-follow (ruled k index) (k .count) index inside cs bytes (freshWorld k) (freshAt k index) (fresh-in k full fits index inside)
 
     module _ (cs : List Call) (bytes : BytesIn cs) where
-      -- THE PROJECTION: the channel and its store are what the rules leave of what it saw, and every answer to it is theirs
-      pub projected : stateOf (channelIn (reached k cs) index) (storeIn (reached k cs) index) ≡ final machine (ruled k index) (seen k index cs) (freshAt k index)
-      projected = follows cs bytes .placed .seat .view
+      -- THE PROJECTION: the channel and its store are what the rules leave of what it saw, and what happened to it is theirs
+      pub projected : conditionOf (channelIn (reached k cs) index) (storeIn (reached k cs) index) ≡ final machine (ruled k index) (seen k index cs) (freshAt k index)
+      projected = follows cs bytes .ruled-in .as-ruled .condition
 
-      pub projected-answers : said k index cs ≡ answers machine (ruled k index) (seen k index cs) (freshAt k index)
-      projected-answers = follows cs bytes .answered
+      pub projected-history : happened k index cs ≡ history machine (ruled k index) (seen k index cs) (freshAt k index)
+      projected-history = follows cs bytes .history-is
 
       -- its queue and its store hold the packets that wait and nothing else: "behind them stand zeros"
-      pub whole-tidy : Holds (channelIn (reached k cs) index .size .0) (packetsOf (channelIn (reached k cs) index .queue) (storeIn (reached k cs) index)) (channelIn (reached k cs) index .queue)
-          (storeIn (reached k cs) index)
-      whole-tidy = follows cs bytes .placed .seat .tidy
+      pub whole-tidy : TidyIn (reached k cs) index
+      whole-tidy = follows cs bytes .ruled-in .as-ruled .tidy
 
-      -- a call on another channel, a radio message that is not accepted, a query: no byte of it changes
-      pub whole-untouched : (d : Call) → elsewhere (k .datalink) (settingAt k index .id) d → Untouched index (reached k cs) (after d (reached k cs))
-      whole-untouched = untouched (ruled k index) (k .count) index inside (reached k cs) _ (follows cs bytes .placed)
+      -- what it doesn't see (a call on another channel, a radio message that is not accepted, a query) changes no byte of it
+      pub whole-untouched : (d : Call) → sees (idAt k index) d (reached k cs) ≡ [] → Untouched index (reached k cs) (after d (reached k cs))
+      whole-untouched = untouched (ruled k index) (k .count) index inside (reached k cs) _ (follows cs bytes .ruled-in)
+
+      -- what it saw is a matter of the calls alone
+      pub whole-sees : seen k index cs ≡ seesAllWithin (k .datalink) (idAt k index) cs
+      whole-sees = sees-within (ruled k index) (k .count) index inside (idAt k index) cs bytes (freshWorld k) (freshAt k index) (fresh-in k full fits index inside)
 
     -- ---- and the simple channel
-    module _ (small : settingAt k index .first .0 < 2 ^ 32) (cs : List Call) (bytes : BytesIn cs) where
+    module _ (small : startAt k index .first .0 < 2 ^ 32) (cs : List Call) (bytes : BytesIn cs) where
       -- every answer is the simple channel's
-      pub whole-answers : said k index cs ≡ answers simple (ruled k index) (seen k index cs) (simplyAt k index)
-      whole-answers = projected-answers cs bytes ∙ same-answers (ruled k index) (settingAt k index .first) small (seen k index cs)
+      pub whole-history : happened k index cs ≡ history simple (ruled k index) (seen k index cs) (simplyAt k index)
+      whole-history = projected-history cs bytes ∙ same-history (ruled k index) (startAt k index .first) small (seen k index cs)
 
       -- where it stands is where the simple channel stands: the sequence is the count's low 32 bits, the window stands for the number, what waits is what the ledger has
-      pub whole-holds : Agrees (stateOf (channelIn (reached k cs) index) (storeIn (reached k cs) index)) (final simple (ruled k index) (seen k index cs) (simplyAt k index))
-      whole-holds = rw (projected cs bytes) (same-end (ruled k index) (settingAt k index .first) small (seen k index cs))
+      pub whole-holds : Agrees (conditionOf (channelIn (reached k cs) index) (storeIn (reached k cs) index)) (final simple (ruled k index) (seen k index cs) (simplyAt k index))
+      whole-holds = rw (projected cs bytes) (same-end (ruled k index) (startAt k index .first) small (seen k index cs))
 
       -- "Every packet taken in is, at each moment, exactly one of sent, expired, withdrawn or waiting, and those sent on a channel leave in the order they came":
       -- those that wait are the packets in the channel's queue and in the lent memory
-      pub whole-account : Account (takenIn (seen k index cs) (said k index cs)) (handedOver (said k index cs))
+      pub whole-account : Account (takenIn (happened k index cs)) (handedOver (happened k index cs))
           (packetsOf (channelIn (reached k cs) index .queue) (storeIn (reached k cs) index)) (channelIn (reached k cs) index .latest)
       whole-account =
-          let a = account (ruled k index) (settingAt k index .first) small (seen k index cs) in
+          let a = account (ruled k index) (startAt k index .first) small (seen k index cs) in
           let at = projected cs bytes in
           record {
             ledger = a .ledger;
-            of-taken = rw (projected-answers cs bytes) (a .of-taken);
-            of-sent = rw (projected-answers cs bytes) (a .of-sent);
-            of-waiting = a .of-waiting ∙ sym (ap (λ (st : State machine). st .book) at) ∙ state-book (channelIn (reached k cs) index) (storeIn (reached k cs) index);
-            of-time = rw (← (state-latest (channelIn (reached k cs) index) (storeIn (reached k cs) index)), at) (a .of-time);
+            of-taken = rw (projected-history cs bytes) (a .of-taken);
+            of-sent = rw (projected-history cs bytes) (a .of-sent);
+            of-waiting = a .of-waiting ∙ sym (ap (λ (st : Condition machine). st .keeping) at) ∙ waiting-of (channelIn (reached k cs) index) (storeIn (reached k cs) index);
+            of-time = rw (← (latest-of (channelIn (reached k cs) index) (storeIn (reached k cs) index)), at) (a .of-time);
           }
 
     -- the account's ledger is the simple channel's, of which `Settling` says which call gave which fate
-    pub whole-ledger : (small : settingAt k index .first .0 < 2 ^ 32) (cs : List Call) (bytes : BytesIn cs) → whole-account small cs bytes .ledger ≡ ledgerAt k index cs
+    pub whole-ledger : (small : startAt k index .first .0 < 2 ^ 32) (cs : List Call) (bytes : BytesIn cs) → whole-account small cs bytes .ledger ≡ ledgerAt k index cs
     unfolding whole-account
-    whole-ledger small cs bytes = account-ledger (ruled k index) (settingAt k index .first) small (seen k index cs)
+    whole-ledger small cs bytes = account-ledger (ruled k index) (startAt k index .first) small (seen k index cs)
 
     -- a fate once given stays, whatever is called next
-    pub whole-later : (small : settingAt k index .first .0 < 2 ^ 32) (cs ds : List Call) (bytes : BytesIn cs) (more : BytesIn (cs ++ ds))
+    pub whole-later : (small : startAt k index .first .0 < 2 ^ 32) (cs ds : List Call) (bytes : BytesIn cs) (more : BytesIn (cs ++ ds))
         → Later (whole-account small cs bytes .ledger) (whole-account small (cs ++ ds) more .ledger)
     unfolding whole-account
     whole-later small cs ds bytes more =
-        rw (sees-append (k .datalink) (settingAt k index .id) cs ds) (account-later (ruled k index) (settingAt k index .first) small (seen k index cs) (seen k index ds))
+        rw (sees-append (idAt k index) cs ds (freshWorld k)) (account-later (ruled k index) (startAt k index .first) small (seen k index cs) (seenSince k index cs ds))
 
     -- ---- between two radio messages: calls `ds` after calls `cs`, no radio message accepted among them
-    module _ (cs ds : List Call) (bytes : BytesIn cs) (more : BytesIn ds) (silent : Silent (k .datalink) ds) where
-      since-is : answersAll (settingAt k index .id) ds (reached k cs) ≡ answers machine (ruled k index) (seen k index ds) (final machine (ruled k index) (seen k index cs) (freshAt k index))
-      since-is = all-follow (ruled k index) (k .count) index inside ds more (reached k cs) _ (follows cs bytes .placed) .answered
+    module _ (cs ds : List Call) (bytes : BytesIn cs) (more : BytesIn ds) where
+      since-is : happenedSince k index cs ds ≡ history machine (ruled k index) (seenSince k index cs ds) (final machine (ruled k index) (seen k index cs) (freshAt k index))
+      since-is = all-follow (ruled k index) (k .count) index inside ds more (reached k cs) _ (follows cs bytes .ruled-in) .history-is
 
-      -- "While a window is in force no packet goes past it."
-      pub whole-within : settingAt k index .first .0 < 2 ^ 32 → (window : FlowWindow) → channelIn (reached k cs) index .flow ≡ Flow.InForce window
-          → Within (final simple (ruled k index) (seen k index cs) (simplyAt k index) .meter) (channelIn (reached k cs) index .sequence) window
-          (bytesOver (handedOver (answersAll (settingAt k index .id) ds (reached k cs))))
-      whole-within small window force =
-          let at = projected cs bytes in
-          let meter = state-meter (channelIn (reached k cs) index) (storeIn (reached k cs) index) in
-          let flow = sym (ap (λ (st : State machine). st .meter .flow) at) ∙ meter .0 ∙ force in
-          let sequence = sym (meter .1) ∙ ap (λ (st : State machine). st .meter .sequence) at in
-          rw (since-is, sequence) (within-window (ruled k index) window (seen k index ds) (quiet-sees (k .datalink) (settingAt k index .id) ds silent) (settingAt k index .first) small (seen k index cs) flow)
+      module _ (none : acceptedAll ds (reached k cs) ≡ []) where
+        -- "While a window is in force no packet goes past it."
+        pub whole-within : startAt k index .first .0 < 2 ^ 32 → (window : FlowWindow) → channelIn (reached k cs) index .flow ≡ Flow.InForce window
+            → Within (final simple (ruled k index) (seen k index cs) (simplyAt k index) .counting) (channelIn (reached k cs) index .sequence) window (bytesOver (handedOver (happenedSince k index cs ds)))
+        whole-within small window force =
+            let at = projected cs bytes in
+            let meter = counting-of (channelIn (reached k cs) index) (storeIn (reached k cs) index) in
+            let flow = sym (ap (λ (st : Condition machine). st .counting .flow) at) ∙ meter .0 ∙ force in
+            let sequence = sym (meter .1) ∙ ap (λ (st : Condition machine). st .counting .sequence) at in
+            rw (since-is, sequence) (within-window (ruled k index) window (seenSince k index cs ds) (calls-seen (idAt k index) ds (reached k cs) none) (startAt k index .first) small (seen k index cs) flow)
 
-      -- "Fresh flow-controlled channels have no window": nothing goes then, nor after an option without one
-      pub whole-none : channelIn (reached k cs) index .flow ≡ Flow.NoWindow → handedOver (answersAll (settingAt k index .id) ds (reached k cs)) ≡ []
-      whole-none e =
-          let at = projected cs bytes in
-          let flow = sym (ap (λ (st : State machine). st .meter .flow) at) ∙ state-meter (channelIn (reached k cs) index) (storeIn (reached k cs) index) .0 ∙ e in
-          rw since-is (none-sends (ruled k index) (final machine (ruled k index) (seen k index cs) (freshAt k index)) flow (seen k index ds) (quiet-sees (k .datalink) (settingAt k index .id) ds silent))
+        -- "Fresh flow-controlled channels have no window": nothing goes then, nor after an option without one
+        pub whole-none : channelIn (reached k cs) index .flow ≡ Flow.NoWindow → handedOver (happenedSince k index cs ds) ≡ []
+        whole-none e =
+            let at = projected cs bytes in
+            let flow = sym (ap (λ (st : Condition machine). st .counting .flow) at) ∙ counting-of (channelIn (reached k cs) index) (storeIn (reached k cs) index) .0 ∙ e in
+            rw since-is (none-sends (ruled k index) (final machine (ruled k index) (seen k index cs) (freshAt k index)) flow (seenSince k index cs ds) (calls-seen (idAt k index) ds (reached k cs) none))
 
-      -- a window arrives: what goes until the next radio message never passes the number that it stands for at the count when it came
-      pub whole-arrival : settingAt k index .first .0 < 2 ^ 32 → settingAt k index .controlled ≡ true → (datagram : List ℕ) → Octets datagram → (m : Control)
-          → acceptedIn (k .datalink) datagram ≡ m ∷ [] → (window : FlowWindow) → windowIn m (settingAt k index .id) ≡ Window.Given window
-          → let before = final simple (ruled k index) (seen k index cs) (simplyAt k index) in
-          Under (before .meter .count) (standingAt (before .meter .count) window) (bytesOver (handedOver (answersAll (settingAt k index .id) (radio datagram ∷ ds) (reached k cs))))
-          (final simple (ruled k index) (seen k index (radio datagram ∷ ds)) before .meter)
-      whole-arrival small controlled datagram octets m accepted window given =
-          let own = settingAt k index .id in
+    -- a window arrives: what goes until the next radio message never passes the number that it stands for at the count when it came
+    module _ (small : startAt k index .first .0 < 2 ^ 32) (controlled : startAt k index .setting .controlled ≡ true) (cs ds : List Call) (bytes : BytesIn cs) (more : BytesIn ds)
+        (datagram : List ℕ) (octets : Octets datagram) (m : Control) (accepted : acceptedBy (radio datagram) (reached k cs) ≡ m ∷ [])
+        (none : acceptedAll ds (after (radio datagram) (reached k cs)) ≡ []) (window : FlowWindow) (given : windowIn m (idAt k index) ≡ Window.Given window) where
+      arrives : seenSince k index cs (radio datagram ∷ ds) ≡ rules.radio (statusIn m (idAt k index)) (Window.Given window) ∷ seesAll (idAt k index) ds (after (radio datagram) (reached k cs))
+      arrives = rw (accepted, given)
+
+      pub whole-arrival : let before = final simple (ruled k index) (seen k index cs) (simplyAt k index) in
+          Under (before .counting .count) (standingAt (before .counting .count) window) (bytesOver (handedOver (happenedSince k index cs (radio datagram ∷ ds))))
+          (final simple (ruled k index) (seenSince k index cs (radio datagram ∷ ds)) before .counting)
+      whole-arrival =
+          let own = idAt k index in
           let st = final machine (ruled k index) (seen k index cs) (freshAt k index) in
-          let arrives : seen k index (radio datagram ∷ ds) ≡ life.radio (statusIn m own) (Window.Given window) ∷ seen k index ds = rw (accepted, given) in
-          let answered = all-follow (ruled k index) (k .count) index inside (radio datagram ∷ ds) (octets, more) (reached k cs) st (follows cs bytes .placed) .answered in
-          rw (answered, arrives)
-          (from-arrival (ruled k index) window (seen k index ds) (quiet-sees (k .datalink) own ds silent) controlled (statusIn m own) st _ (same-end (ruled k index) (settingAt k index .first) small (seen k index cs)))
+          let after-it = after (radio datagram) (reached k cs) in
+          rw (since-is cs (radio datagram ∷ ds) bytes (octets, more), arrives)
+          (from-arrival (ruled k index) window (seesAll own ds after-it) (calls-seen own ds after-it none) controlled (statusIn m own) st _ (same-end (ruled k index) (startAt k index .first) small (seen k index cs)))
 
-  -- ---- every state reached is one that 19 does not refuse, configured as it was
-  pub reached-fits : (cs : List Call) → BytesIn cs → Reached k (reached k cs)
-  reached-fits cs bytes =
+  -- ---- every world reached is one that 19 does not refuse, configured as it was
+  primary : 0 < k .count
+  primary =
       let some = fit (freshWorld k .state) (fresh-order k full fits .state-fits) .some in
-      let primary : 0 < k .count = omega (arith, fresh-order k full fits .counted) in
-      let first = follows 0 primary cs bytes .placed in
-      record {
-        order = first .order;
-        datalink = ap (λ (x : life.Setting). x .datalink) (first .seat .setting);
-        settings = λ index inside. follows index inside cs bytes .placed .seat .setting;
-      }
+      omega (arith, fresh-order k full fits .counted)
+
+  module _ (cs : List Call) (bytes : BytesIn cs) where
+    pub reached-fits : Reached k (reached k cs)
+    reached-fits =
+        let first = follows 0 primary cs bytes .ruled-in in
+        record {
+          order = first .order;
+          datalink = ap (λ (x : Terms). x .datalink) (first .as-ruled .terms);
+          terms = λ index inside. follows index inside cs bytes .ruled-in .as-ruled .terms;
+        }
+
+    -- what was accepted is a matter of the calls alone
+    pub whole-accepted : acceptedAll cs (freshWorld k) ≡ acceptedAllWithin (k .datalink) cs
+    whole-accepted = accepted-within (ruled k 0) (k .count) 0 primary cs bytes (freshWorld k) (freshAt k 0) (fresh-in k full fits 0 primary)

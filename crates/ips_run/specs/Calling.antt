@@ -1,57 +1,55 @@
 -- One call on one channel of the endpoint. "Calls on a state test 19 first. Then, offering a packet: 12, 13, 14, 15, 16, 17. Asking for the next: 12, 15, 18.
 -- Withdrawing: 12." From 13 on the channel judges.
 use Prim.Native.Nat.{ℕ}
-use mathlib.Core.Bool.{true, false, cond, not, _&&_}
-use mathlib.Core.List.{List}
+use mathlib.Core.Bool.{true, false, cond, not}
 use mathlib.Core.Path.{_≡_}
-use Rattle.quantity.specs.declared.count.DatalinkId.{DatalinkId}
-use Rattle.quantity.specs.Refusals.{NO-CHANNEL, CONFIGURATION}
-use Rattle.meaning.specs.Kinds.{among}
-use Rattle.store.specs.Packets.{Packet}
+use Rattle.quantity.specs.Refusals.{NO-CHANNEL, OUTSIDE-LIMITS}
+use Rattle.ips_channel_rules.specs.Rules.{ChannelCall, Says, Answer, refused, Terms, Condition, Result}
 use Rattle.ips_channel_rules.specs.Machine.{machine}
-use Rattle.ips_channel_rules.specs.Life.{Result, Answer, refused}
-use Rattle.ips_channel.specs.declared.state.Channel.{Channel}
-use Rattle.ips_channel_calls.specs.Calls.{channelAfter, storeAfter, offerResult, nextResult}
-use Rattle.ips_state.specs.declared.state.State.{State}
-use Rattle.ips_state.specs.Table.{configured, channelAt, withChannel}
-use Rattle.ips_state.specs.Limits.{ids, indexOf, stateFits}
-use Rattle.ips_state.specs.Memory.{memoryFits, storeAt, withStore}
+use Rattle.ips_channel.specs.Channel.{termsOf, conditionOf}
+use Rattle.ips_channel_calls.specs.Calls.{channelAfter, storeAfter, resultOf}
+use Rattle.ips_state.specs.Table.{withChannel}
+use Rattle.ips_state.specs.Memory.{withStore, World, worldFits, isConfigured, indexIn, channelIn, storeIn}
 
--- what a call comes to: the answer of the rules, the state and the memory that it leaves
-pub record Outcome : Type 0 where
-  pub answer : Answer
-  pub state : State
-  pub memory : List ℕ
+-- ---- the channel at an index of the configuration: how it is configured, the condition that it is in, and what the rules give for a call on it
+abbrev pub termsIn : World → ℕ → Terms
+termsIn w index = termsOf (w .state .datalink) (channelIn w index .setting)
+
+abbrev pub conditionIn : World → ℕ → Condition machine
+conditionIn w index = conditionOf (channelIn w index) (storeIn w index)
+
+abbrev pub resultIn : (c : ChannelCall) → World → ℕ → Result machine (Says c)
+resultIn c w index = resultOf (w .state .datalink) c (channelIn w index) (storeIn w index)
+
+-- ---- what a call comes to: the answer of the rules, and the world that it leaves
+pub record WorldResult (A : Type 0) : Type 0 where
+  pub answer : Answer A
+  pub world : World
 
 -- "changes no state and no lent byte"
-abbrev pub refusing : ℕ → State → List ℕ → Outcome
-refusing number s memory = record { answer = refused number; state = s; memory = memory }
+abbrev pub refusing : {A : Type 0} → ℕ → World → WorldResult A
+refusing number w = record { answer = refused number; world = w }
+
+-- the channel and its store, put back
+abbrev pub puttingBack : {A : Type 0} → Result machine A → World → ℕ → World
+puttingBack r w index =
+    record {
+      state = withChannel (w .state) index (channelAfter (channelIn w index) r);
+      memory = withStore (w .state) index (w .memory) (storeAfter (channelIn w index) (storeIn w index) r);
+    }
 
 -- a call on the channel at an index, and on its store
-abbrev pub atChannel : (Channel → List ℕ → Result machine) → State → List ℕ → ℕ → Outcome
-atChannel call s memory index =
-    let c = channelAt s index in
-    let store = storeAt s index memory in
-    record { answer = call c store .answer; state = withChannel s index (channelAfter c (call c store)); memory = withStore s index memory (storeAfter c store (call c store)) }
-
--- a channel is found by its ID, wherever it stands in the configuration
-abbrev pub placeIn : State → ℕ → ℕ
-placeIn s id = indexOf id (ids (configured s))
+abbrev pub atChannel : (c : ChannelCall) → World → ℕ → WorldResult (Says c)
+atChannel c w index = record { answer = resultIn c w index .answer; world = puttingBack (resultIn c w index) w index }
 
 -- 19, 12, then the call
-unfoldable pub calling : (Channel → List ℕ → Result machine) → State → List ℕ → ℕ → Outcome
-calling call s memory id =
-    cond (not (stateFits s && memoryFits s memory)) (refusing CONFIGURATION s memory)
-    (cond (not (among id (ids (configured s)))) (refusing NO-CHANNEL s memory) (atChannel call s memory (placeIn s id)))
+unfoldable pub calling : (id : ℕ) (c : ChannelCall) → World → WorldResult (Says c)
+calling id c w =
+    cond (not (worldFits w)) (refusing OUTSIDE-LIMITS w)
+    (cond (not (isConfigured w id)) (refusing NO-CHANNEL w) (atChannel c w (indexIn w id)))
 
 -- the same by what is given: number 19, number 12, or what the channel judges
-pub data Called (call : Channel → List ℕ → Result machine) (s : State) (memory : List ℕ) (id : ℕ) : Outcome → Type 0 where
-  outside : (stateFits s && memoryFits s memory) ≡ false → Called call s memory id (refusing CONFIGURATION s memory)
-  unknown : (stateFits s && memoryFits s memory) ≡ true → among id (ids (configured s)) ≡ false → Called call s memory id (refusing NO-CHANNEL s memory)
-  served : (stateFits s && memoryFits s memory) ≡ true → among id (ids (configured s)) ≡ true → Called call s memory id (atChannel call s memory (placeIn s id))
-
-abbrev pub offering : Packet → ℕ → Channel → List ℕ → Result machine
-offering p time c store = offerResult c store p time
-
-abbrev pub asking : DatalinkId → (time room : ℕ) → Channel → List ℕ → Result machine
-asking datalink time room c store = nextResult c store datalink time room
+pub data Judged (id : ℕ) (c : ChannelCall) (w : World) : WorldResult (Says c) → Type 0 where
+  outside : worldFits w ≡ false → Judged id c w (refusing OUTSIDE-LIMITS w)
+  unknown : worldFits w ≡ true → isConfigured w id ≡ false → Judged id c w (refusing NO-CHANNEL w)
+  served : worldFits w ≡ true → isConfigured w id ≡ true → Judged id c w (atChannel c w (indexIn w id))

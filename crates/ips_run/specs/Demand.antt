@@ -1,30 +1,28 @@
 -- Demand 3, for any sequence of calls: what a world is that calls reached, and what one channel of it is.
 use Prim.Native.Nat.{ℕ, _<_}
-use mathlib.Core.Bool.{false, true}
+use mathlib.Core.Bool.{true}
 use mathlib.Core.List.{List, [], _∷_}
 use mathlib.Core.Path.{_≡_}
-use lib.ListN.{length, getD}
+use lib.ListN.{length}
 use Rattle.quantity.specs.declared.count.DatalinkId.{DatalinkId}
 use Rattle.quantity.specs.Limits.{MOST-CHANNELS}
 use Rattle.wire.specs.Numbers.{Octets}
 use Rattle.store.specs.Waiting.{Holds, packetsOf}
+use Rattle.ips_channel_rules.specs.Rules.{Event, Happened, Terms, Condition, history, final}
 use Rattle.ips_channel_rules.specs.Machine.{machine, freshMachine}
 use Rattle.ips_channel_rules.specs.Simple.{simple, freshSimple}
-use Rattle.ips_channel_rules.specs.Life as life
 use Rattle.ips_channel.specs.declared.state.Channel.{Channel}
-use Rattle.ips_channel.specs.Channel.{stateOf}
-use Rattle.ips_state.specs.declared.state.Setting.{Setting}
+use Rattle.ips_channel.specs.Channel.{termsOf, conditionOf}
 use Rattle.ips_state.specs.declared.state.Configuration.{Configuration}
-use Rattle.ips_state.specs.Table.{channelAt}
+use Rattle.ips_state.specs.Table.{startAt}
 use Rattle.ips_state.specs.Limits.{stateFits}
-use Rattle.ips_state.specs.Memory.{memoryFits, storeAt}
-use Rattle.ips_run.specs.Run.{Call, offer, next, withdraw, radio, query, World, acceptedIn, freshWorld, afterAll, seesAll, answersAll}
+use Rattle.ips_state.specs.Memory.{memoryFits, World, channelIn, storeIn}
+use Rattle.ips_run.specs.Calling.{termsIn}
+use Rattle.ips_run.specs.Run.{Call, on, radio, query, freshWorld, afterAll, seesAll, happensAll}
 
 -- ---- what is called: a datagram is made of bytes
 abbrev pub bytesIn : Call → Type 0
-bytesIn (offer id p time) = Unit {0}
-bytesIn (next id time out) = Unit {0}
-bytesIn (withdraw id) = Unit {0}
+bytesIn (on id c) = Unit {0}
 bytesIn (radio datagram) = Octets datagram
 bytesIn (query out) = Unit {0}
 
@@ -32,66 +30,36 @@ abbrev pub BytesIn : List Call → Type 0
 BytesIn [] = Unit {0}
 BytesIn (c ∷ cs) = bytesIn c × BytesIn cs
 
--- between two radio messages: none is accepted
-abbrev pub silently : DatalinkId → Call → Type 0
-silently datalink (offer id p time) = Unit {0}
-silently datalink (next id time out) = Unit {0}
-silently datalink (withdraw id) = Unit {0}
-silently datalink (radio datagram) = acceptedIn datalink datagram ≡ []
-silently datalink (query out) = Unit {0}
+-- ---- the channel at an index of the configuration: its ID, how it is configured, as the rules have it when fresh, and as the simple channel is then
+abbrev pub idAt : Configuration → ℕ → ℕ
+idAt k index = startAt k index .setting .id
 
-abbrev pub Silent : DatalinkId → List Call → Type 0
-Silent datalink [] = Unit {0}
-Silent datalink (c ∷ cs) = silently datalink c × Silent datalink cs
+abbrev pub ruled : Configuration → ℕ → Terms
+ruled k index = termsOf (k .datalink) (startAt k index .setting)
 
--- a call that is not the channel's own, nor an accepted radio message
-abbrev pub elsewhere : DatalinkId → ℕ → Call → Type 0
-elsewhere datalink own (offer id p time) = own ≡ id → ⊥
-elsewhere datalink own (next id time out) = own ≡ id → ⊥
-elsewhere datalink own (withdraw id) = own ≡ id → ⊥
-elsewhere datalink own (radio datagram) = acceptedIn datalink datagram ≡ []
-elsewhere datalink own (query out) = Unit {0}
+abbrev pub freshAt : Configuration → ℕ → Condition machine
+freshAt k index = freshMachine (startAt k index .setting .controlled) (startAt k index .first)
 
--- ---- how a channel is configured, as the rules of its life take it
-abbrev pub settingAt : Configuration → ℕ → Setting
-settingAt k index = getD (k .settings) index (record { id = 0; controlled = false; first = record { 0 = 0 }; size = record { 0 = 0 } })
+abbrev pub simplyAt : Configuration → ℕ → Condition simple
+simplyAt k index = freshSimple (startAt k index .setting .controlled) (startAt k index .first)
 
-abbrev pub lifeOf : DatalinkId → Setting → life.Setting
-lifeOf datalink k = record { datalink = datalink; id = k .id; controlled = k .controlled; size = k .size .0 }
-
-abbrev pub ruledBy : DatalinkId → Channel → life.Setting
-ruledBy datalink c = record { datalink = datalink; id = c .id; controlled = c .controlled; size = c .size .0 }
-
--- a call as the rules of the channel's life have it
-abbrev pub stepping : DatalinkId → life.Event → Channel → List ℕ → life.Result machine
-stepping datalink e c store = life.step machine (ruledBy datalink c) e (stateOf c store)
-
--- ---- a run from a fresh start, and the channel at an index of the configuration in it
+-- ---- a run from a fresh start, and that channel in it
 abbrev pub reached : Configuration → List Call → World
 reached k cs = afterAll cs (freshWorld k)
 
-abbrev pub channelIn : World → ℕ → Channel
-channelIn w index = channelAt (w .state) index
+-- what it saw, and what happened to it
+abbrev pub seen : Configuration → ℕ → List Call → List Event
+seen k index cs = seesAll (idAt k index) cs (freshWorld k)
 
-abbrev pub storeIn : World → ℕ → List ℕ
-storeIn w index = storeAt (w .state) index (w .memory)
+abbrev pub happened : Configuration → ℕ → List Call → List Happened
+happened k index cs = happensAll (idAt k index) cs (freshWorld k)
 
-abbrev pub ruled : Configuration → ℕ → life.Setting
-ruled k index = lifeOf (k .datalink) (settingAt k index)
+-- the same of calls `ds` after calls `cs`
+abbrev pub seenSince : Configuration → ℕ → (cs ds : List Call) → List Event
+seenSince k index cs ds = seesAll (idAt k index) ds (reached k cs)
 
--- what it saw, and what was answered to its calls
-abbrev pub seen : Configuration → ℕ → List Call → List life.Event
-seen k index cs = seesAll (k .datalink) (settingAt k index .id) cs
-
-abbrev pub said : Configuration → ℕ → List Call → List life.Answer
-said k index cs = answersAll (settingAt k index .id) cs (freshWorld k)
-
--- as the rules have it when fresh, and as the simple channel is
-abbrev pub freshAt : Configuration → ℕ → life.State machine
-freshAt k index = freshMachine (settingAt k index .controlled) (settingAt k index .first)
-
-abbrev pub simplyAt : Configuration → ℕ → life.State simple
-simplyAt k index = freshSimple (settingAt k index .controlled) (settingAt k index .first)
+abbrev pub happenedSince : Configuration → ℕ → (cs ds : List Call) → List Happened
+happenedSince k index cs ds = happensAll (idAt k index) ds (reached k cs)
 
 -- ---- a world that 19 does not refuse
 pub record InOrder (count : ℕ) (w : World) : Type 0 where
@@ -100,32 +68,37 @@ pub record InOrder (count : ℕ) (w : World) : Type 0 where
   pub state-fits : stateFits (w .state) ≡ true
   pub memory-fits : memoryFits (w .state) (w .memory) ≡ true
 
--- ---- one channel and its store: configured so, in such a state; "A store holds the waiting packets end to end in order from its start .. behind them stand zeros."
-pub record Seat (k : life.Setting) (datalink : DatalinkId) (c : Channel) (store : List ℕ) (st : life.State machine) : Type 0 where
-  pub setting : ruledBy datalink c ≡ k
-  pub view : stateOf c store ≡ st
-  pub tidy : Holds (c .size .0) (packetsOf (c .queue) store) (c .queue) store
+-- ---- a channel's queue and its store hold the packets that wait and nothing else: "A store holds the waiting packets end to end in order from its start .. behind
+-- them stand zeros."
+abbrev pub Tidy : Channel → List ℕ → Type 0
+Tidy c store = Holds (c .setting .size .0) (packetsOf (c .queue) store) (c .queue) store
 
-pub record Placed (k : life.Setting) (count index : ℕ) (w : World) (st : life.State machine) : Type 0 where
+abbrev pub TidyIn : World → ℕ → Type 0
+TidyIn w index = Tidy (channelIn w index) (storeIn w index)
+
+-- ---- one channel and its store: configured so, in such a condition
+pub record AsRuled (k : Terms) (datalink : DatalinkId) (c : Channel) (store : List ℕ) (st : Condition machine) : Type 0 where
+  pub terms : termsOf datalink (c .setting) ≡ k
+  pub condition : conditionOf c store ≡ st
+  pub tidy : Tidy c store
+
+-- such a channel at an index of a world that is in order
+pub record RuledIn (k : Terms) (count index : ℕ) (w : World) (st : Condition machine) : Type 0 where
   pub order : InOrder count w
-  pub seat : Seat k (w .state .datalink) (channelAt (w .state) index) (storeAt (w .state) index (w .memory)) st
+  pub as-ruled : AsRuled k (w .state .datalink) (channelIn w index) (storeIn w index) st
 
--- what calls leave of the channel, and their answers to it, are what the rules give on the events
-pub record Follows (k : life.Setting) (count index : ℕ) (w : World) (given : List life.Answer) (es : List life.Event) (st : life.State machine) : Type 0 where
-  pub placed : Placed k count index w (life.final machine k es st)
-  pub answered : given ≡ life.answers machine k es st
+-- what calls leave of the channel, and what happened to it, is what the rules give on what it saw
+pub record Follows (k : Terms) (count index : ℕ) (w : World) (hs : List Happened) (es : List Event) (st : Condition machine) : Type 0 where
+  pub ruled-in : RuledIn k count index w (final machine k es st)
+  pub history-is : hs ≡ history machine k es st
 
 -- a channel and its store as they were, every byte
 pub record Untouched (index : ℕ) (w w′ : World) : Type 0 where
-  pub channel : channelAt (w′ .state) index ≡ channelAt (w .state) index
-  pub store : storeAt (w′ .state) index (w′ .memory) ≡ storeAt (w .state) index (w .memory)
-
--- a channel's queue and its store hold the packets that wait and nothing else
-abbrev pub Tidied : ℕ → World → Type 0
-Tidied index w = Holds (channelIn w index .size .0) (packetsOf (channelIn w index .queue) (storeIn w index)) (channelIn w index .queue) (storeIn w index)
+  pub channel : channelIn w′ index ≡ channelIn w index
+  pub store : storeIn w′ index ≡ storeIn w index
 
 -- where any calls lead from a fresh start: 19 refuses nothing of it, and all that is configured is as it was
 pub record Reached (k : Configuration) (w : World) : Type 0 where
   pub order : InOrder (k .count) w
   pub datalink : w .state .datalink ≡ k .datalink
-  pub settings : (index : ℕ) → index < k .count → ruledBy (w .state .datalink) (channelAt (w .state) index) ≡ lifeOf (k .datalink) (settingAt k index)
+  pub terms : (index : ℕ) → index < k .count → termsIn w index ≡ ruled k index

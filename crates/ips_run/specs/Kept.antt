@@ -2,26 +2,12 @@
 use Prim.Native.Nat.{ℕ}
 use mathlib.Core.List.{List, [], _∷_, _++_}
 use mathlib.Core.Path.{_≡_}
-use Rattle.quantity.specs.declared.count.DatalinkId.{DatalinkId}
 use Rattle.meaning.specs.declared.message.ContextBytes.{ContextBytes}
 use Rattle.meaning.specs.declared.message.Instance.{Instance}
 use Rattle.meaning.specs.declared.message.Context.{Context}
 use Rattle.meaning.specs.declared.message.Control.{Control}
-use Rattle.ips_run.specs.Run.{Call, offer, next, withdraw, radio, query, acceptedIn}
 
--- ---- the accepted radio control messages of some calls, in order
-abbrev pub acceptedOf : DatalinkId → Call → List Control
-acceptedOf datalink (offer id p time) = []
-acceptedOf datalink (next id time out) = []
-acceptedOf datalink (withdraw id) = []
-acceptedOf datalink (radio datagram) = acceptedIn datalink datagram
-acceptedOf datalink (query out) = []
-
-abbrev pub acceptedAll : DatalinkId → List Call → List Control
-acceptedAll datalink [] = []
-acceptedAll datalink (c ∷ cs) = acceptedOf datalink c ++ acceptedAll datalink cs
-
--- ---- what they give, in order, and the last of it
+-- ---- what accepted messages give, in order, and the last of it
 abbrev pub givenIn : {A : Type 0} → (Control → List A) → List Control → List A
 givenIn gives [] = []
 givenIn gives (m ∷ ms) = gives m ++ givenIn gives ms

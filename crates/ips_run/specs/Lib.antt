@@ -1,5 +1,6 @@
 pub mod Calling
 pub mod Run
+pub mod Datagrams
 pub mod Demand
 pub mod Kept
 pub mod Settling

@@ -10,18 +10,15 @@ use borrow.Author.Tests.{eq-eqb, ne-eqb, le-leb, lt-ltb, leb-true, ltb-true, not
 use lib.Dec.{leb, ltb}
 use lib.ListN.{length, getD, take, drop, set, length-append, length-map, List·getD-map}
 use lib.Seq.{split-at, getD-append-seam, map-set-same}
+use Rattle.facts.proofs.Tests.{clash}
 use Rattle.quantity.specs.Limits.{RESERVED-CHANNEL, SMALLEST-STORE, LARGEST-STORE}
 use Rattle.meaning.specs.Kinds.{among}
 use Rattle.meaning.specs.declared.message.End.the-variants as ends
-use Rattle.meaning.proofs.Amongst.{clash}
 use Rattle.writable.specs.Allowed.{statusAllowed}
 use Rattle.store.specs.Waiting.{wellFormed}
 use Rattle.ips_channel.specs.declared.state.Channel.{Channel}
 use Rattle.ips_state.specs.Table.{noChannel}
-use Rattle.ips_state.specs.Limits.{flowFits, channelFits, allFit, ids, distinct, sizes, indexOf}
-
-pub both : (a b : Bool) → (a && b) ≡ true → (a ≡ true) × (b ≡ true)
-both a b h = and-eq-true-iff a b .0 h
+use Rattle.ips_state.specs.Limits.{settingFits, flowFits, channelFits, allFit, ids, distinct, sizes, indexOf}
 
 pub same-or-not : (m n : ℕ) → (m ≡ n) ⊎ (m ≡ n → ⊥)
 same-or-not m n = go (ℕ-discrete m n)
@@ -70,17 +67,17 @@ index-none n [] h = refl
 index-none n (x ∷ xs) h =
     ⊎-elim (λ e. clash (sym h ∙ among-first n x xs e)) (λ f. rw (index-later n x xs f, index-none n xs (sym (among-later n x xs f) ∙ h))) (same-or-not x n)
 
-pub record Stands (n : ℕ) (ns : List ℕ) (index : ℕ) : Type 0 where
+pub record StandsAt (n : ℕ) (ns : List ℕ) (index : ℕ) : Type 0 where
   pub inside : index < length ns
   pub is : getD ns index 0 ≡ n
 
-pub index-stands : (n : ℕ) (ns : List ℕ) → among n ns ≡ true → Stands n ns (indexOf n ns)
+pub index-stands : (n : ℕ) (ns : List ℕ) → among n ns ≡ true → StandsAt n ns (indexOf n ns)
 index-stands n [] h = clash h
 index-stands n (x ∷ xs) h =
     ⊎-elim (λ e. rw (index-first n x xs e) (record { inside = omega arith; is = e }))
     (λ f. let later = index-stands n xs (sym (among-later n x xs f) ∙ h) in rw (index-later n x xs f) (record { inside = omega arith; is = later .is })) (same-or-not x n)
 
-pub stands-among : (n : ℕ) (ns : List ℕ) (index : ℕ) → Stands n ns index → among n ns ≡ true
+pub stands-among : (n : ℕ) (ns : List ℕ) (index : ℕ) → StandsAt n ns index → among n ns ≡ true
 stands-among n [] index h = absurd (omega (arith, h .inside))
 stands-among n (x ∷ xs) zero h = among-first n x xs (h .is)
 stands-among n (x ∷ xs) (suc index) h =
@@ -89,7 +86,7 @@ stands-among n (x ∷ xs) (suc index) h =
 -- ---- numbers that are all different
 distinct-rest : (x : ℕ) (xs : List ℕ) → distinct (x ∷ xs) ≡ true → (among x xs ≡ false) × (distinct xs ≡ true)
 unfolding distinct
-distinct-rest x xs d = let parts = both (not (among x xs)) (distinct xs) d in (not-true (among x xs) (parts .0), parts .1)
+distinct-rest x xs d = let parts = and-eq-true-iff (not (among x xs)) (distinct xs) .0 d in (not-true (among x xs) (parts .0), parts .1)
 
 pub distinct-more : (ns : List ℕ) (n : ℕ) → distinct ns ≡ true → among n ns ≡ false → distinct (ns ++ (n ∷ [])) ≡ true
 unfolding distinct
@@ -101,12 +98,12 @@ distinct-more (x ∷ xs) n d h =
     rw (among-join x xs (n ∷ []), parts .0, among-later x n [] (λ e. f (sym e)), distinct-more xs n (parts .1) (sym (among-later n x xs f) ∙ h))) (same-or-not x n)
 
 -- the index of each is its place
-pub distinct-index : (ns : List ℕ) (n index : ℕ) → distinct ns ≡ true → Stands n ns index → indexOf n ns ≡ index
+pub distinct-index : (ns : List ℕ) (n index : ℕ) → distinct ns ≡ true → StandsAt n ns index → indexOf n ns ≡ index
 unfolding distinct
 distinct-index [] n index d h = absurd (omega (arith, h .inside))
 distinct-index (x ∷ xs) n zero d h = index-first n x xs (h .is)
 distinct-index (x ∷ xs) n (suc index) d h =
-    let later : Stands n xs index = record { inside = omega (arith, h .inside); is = h .is } in
+    let later : StandsAt n xs index = record { inside = omega (arith, h .inside); is = h .is } in
     let parts = distinct-rest x xs d in
     ⊎-elim (λ (e : x ≡ n). clash (sym (parts .0) ∙ ap (λ (k : ℕ). among k xs) e ∙ stands-among n xs index later))
     (λ f. rw (index-later n x xs f, distinct-index xs n index (parts .1) later)) (same-or-not x n)
@@ -135,7 +132,7 @@ distinct-by (x ∷ xs) h = rw (alone (among x xs) refl, distinct-by xs (λ i j k
 -- ---- channels
 all-rest : (c : Channel) (cs : List Channel) → allFit (c ∷ cs) ≡ true → (channelFits c ≡ true) × (allFit cs ≡ true)
 unfolding allFit
-all-rest c cs e = both (channelFits c) (allFit cs) e
+all-rest c cs e = and-eq-true-iff (channelFits c) (allFit cs) .0 e
 
 pub all-join : (xs ys : List Channel) → allFit (xs ++ ys) ≡ (allFit xs && allFit ys)
 unfolding allFit
@@ -166,13 +163,13 @@ pub ids-length : (cs : List Channel) → length (ids cs) ≡ length cs
 unfolding ids
 ids-length cs = length-map cs _
 
-pub ids-at : (cs : List Channel) (i : ℕ) → getD (ids cs) i 0 ≡ getD cs i noChannel .id
+pub ids-at : (cs : List Channel) (i : ℕ) → getD (ids cs) i 0 ≡ getD cs i noChannel .setting .id
 unfolding ids
-ids-at cs i = List·getD-map (λ (c : Channel). c .id) cs i noChannel
+ids-at cs i = List·getD-map (λ (c : Channel). c .setting .id) cs i noChannel
 
-pub ids-set : (cs : List Channel) (i : ℕ) (c : Channel) → c .id ≡ getD cs i noChannel .id → ids (set cs i c) ≡ ids cs
+pub ids-set : (cs : List Channel) (i : ℕ) (c : Channel) → c .setting .id ≡ getD cs i noChannel .setting .id → ids (set cs i c) ≡ ids cs
 unfolding ids
-ids-set cs i c e = map-set-same (λ (x : Channel). x .id) cs i c noChannel e
+ids-set cs i c e = map-set-same (λ (x : Channel). x .setting .id) cs i c noChannel e
 
 pub sizes-join : (xs ys : List Channel) → sizes (xs ++ ys) ≡ sizes xs + sizes ys
 unfolding sizes
@@ -180,13 +177,13 @@ sizes-join [] ys = omega arith
 sizes-join (x ∷ xs) ys = let more : sizes (xs ++ ys) ≡ sizes xs + sizes ys = sizes-join xs ys in omega arith
 
 -- those before one, and itself, are no longer than all
-pub sizes-room : (cs : List Channel) (i : ℕ) → i < length cs → sizes (take i cs) + getD cs i noChannel .size .0 ≤ sizes cs
+pub sizes-room : (cs : List Channel) (i : ℕ) → i < length cs → sizes (take i cs) + getD cs i noChannel .setting .size .0 ≤ sizes cs
 unfolding sizes
 sizes-room cs i h =
-    let whole : sizes cs ≡ sizes (take i cs) + (getD cs i noChannel .size .0 + sizes (drop (suc i) cs)) = ap sizes (split-at cs i noChannel h) ∙ sizes-join (take i cs) _ in
+    let whole : sizes cs ≡ sizes (take i cs) + (getD cs i noChannel .setting .size .0 + sizes (drop (suc i) cs)) = ap sizes (split-at cs i noChannel h) ∙ sizes-join (take i cs) _ in
     omega arith
 
-pub sizes-set : (cs : List Channel) (i : ℕ) (c : Channel) (n : ℕ) → c .size .0 ≡ getD cs i noChannel .size .0 → sizes (take n (set cs i c)) ≡ sizes (take n cs)
+pub sizes-set : (cs : List Channel) (i : ℕ) (c : Channel) (n : ℕ) → c .setting .size .0 ≡ getD cs i noChannel .setting .size .0 → sizes (take n (set cs i c)) ≡ sizes (take n cs)
 unfolding sizes
 sizes-set [] i c n e = refl
 sizes-set (x ∷ cs) i c zero e = refl
@@ -194,25 +191,25 @@ sizes-set (x ∷ cs) zero c (suc n) e = rw e
 sizes-set (x ∷ cs) (suc i) c (suc n) e = rw (sizes-set cs i c n e)
 
 -- ---- the parts of `channelFits`, as facts
-pub record Fitting (c : Channel) : Type 0 where
-  pub unreserved : c .id < RESERVED-CHANNEL
-  pub smallest : SMALLEST-STORE ≤ c .size .0
-  pub largest : c .size .0 ≤ LARGEST-STORE
+pub record ChannelFit (c : Channel) : Type 0 where
+  pub unreserved : c .setting .id < RESERVED-CHANNEL
+  pub smallest : SMALLEST-STORE ≤ c .setting .size .0
+  pub largest : c .setting .size .0 ≤ LARGEST-STORE
   pub status-allowed : statusAllowed ends.Radio (c .status) ≡ true
-  pub flow-fits : flowFits (c .controlled) (c .flow) ≡ true
-  pub well-formed : wellFormed (c .queue) (c .size .0) ≡ true
+  pub flow-fits : flowFits (c .setting .controlled) (c .flow) ≡ true
+  pub well-formed : wellFormed (c .queue) (c .setting .size .0) ≡ true
 
-pub fitting : (c : Channel) → channelFits c ≡ true → Fitting c
+pub fitting : (c : Channel) → channelFits c ≡ true → ChannelFit c
 unfolding channelFits
 fitting c e =
-    let a = both (ltb (c .id) RESERVED-CHANNEL) _ e in
-    let b = both (leb SMALLEST-STORE (c .size .0)) _ (a .1) in
-    let d = both (leb (c .size .0) LARGEST-STORE) _ (b .1) in
-    let f = both (statusAllowed ends.Radio (c .status)) _ (d .1) in
-    let g = both (flowFits (c .controlled) (c .flow)) _ (f .1) in
-    record { unreserved = ltb-true _ _ (a .0); smallest = leb-true _ _ (b .0); largest = leb-true _ _ (d .0); status-allowed = f .0; flow-fits = g .0; well-formed = g .1 }
+    let a = and-eq-true-iff (settingFits (c .setting)) _ .0 e in
+    let b = and-eq-true-iff (ltb (c .setting .id) RESERVED-CHANNEL) _ .0 (a .0) in
+    let d = and-eq-true-iff (leb SMALLEST-STORE (c .setting .size .0)) _ .0 (b .1) in
+    let f = and-eq-true-iff (statusAllowed ends.Radio (c .status)) _ .0 (a .1) in
+    let g = and-eq-true-iff (flowFits (c .setting .controlled) (c .flow)) _ .0 (f .1) in
+    record { unreserved = ltb-true _ _ (b .0); smallest = leb-true _ _ (d .0); largest = leb-true _ _ (d .1); status-allowed = f .0; flow-fits = g .0; well-formed = g .1 }
 
-pub fitting-fits : (c : Channel) → Fitting c → channelFits c ≡ true
+pub fitting-fits : (c : Channel) → ChannelFit c → channelFits c ≡ true
 unfolding channelFits
 fitting-fits c f =
     rw (lt-ltb _ _ (f .unreserved), le-leb _ _ (f .smallest), le-leb _ _ (f .largest), f .status-allowed, f .flow-fits, f .well-formed)

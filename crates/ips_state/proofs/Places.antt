@@ -1,6 +1,6 @@
 -- Where a channel and its store stand in a state, and what a change of one leaves as it was: for the crates above. Assumes nothing.
 use Prim.Native.Nat.{ℕ, zero, suc, _+_, _-_, _≤_, _<_}
-use mathlib.Core.Bool.{Bool, true, false, _&&_, and-true, and-false}
+use mathlib.Core.Bool.{Bool, true, false, and-true, and-false, and-eq-true-iff}
 use mathlib.Core.List.{List, [], _∷_, _++_, map, append-assoc}
 use mathlib.Core.Logic.{_⊎_, inl, inr, ⊎-elim}
 use mathlib.Core.Path.{_≡_, refl, sym, ap, _∙_}
@@ -8,24 +8,23 @@ use native.Mathlib.Decide.{decLt}
 use native.Mathlib.Nat.{eq-or-lt-of-le, min-le-left, min-le-right}
 use native.Mathlib.Omega.{arith}
 use borrow.Author.Tests.{eqb-true, leb-true, le-leb}
-use lib.Dec.{leb, ltb, leb·zero}
+use lib.Dec.{leb, leb·zero}
 use lib.ListN.{length, getD, take, drop, set, length-set, length-append, length-take, length-drop, length-map, length-replicate, take-append-drop}
 use lib.Seq.{length-take-le, getD-take, getD-set-same, getD-set-other, set-getD, take-set-lt, take-take, take-at, drop-at, take-append-le, drop-append-le, drop-append-add, drop-drop}
 use Rattle.quantity.specs.declared.count.ByteCount.{ByteCount}
-use Rattle.quantity.specs.Limits.{FEWEST-CHANNELS, MOST-CHANNELS, RESERVED-CHANNEL, SMALLEST-STORE, LARGEST-STORE}
+use Rattle.quantity.specs.Limits.{FEWEST-CHANNELS, MOST-CHANNELS}
 use Rattle.meaning.specs.Kinds.{among}
 use Rattle.store.specs.Waiting.{waiting, total, listed, queueOf, allWithin, wellFormed}
 use Rattle.flow.specs.Counting.{firstFlow}
 use Rattle.ips_channel.specs.declared.state.Channel.{Channel}
 use Rattle.ips_channel.specs.Channel.{freshChannel}
-use Rattle.ips_state.specs.declared.state.Setting.{Setting}
+use Rattle.ips_state.specs.declared.state.ChannelStart.{ChannelStart}
 use Rattle.ips_state.specs.declared.state.Configuration.{Configuration}
 use Rattle.ips_state.specs.declared.state.State.{State}
-use Rattle.ips_state.specs.Table.{noChannel, configured, channelAt, withChannel, freshOf, freshChannels, freshState, blankState}
-use Rattle.ips_state.specs.Limits.{flowFits, channelFits, allFit, ids, distinct, channelsFit, countFits, namesFit, stateFits, settingFits, settingsFit, configurationFits, sizes, indexOf, placed}
+use Rattle.ips_state.specs.Table.{noStart, noChannel, configured, channelAt, withChannel, freshOf, freshChannels, freshState, blankState}
+use Rattle.ips_state.specs.Limits.{flowFits, channelFits, allFit, ids, distinct, channelsFit, countFits, namesFit, stateFits, settingFits, startsFit, startIds, configurationFits, sizes, indexOf, surveyed}
 use Rattle.ips_state.specs.Memory.{memoryFits, startOf, storeAt, withStore}
-use Rattle.ips_state.proofs.Starting.{noSetting}
-use Rattle.ips_state.proofs.Channels.{both, index-none, index-stands, distinct-index, all-at, all-set, ids-length, ids-at, ids-set, sizes-room, sizes-set, Fitting, fitting}
+use Rattle.ips_state.proofs.Channels.{index-none, index-stands, distinct-index, all-at, all-set, ids-length, ids-at, ids-set, sizes-room, sizes-set, ChannelFit, fitting}
 
 -- ---- the configured channels, each by its index
 pub configured-length : (s : State) → length (s .channels) ≡ MOST-CHANNELS → s .count ≤ MOST-CHANNELS → length (configured s) ≡ s .count
@@ -63,7 +62,7 @@ unfolding withChannel channelAt
 with-back s index = rw (set-getD (s .channels) index noChannel)
 
 -- ---- the parts of `stateFits`, as facts
-pub record Fit (s : State) : Type 0 where
+pub record StateFit (s : State) : Type 0 where
   pub some : FEWEST-CHANNELS ≤ s .count
   pub few : s .count ≤ MOST-CHANNELS
   pub names : namesFit s ≡ true
@@ -71,17 +70,17 @@ pub record Fit (s : State) : Type 0 where
   pub apart : distinct (ids (configured s)) ≡ true
   pub primary : among 0 (ids (configured s)) ≡ true
 
-pub fit : (s : State) → stateFits s ≡ true → Fit s
+pub fit : (s : State) → stateFits s ≡ true → StateFit s
 unfolding stateFits channelsFit
 fit s e =
-    let a = both (countFits (s .count)) _ e in
-    let b = both (leb FEWEST-CHANNELS (s .count)) _ (a .0) in
-    let d = both (namesFit s) _ (a .1) in
-    let f = both (allFit (configured s)) _ (d .1) in
-    let g = both (distinct (ids (configured s))) _ (f .1) in
+    let a = and-eq-true-iff (countFits (s .count)) _ .0 e in
+    let b = and-eq-true-iff (leb FEWEST-CHANNELS (s .count)) _ .0 (a .0) in
+    let d = and-eq-true-iff (namesFit s) _ .0 (a .1) in
+    let f = and-eq-true-iff (allFit (configured s)) _ .0 (d .1) in
+    let g = and-eq-true-iff (distinct (ids (configured s))) _ .0 (f .1) in
     record { some = leb-true _ _ (b .0); few = leb-true _ _ (b .1); names = d .0; each = f .0; apart = g .0; primary = g .1 }
 
-pub fit-fits : (s : State) → Fit s → stateFits s ≡ true
+pub fit-fits : (s : State) → StateFit s → stateFits s ≡ true
 unfolding stateFits channelsFit
 fit-fits s f = rw (le-leb _ _ (f .some), le-leb _ _ (f .few), f .names, f .each, f .apart, f .primary)
 
@@ -95,10 +94,10 @@ module _ (s : State) (full : length (s .channels) ≡ MOST-CHANNELS) (fits : sta
   channel-fits-at index inside =
       rw (← (configured-at s index inside)) (all-at (configured s) index (omega (arith, configured-length s full (fit s fits .few))) (fit s fits .each))
 
-  pub channel-fitting-at : (index : ℕ) → index < s .count → Fitting (channelAt s index)
+  pub channel-fitting-at : (index : ℕ) → index < s .count → ChannelFit (channelAt s index)
   channel-fitting-at index inside = fitting (channelAt s index) (channel-fits-at index inside)
 
-  pub index-one : (index id : ℕ) → index < s .count → channelAt s index .id ≡ id → indexOf id (ids (configured s)) ≡ index
+  pub index-one : (index id : ℕ) → index < s .count → channelAt s index .setting .id ≡ id → indexOf id (ids (configured s)) ≡ index
   index-one index id inside e =
       distinct-index (ids (configured s)) id index (fit s fits .apart)
       (record { inside = omega (arith, ids-length (configured s), configured-length s full (fit s fits .few)); is = ids-at (configured s) index ∙ rw (configured-at s index inside) e })
@@ -108,7 +107,7 @@ module _ (s : State) (id : ℕ) where
   inside : among id (ids (configured s)) ≡ true → indexOf id (ids (configured s)) < s .count
   inside e = omega (arith, index-stands id (ids (configured s)) e .inside, ids-length (configured s), configured-few s)
 
-  pub found : among id (ids (configured s)) ≡ true → (indexOf id (ids (configured s)) < s .count) × (channelAt s (indexOf id (ids (configured s))) .id ≡ id)
+  pub found : among id (ids (configured s)) ≡ true → (indexOf id (ids (configured s)) < s .count) × (channelAt s (indexOf id (ids (configured s))) .setting .id ≡ id)
   found e =
       let index = indexOf id (ids (configured s)) in
       (inside e, rw (← (configured-at s index (inside e)), ← (ids-at (configured s) index)) (index-stands id (ids (configured s)) e .is))
@@ -116,7 +115,7 @@ module _ (s : State) (id : ℕ) where
   pub lost : length (s .channels) ≡ MOST-CHANNELS → s .count ≤ MOST-CHANNELS → among id (ids (configured s)) ≡ false → indexOf id (ids (configured s)) ≡ s .count
   lost full few e = index-none id (ids (configured s)) e ∙ ids-length (configured s) ∙ configured-length s full few
 
-size-set : (cs : List Channel) (i : ℕ) (c : Channel) (j : ℕ) → c .size .0 ≡ getD cs i noChannel .size .0 → getD (set cs i c) j noChannel .size .0 ≡ getD cs j noChannel .size .0
+size-set : (cs : List Channel) (i : ℕ) (c : Channel) (j : ℕ) → c .setting .size .0 ≡ getD cs i noChannel .setting .size .0 → getD (set cs i c) j noChannel .setting .size .0 ≡ getD cs j noChannel .setting .size .0
 size-set [] i c j e = refl
 size-set (x ∷ cs) zero c zero e = e
 size-set (x ∷ cs) zero c (suc j) e = refl
@@ -129,10 +128,10 @@ module _ (s : State) (index : ℕ) (inside : index < s .count) (c : Channel) whe
   unfolding configured withChannel
   configured-with = take-set-lt (s .count) (s .channels) index c inside
 
-  pub ids-kept : c .id ≡ channelAt s index .id → ids (configured (withChannel s index c)) ≡ ids (configured s)
+  pub ids-kept : c .setting .id ≡ channelAt s index .setting .id → ids (configured (withChannel s index c)) ≡ ids (configured s)
   ids-kept e = rw configured-with (ids-set (configured s) index c (rw (configured-at s index inside) e))
 
-  pub fits-kept : stateFits s ≡ true → channelFits c ≡ true → c .id ≡ channelAt s index .id → stateFits (withChannel s index c) ≡ true
+  pub fits-kept : stateFits s ≡ true → channelFits c ≡ true → c .setting .id ≡ channelAt s index .setting .id → stateFits (withChannel s index c) ≡ true
   unfolding withChannel namesFit
   fits-kept fits new e = fit-fits (withChannel s index c) (record {
     some = fit s fits .some;
@@ -143,8 +142,8 @@ module _ (s : State) (index : ℕ) (inside : index < s .count) (c : Channel) whe
     primary = rw (ids-kept e) (fit s fits .primary);
   })
 
-  module _ (e : c .size ≡ channelAt s index .size) where
-    bytes : c .size .0 ≡ channelAt s index .size .0
+  module _ (e : c .setting .size ≡ channelAt s index .setting .size) where
+    bytes : c .setting .size .0 ≡ channelAt s index .setting .size .0
     bytes = ap (λ (n : ByteCount). n .0) e
 
     pub sizes-kept : sizes (configured (withChannel s index c)) ≡ sizes (configured s)
@@ -159,7 +158,7 @@ module _ (s : State) (index : ℕ) (inside : index < s .count) (c : Channel) whe
     unfolding memoryFits
     memory-kept memory = rw sizes-kept
 
-    pub size-kept : (other : ℕ) → channelAt (withChannel s index c) other .size .0 ≡ channelAt s other .size .0
+    pub size-kept : (other : ℕ) → channelAt (withChannel s index c) other .setting .size .0 ≡ channelAt s other .setting .size .0
     unfolding channelAt withChannel
     size-kept other = size-set (s .channels) index c other bytes
 
@@ -216,19 +215,19 @@ apart m n f = go (decLt m n)
 
 -- ---- the stores
 -- where the survey says that a configured channel's store starts
-pub placed-start : (s : State) (id : ℕ) → among id (ids (configured s)) ≡ true → placed (configured s) id .start .0 ≡ startOf s (indexOf id (ids (configured s)))
-unfolding placed startOf
-placed-start s id e = rw e
+pub surveyed-start : (s : State) (id : ℕ) → among id (ids (configured s)) ≡ true → surveyed (configured s) id .start .0 ≡ startOf s (indexOf id (ids (configured s)))
+unfolding surveyed startOf
+surveyed-start s id e = rw e
 
 module _ (s : State) (full : length (s .channels) ≡ MOST-CHANNELS) (few : s .count ≤ MOST-CHANNELS) where
   -- a store ends before the memory does, and before a later one starts
-  pub store-room : (memory : List ℕ) → memoryFits s memory ≡ true → (index : ℕ) → index < s .count → startOf s index + channelAt s index .size .0 ≤ length memory
+  pub store-room : (memory : List ℕ) → memoryFits s memory ≡ true → (index : ℕ) → index < s .count → startOf s index + channelAt s index .setting .size .0 ≤ length memory
   unfolding memoryFits startOf
   store-room memory fits index inside =
       let all : length memory ≡ sizes (configured s) = eqb-true _ _ fits in
       rw (← (configured-at s index inside), all) (sizes-room (configured s) index (omega (arith, configured-length s full few)))
 
-  pub stores-ordered : (i j : ℕ) → i < j → j < s .count → startOf s i + channelAt s i .size .0 ≤ startOf s j
+  pub stores-ordered : (i j : ℕ) → i < j → j < s .count → startOf s i + channelAt s i .setting .size .0 ≤ startOf s j
   unfolding startOf
   stores-ordered i j before inside =
       let first : i < s .count = omega arith in
@@ -238,84 +237,81 @@ module _ (s : State) (full : length (s .channels) ≡ MOST-CHANNELS) (few : s .c
 module _ (s : State) (index : ℕ) (memory : List ℕ) where
   pub store-back : withStore s index memory (storeAt s index memory) ≡ memory
   unfolding withStore storeAt
-  store-back = rw (← (drop-drop (channelAt s index .size .0) (startOf s index) memory), take-append-drop, take-append-drop)
+  store-back = rw (← (drop-drop (channelAt s index .setting .size .0) (startOf s index) memory), take-append-drop, take-append-drop)
 
   module _ (full : length (s .channels) ≡ MOST-CHANNELS) (few : s .count ≤ MOST-CHANNELS) (fits : memoryFits s memory ≡ true) where
     module _ (inside : index < s .count) where
-      room : startOf s index + channelAt s index .size .0 ≤ length memory
+      room : startOf s index + channelAt s index .setting .size .0 ≤ length memory
       room = store-room s full few memory fits index inside
 
-      pub store-length : length (storeAt s index memory) ≡ channelAt s index .size .0
+      pub store-length : length (storeAt s index memory) ≡ channelAt s index .setting .size .0
       unfolding storeAt
-      store-length = length-take-le (channelAt s index .size .0) (drop (startOf s index) memory) (simp length-drop (omega (arith, room)))
+      store-length = length-take-le (channelAt s index .setting .size .0) (drop (startOf s index) memory) (simp length-drop (omega (arith, room)))
 
-      module _ (store : List ℕ) (long : length store ≡ channelAt s index .size .0) where
+      module _ (store : List ℕ) (long : length store ≡ channelAt s index .setting .size .0) where
         pub with-length : length (withStore s index memory store) ≡ length memory
         unfolding withStore
-        with-length = changed-length memory store (startOf s index) (channelAt s index .size .0) room long
+        with-length = changed-length memory store (startOf s index) (channelAt s index .setting .size .0) room long
 
         pub store-with-same : storeAt s index (withStore s index memory store) ≡ store
         unfolding storeAt withStore
-        store-with-same = changed-here memory store (startOf s index) (channelAt s index .size .0) room long
+        store-with-same = changed-here memory store (startOf s index) (channelAt s index .setting .size .0) room long
 
         pub store-with-other : (other : ℕ) → other < s .count → (other ≡ index → ⊥) → storeAt s other (withStore s index memory store) ≡ storeAt s other memory
         unfolding storeAt withStore
         store-with-other other there f =
-            ⊎-elim (λ (before : other < index). changed-before memory store _ _ room long (startOf s other) (channelAt s other .size .0) (stores-ordered s full few other index before inside))
-            (λ (behind : index < other). ap (take (channelAt s other .size .0)) (changed-behind memory store _ _ room long (startOf s other) (stores-ordered s full few index other behind there)))
+            ⊎-elim (λ (before : other < index). changed-before memory store _ _ room long (startOf s other) (channelAt s other .setting .size .0) (stores-ordered s full few other index before inside))
+            (λ (behind : index < other). ap (take (channelAt s other .setting .size .0)) (changed-behind memory store _ _ room long (startOf s other) (stores-ordered s full few index other behind there)))
             (apart other index f)
 
 -- ---- a fresh start is within the limits exactly where its configuration is
-fresh-fits-one : (k : Setting) → channelFits (freshOf k) ≡ settingFits k
+fresh-fits-one : (k : ChannelStart) → channelFits (freshOf k) ≡ settingFits (k .setting)
 unfolding channelFits freshChannel wellFormed waiting queueOf listed allWithin total
-fresh-fits-one k = rw (leb·zero (k .size .0), plain (k .controlled)) (last (ltb (k .id) RESERVED-CHANNEL) (leb SMALLEST-STORE (k .size .0)) (leb (k .size .0) LARGEST-STORE))
+fresh-fits-one k = rw (leb·zero (k .setting .size .0), plain (k .setting .controlled)) (and-true (settingFits (k .setting)))
   where
     plain : (controlled : Bool) → flowFits controlled (firstFlow controlled) ≡ true
     plain true = refl
     plain false = refl
 
-    last : (a b d : Bool) → (a && (b && (d && true))) ≡ (a && (b && d))
-    last a b d = rw (and-true d)
-
-fresh-fits-all : (ks : List Setting) → allFit (map freshOf ks) ≡ settingsFit ks
-unfolding allFit settingsFit
+fresh-fits-all : (ks : List ChannelStart) → allFit (map freshOf ks) ≡ startsFit ks
+unfolding allFit startsFit
 fresh-fits-all [] = refl
 fresh-fits-all (k ∷ ks) = rw (fresh-fits-one k, fresh-fits-all ks)
 
-fresh-ids : (ks : List Setting) → ids (map freshOf ks) ≡ map (λ (k : Setting). k .id) ks
-unfolding ids freshChannel
+fresh-ids : (ks : List ChannelStart) → ids (map freshOf ks) ≡ startIds ks
+unfolding ids startIds freshChannel
 fresh-ids [] = refl
 fresh-ids (k ∷ ks) = rw (fresh-ids ks)
 
-getD-mapped : (ks : List Setting) (i : ℕ) → i < length ks → getD (map freshOf ks) i noChannel ≡ freshOf (getD ks i noSetting)
+getD-mapped : (ks : List ChannelStart) (i : ℕ) → i < length ks → getD (map freshOf ks) i noChannel ≡ freshOf (getD ks i noStart)
 getD-mapped [] i h = absurd (omega arith)
 getD-mapped (k ∷ ks) zero h = refl
 getD-mapped (k ∷ ks) (suc i) h = getD-mapped ks i (omega arith)
 
-module _ (k : Configuration) (full : length (k .settings) ≡ MOST-CHANNELS) where
+module _ (k : Configuration) (full : length (k .starts) ≡ MOST-CHANNELS) where
   pub fresh-full : length (freshState k .channels) ≡ MOST-CHANNELS
   unfolding freshState freshChannels
   fresh-full =
-      let few : length (take (k .count) (k .settings)) ≤ MOST-CHANNELS = omega (arith, length-take (k .count) (k .settings), min-le-right (k .count) (length (k .settings))) in
+      let few : length (take (k .count) (k .starts)) ≤ MOST-CHANNELS = omega (arith, length-take (k .count) (k .starts), min-le-right (k .count) (length (k .starts))) in
       simp (length-append, length-map, length-replicate) (omega arith)
 
   module _ (few : k .count ≤ MOST-CHANNELS) where
-    long : length (take (k .count) (k .settings)) ≡ k .count
-    long = length-take-le (k .count) (k .settings) (omega arith)
+    long : length (take (k .count) (k .starts)) ≡ k .count
+    long = length-take-le (k .count) (k .starts) (omega arith)
 
-    pub fresh-configured : configured (freshState k) ≡ map freshOf (take (k .count) (k .settings))
+    pub fresh-configured : configured (freshState k) ≡ map freshOf (take (k .count) (k .starts))
     unfolding configured freshState freshChannels
-    fresh-configured = take-at (map freshOf (take (k .count) (k .settings))) _ (k .count) (length-map (take (k .count) (k .settings)) freshOf ∙ long)
+    fresh-configured = take-at (map freshOf (take (k .count) (k .starts))) _ (k .count) (length-map (take (k .count) (k .starts)) freshOf ∙ long)
 
-    pub fresh-at : (index : ℕ) → index < k .count → channelAt (freshState k) index ≡ freshOf (getD (k .settings) index noSetting)
+    pub fresh-at : (index : ℕ) → index < k .count → channelAt (freshState k) index ≡ freshOf (getD (k .starts) index noStart)
     unfolding freshState
     fresh-at index inside =
-        sym (configured-at (freshState k) index inside) ∙ rw fresh-configured (getD-mapped (take (k .count) (k .settings)) index (omega (arith, long)) ∙ rw (getD-take (k .count) (k .settings) index noSetting inside))
+        sym (configured-at (freshState k) index inside) ∙ rw fresh-configured (getD-mapped (take (k .count) (k .starts)) index (omega (arith, long)) ∙ rw (getD-take (k .count) (k .starts) index noStart inside))
 
   pub fresh-fits : stateFits (freshState k) ≡ configurationFits k
   unfolding stateFits namesFit freshState channelsFit configurationFits
   fresh-fits = go (leb (k .count) MOST-CHANNELS) refl
     where
       go : (b : Bool) → leb (k .count) MOST-CHANNELS ≡ b → stateFits (freshState k) ≡ configurationFits k
-      go true e = rw (e, fresh-configured (leb-true _ _ e), fresh-fits-all (take (k .count) (k .settings)), fresh-ids (take (k .count) (k .settings)))
+      go true e = rw (e, fresh-configured (leb-true _ _ e), fresh-fits-all (take (k .count) (k .starts)), fresh-ids (take (k .count) (k .starts)))
       go false e = rw (e, and-false)

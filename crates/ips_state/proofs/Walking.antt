@@ -15,7 +15,7 @@ use Rattle.meaning.specs.Kinds.{among}
 use Rattle.ips_channel.specs.declared.state.Channel.{Channel}
 use Rattle.ips_state.specs.declared.state.State.{State}
 use Rattle.ips_state.specs.Table.{noChannel, configured, channelAt}
-use Rattle.ips_state.specs.Limits.{channelFits, allFit, ids, distinct, channelsFit, sizes, indexOf, namesFit, stateFits, unfit, placed, walked, surveyOf}
+use Rattle.ips_state.specs.Limits.{channelFits, allFit, ids, distinct, channelsFit, sizes, indexOf, namesFit, stateFits, unfit, surveyed, walked, surveyOf}
 use Rattle.ips_state.proofs.Places.{configured-length, configured-at}
 use Rattle.ips_state.proofs.Channels.{among-first, among-later, among-join, index-first, index-here, index-past, index-none, index-stands, distinct-more, distinct-twice, all-join, ids-join, ids-length, sizes-join, sizes-most, same-or-not}
 
@@ -30,7 +30,7 @@ module _ (s : State) (full : length (s .channels) ≡ MOST-CHANNELS) (few : s .c
   pub one-more : take (at + 1) (configured s) ≡ take at (configured s) ++ (channelAt s at ∷ [])
   one-more = rw (add-one, ← (configured-at s at inside)) (take-suc (configured s) at noChannel (omega (arith, configured-length s full few)))
 
--- a byte has so many values
+-- the values of a byte
 abbrev pub BYTES : ℕ
 BYTES = 256
 
@@ -52,72 +52,72 @@ pub walk-most : (cs : List Channel) (at id count : ℕ) (seen : List Bool) (tota
 walk-most cs at id count seen total index start w = omega (arith, w .total-is, sizes-most (take at cs) (w .fit), length-take at cs, min-le-left at (length cs))
 
 -- one channel more, whose ID is new
-module _ (done : List Channel) (c : Channel) (new : among (c .id) (ids done) ≡ false) where
+module _ (done : List Channel) (c : Channel) (new : among (c .setting .id) (ids done) ≡ false) where
   abbrev more : List Channel
   more = done ++ (c ∷ [])
 
-  ids-more : ids more ≡ ids done ++ (c .id ∷ [])
+  ids-more : ids more ≡ ids done ++ (c .setting .id ∷ [])
   unfolding ids
   ids-more = ids-join done (c ∷ [])
 
-  among-new : among (c .id) (ids more) ≡ true
-  among-new = rw (ids-more, among-join (c .id) (ids done) (c .id ∷ []), new, among-first (c .id) (c .id) [] refl)
+  among-new : among (c .setting .id) (ids more) ≡ true
+  among-new = rw (ids-more, among-join (c .setting .id) (ids done) (c .setting .id ∷ []), new, among-first (c .setting .id) (c .setting .id) [] refl)
 
-  among-other : (k : ℕ) → (c .id ≡ k → ⊥) → among k (ids more) ≡ among k (ids done)
-  among-other k f = rw (ids-more, among-join k (ids done) (c .id ∷ []), among-later k (c .id) [] f) (truth (among k (ids done)))
+  among-other : (k : ℕ) → (c .setting .id ≡ k → ⊥) → among k (ids more) ≡ among k (ids done)
+  among-other k f = rw (ids-more, among-join k (ids done) (c .setting .id ∷ []), among-later k (c .setting .id) [] f) (truth (among k (ids done)))
     where
       truth : (b : Bool) → cond b true false ≡ b
       truth true = refl
       truth false = refl
 
-  index-new : indexOf (c .id) (ids more) ≡ length done
-  index-new = rw (ids-more, index-past (c .id) (ids done) (c .id ∷ []) new, index-first (c .id) (c .id) [] refl, ids-length) (omega arith)
+  index-new : indexOf (c .setting .id) (ids more) ≡ length done
+  index-new = rw (ids-more, index-past (c .setting .id) (ids done) (c .setting .id ∷ []) new, index-first (c .setting .id) (c .setting .id) [] refl, ids-length) (omega arith)
 
-  start-new : sizes (take (indexOf (c .id) (ids more)) more) ≡ sizes done
+  start-new : sizes (take (indexOf (c .setting .id) (ids more)) more) ≡ sizes done
   start-new = rw (index-new, take-append-seam)
 
   module _ (k : ℕ) (there : among k (ids done) ≡ true) where
     index-old : indexOf k (ids more) ≡ indexOf k (ids done)
-    index-old = rw ids-more (index-here k (ids done) (c .id ∷ []) there)
+    index-old = rw ids-more (index-here k (ids done) (c .setting .id ∷ []) there)
 
     start-old : sizes (take (indexOf k (ids more)) more) ≡ sizes (take (indexOf k (ids done)) done)
     start-old = rw (index-old, take-append-le (indexOf k (ids done)) done (c ∷ []) (omega (arith, index-stands k (ids done) there .inside, ids-length done)))
 
-module _ (id count : ℕ) (done : List Channel) (seen : List Bool) (total index start : ℕ) (w : Walking id count done seen total index start) (c : Channel) (byte : c .id < BYTES) where
-  known : getD seen (c .id) false ≡ among (c .id) (ids done)
-  known = w .seen-is (c .id) byte
+module _ (id count : ℕ) (done : List Channel) (seen : List Bool) (total index start : ℕ) (w : Walking id count done seen total index start) (c : Channel) (byte : c .setting .id < BYTES) where
+  known : getD seen (c .setting .id) false ≡ among (c .setting .id) (ids done)
+  known = w .seen-is (c .setting .id) byte
 
-  module _ (fits : channelFits c ≡ true) (unseen : getD seen (c .id) false ≡ false) where
-    new : among (c .id) (ids done) ≡ false
+  module _ (fits : channelFits c ≡ true) (unseen : getD seen (c .setting .id) false ≡ false) where
+    new : among (c .setting .id) (ids done) ≡ false
     new = sym known ∙ unseen
 
-    seen-more : (k : ℕ) → k < BYTES → getD (set seen (c .id) true) k false ≡ among k (ids (more done c new))
+    seen-more : (k : ℕ) → k < BYTES → getD (set seen (c .setting .id) true) k false ≡ among k (ids (more done c new))
     seen-more k h =
-        ⊎-elim (λ (e : c .id ≡ k). rw (← e, getD-set-same seen (c .id) true false (omega (arith, w .full)), among-new done c new))
-        (λ (f : c .id ≡ k → ⊥). getD-set-other seen (c .id) k true false (λ e. f (sym e)) ∙ w .seen-is k h ∙ sym (among-other done c new k f)) (same-or-not (c .id) k)
+        ⊎-elim (λ (e : c .setting .id ≡ k). rw (← e, getD-set-same seen (c .setting .id) true false (omega (arith, w .full)), among-new done c new))
+        (λ (f : c .setting .id ≡ k → ⊥). getD-set-other seen (c .setting .id) k true false (λ e. f (sym e)) ∙ w .seen-is k h ∙ sym (among-other done c new k f)) (same-or-not (c .setting .id) k)
 
     walk-on : (index′ start′ : ℕ)
         → index′ ≡ cond (among id (ids (more done c new))) (indexOf id (ids (more done c new))) count
         → start′ ≡ cond (among id (ids (more done c new))) (sizes (take (indexOf id (ids (more done c new))) (more done c new))) 0
-        → Walking id count (more done c new) (set seen (c .id) true) (total + c .size .0) index′ start′
+        → Walking id count (more done c new) (set seen (c .setting .id) true) (total + c .setting .size .0) index′ start′
     unfolding allFit sizes
     walk-on index′ start′ i j = record {
       full = simp length-set (w .full);
       fit = all-join done (c ∷ []) ∙ rw (w .fit, fits);
-      apart = rw (ids-more done c new) (distinct-more (ids done) (c .id) (w .apart) new);
+      apart = rw (ids-more done c new) (distinct-more (ids done) (c .setting .id) (w .apart) new);
       seen-is = seen-more;
       total-is = rw (sizes-join done (c ∷ []), w .total-is) (omega arith);
       index-is = i;
       start-is = j;
     }
 
-    pub walk-here : c .id ≡ id → (index′ start′ : ℕ) → index′ ≡ length done → start′ ≡ total
-        → Walking id count (done ++ (c ∷ [])) (set seen (c .id) true) (total + c .size .0) index′ start′
+    pub walk-here : c .setting .id ≡ id → (index′ start′ : ℕ) → index′ ≡ length done → start′ ≡ total
+        → Walking id count (done ++ (c ∷ [])) (set seen (c .setting .id) true) (total + c .setting .size .0) index′ start′
     walk-here e index′ start′ i j =
         walk-on index′ start′ (rw (← e, among-new done c new, index-new done c new) i) (rw (← e, among-new done c new, start-new done c new) (j ∙ w .total-is))
 
-    pub walk-other : (c .id ≡ id → ⊥) → (index′ start′ : ℕ) → index′ ≡ index → start′ ≡ start
-        → Walking id count (done ++ (c ∷ [])) (set seen (c .id) true) (total + c .size .0) index′ start′
+    pub walk-other : (c .setting .id ≡ id → ⊥) → (index′ start′ : ℕ) → index′ ≡ index → start′ ≡ start
+        → Walking id count (done ++ (c ∷ [])) (set seen (c .setting .id) true) (total + c .setting .size .0) index′ start′
     walk-other f index′ start′ i j =
         walk-on index′ start′ (rw (among-other done c new id f) (i ∙ w .index-is ∙ same-index (among id (ids done)) refl)) (rw (among-other done c new id f) (j ∙ w .start-is ∙ same-start (among id (ids done)) refl))
       where
@@ -136,9 +136,9 @@ module _ (id count : ℕ) (done : List Channel) (seen : List Bool) (total index 
     unfolding walked channelsFit allFit
     walk-unfit e = rw (d, all-join done (c ∷ rest), e, and-false)
 
-    pub walk-twice : getD seen (c .id) false ≡ true → unfit ≡ walked cs id
+    pub walk-twice : getD seen (c .setting .id) false ≡ true → unfit ≡ walked cs id
     unfolding walked channelsFit ids
-    walk-twice e = rw (d, ids-join done (c ∷ rest), distinct-twice (ids done) (ids rest) (c .id) (sym known ∙ e), and-false)
+    walk-twice e = rw (d, ids-join done (c ∷ rest), distinct-twice (ids done) (ids rest) (c .setting .id) (sym known ∙ e), and-false)
 
 -- ---- all are passed
 module _ (id count : ℕ) (cs : List Channel) (seen : List Bool) (total index start : ℕ) (w : Walking id count cs seen total index start) where
@@ -147,7 +147,7 @@ module _ (id count : ℕ) (cs : List Channel) (seen : List Bool) (total index st
   walk-none e = rw (w .fit, w .apart, sym (w .seen-is 0 (omega arith)) ∙ e)
 
   pub walk-end : getD seen 0 false ≡ true → count ≡ length cs → record { fits = true; total = record { 0 = total }; index = index; start = record { 0 = start } } ≡ walked cs id
-  unfolding walked channelsFit placed
+  unfolding walked channelsFit surveyed
   walk-end e l = rw (w .fit, w .apart, sym (w .seen-is 0 (omega arith)) ∙ e, w .total-is, w .start-is, place)
     where
       last : (b : Bool) → among id (ids cs) ≡ b → cond b (indexOf id (ids cs)) count ≡ indexOf id (ids cs)
@@ -159,18 +159,18 @@ module _ (id count : ℕ) (cs : List Channel) (seen : List Bool) (total index st
 
 -- ---- the state's other limits, before the pass
 module _ (s : State) (id : ℕ) where
-  pub look-few : s .count < FEWEST-CHANNELS → unfit ≡ surveyOf s id
+  pub survey-few : s .count < FEWEST-CHANNELS → unfit ≡ surveyOf s id
   unfolding surveyOf stateFits
-  look-few h = rw (lt-leb FEWEST-CHANNELS (s .count) h)
+  survey-few h = rw (lt-leb FEWEST-CHANNELS (s .count) h)
 
-  pub look-many : MOST-CHANNELS < s .count → unfit ≡ surveyOf s id
+  pub survey-many : MOST-CHANNELS < s .count → unfit ≡ surveyOf s id
   unfolding surveyOf stateFits
-  look-many h = rw (lt-leb (s .count) MOST-CHANNELS h, and-false)
+  survey-many h = rw (lt-leb (s .count) MOST-CHANNELS h, and-false)
 
-  pub look-names : namesFit s ≡ false → unfit ≡ surveyOf s id
+  pub survey-names : namesFit s ≡ false → unfit ≡ surveyOf s id
   unfolding surveyOf stateFits
-  look-names e = rw (e, and-false)
+  survey-names e = rw (e, and-false)
 
-  pub look-walk : FEWEST-CHANNELS ≤ s .count → s .count ≤ MOST-CHANNELS → namesFit s ≡ true → walked (configured s) id ≡ surveyOf s id
+  pub survey-walk : FEWEST-CHANNELS ≤ s .count → s .count ≤ MOST-CHANNELS → namesFit s ≡ true → walked (configured s) id ≡ surveyOf s id
   unfolding surveyOf stateFits walked
-  look-walk some few e = rw (le-leb FEWEST-CHANNELS (s .count) some, le-leb (s .count) MOST-CHANNELS few, e)
+  survey-walk some few e = rw (le-leb FEWEST-CHANNELS (s .count) some, le-leb (s .count) MOST-CHANNELS few, e)

@@ -1,4 +1,4 @@
 pub mod Table
 pub mod Limits
 pub mod Memory
-pub mod Within
+pub mod WithinLimits

@@ -13,14 +13,19 @@ use Rattle.meaning.specs.Kinds.{among}
 use Rattle.writable.specs.Allowed.{instanceAllowed, contextAllowed, statusAllowed}
 use Rattle.store.specs.Waiting.{wellFormed}
 use Rattle.flow.specs.declared.Flow.{Flow}
+use Rattle.ips_channel.specs.declared.state.Setting.{Setting}
 use Rattle.ips_channel.specs.declared.state.Channel.{Channel}
-use Rattle.ips_state.specs.declared.state.Setting.{Setting}
+use Rattle.ips_state.specs.declared.state.ChannelStart.{ChannelStart}
 use Rattle.ips_state.specs.declared.state.Configuration.{Configuration}
 use Rattle.ips_state.specs.declared.state.State.{State}
 use Rattle.ips_state.specs.declared.survey.Survey.{Survey}
 use Rattle.ips_state.specs.Table.{configured}
 
--- ---- a channel: "ID 255", "store length", "a status above 15", "a plain channel not free", and what waits
+-- ---- a setting: "ID 255", "store length"
+abbrev pub settingFits : Setting → Bool
+settingFits k = ltb (k .id) RESERVED-CHANNEL && (leb SMALLEST-STORE (k .size .0) && leb (k .size .0) LARGEST-STORE)
+
+-- ---- a channel: its setting, "a status above 15", "a plain channel not free", and what waits
 abbrev pub flowFits : Bool → Flow → Bool
 flowFits true flow = true
 flowFits false Flow.Free = true
@@ -29,10 +34,8 @@ flowFits false (Flow.InForce window) = false
 
 unfoldable pub channelFits : Channel → Bool
 channelFits c =
-    ltb (c .id) RESERVED-CHANNEL
-    && (leb SMALLEST-STORE (c .size .0)
-    && (leb (c .size .0) LARGEST-STORE
-    && (statusAllowed ends.Radio (c .status) && (flowFits (c .controlled) (c .flow) && wellFormed (c .queue) (c .size .0)))))
+    settingFits (c .setting)
+    && (statusAllowed ends.Radio (c .status) && (flowFits (c .setting .controlled) (c .flow) && wellFormed (c .queue) (c .setting .size .0)))
 
 unfoldable pub allFit : List Channel → Bool
 allFit [] = true
@@ -40,7 +43,7 @@ allFit (c ∷ cs) = channelFits c && allFit cs
 
 -- ---- the channels together: "an ID twice", "no channel 0"
 unfoldable pub ids : List Channel → List ℕ
-ids cs = map (λ (c : Channel). c .id) cs
+ids cs = map (λ (c : Channel). c .setting .id) cs
 
 unfoldable pub distinct : List ℕ → Bool
 distinct [] = true
@@ -62,23 +65,22 @@ unfoldable pub stateFits : State → Bool
 stateFits s = countFits (s .count) && (namesFit s && channelsFit (configured s))
 
 -- the same of a configuration: "channel count, ID 255, an ID twice, no channel 0, store length"
-abbrev pub settingFits : Setting → Bool
-settingFits k = ltb (k .id) RESERVED-CHANNEL && (leb SMALLEST-STORE (k .size .0) && leb (k .size .0) LARGEST-STORE)
+unfoldable pub startsFit : List ChannelStart → Bool
+startsFit [] = true
+startsFit (k ∷ ks) = settingFits (k .setting) && startsFit ks
 
-unfoldable pub settingsFit : List Setting → Bool
-settingsFit [] = true
-settingsFit (k ∷ ks) = settingFits k && settingsFit ks
+unfoldable pub startIds : List ChannelStart → List ℕ
+startIds ks = map (λ (k : ChannelStart). k .setting .id) ks
 
 unfoldable pub configurationFits : Configuration → Bool
 configurationFits k =
     countFits (k .count)
-    && (settingsFit (take (k .count) (k .settings))
-    && (distinct (map (λ (x : Setting). x .id) (take (k .count) (k .settings))) && among 0 (map (λ (x : Setting). x .id) (take (k .count) (k .settings)))))
+    && (startsFit (take (k .count) (k .starts)) && (distinct (startIds (take (k .count) (k .starts))) && among 0 (startIds (take (k .count) (k .starts)))))
 
 -- ---- "one store .. for each channel, all of them end to end in configuration order in one lent memory"
 unfoldable pub sizes : List Channel → ℕ
 sizes [] = 0
-sizes (c ∷ cs) = c .size .0 + sizes cs
+sizes (c ∷ cs) = c .setting .size .0 + sizes cs
 
 -- where a channel stands in the configuration; one that is not configured, behind the last
 unfoldable pub indexOf : ℕ → List ℕ → ℕ
@@ -89,12 +91,12 @@ indexOf id (n ∷ ns) = cond (eqb n id) 0 (suc (indexOf id ns))
 unfoldable pub unfit : Survey
 unfit = record { fits = false; total = record { 0 = 0 }; index = 0; start = record { 0 = 0 } }
 
-unfoldable pub placed : List Channel → ℕ → Survey
-placed cs id =
+unfoldable pub surveyed : List Channel → ℕ → Survey
+surveyed cs id =
     record { fits = true; total = record { 0 = sizes cs }; index = indexOf id (ids cs); start = record { 0 = cond (among id (ids cs)) (sizes (take (indexOf id (ids cs)) cs)) 0 } }
 
 unfoldable pub walked : List Channel → ℕ → Survey
-walked cs id = cond (channelsFit cs) (placed cs id) unfit
+walked cs id = cond (channelsFit cs) (surveyed cs id) unfit
 
 unfoldable pub surveyOf : State → ℕ → Survey
-surveyOf s id = cond (stateFits s) (placed (configured s) id) unfit
+surveyOf s id = cond (stateFits s) (surveyed (configured s) id) unfit

@@ -8,9 +8,10 @@ use Rattle.meaning.specs.declared.message.Instance.the-variants as instances
 use Rattle.meaning.specs.declared.message.Context.the-variants as contexts
 use Rattle.meaning.specs.declared.message.Status.the-variants as statuses
 use Rattle.flow.specs.declared.Flow.{Flow}
+use Rattle.ips_channel.specs.declared.state.Setting.{Setting}
 use Rattle.ips_channel.specs.declared.state.Channel.{Channel}
 use Rattle.ips_channel.specs.Channel.{freshChannel}
-use Rattle.ips_state.specs.declared.state.Setting.{Setting}
+use Rattle.ips_state.specs.declared.state.ChannelStart.{ChannelStart}
 use Rattle.ips_state.specs.declared.state.Configuration.{Configuration}
 use Rattle.ips_state.specs.declared.state.State.{State}
 
@@ -18,9 +19,15 @@ use Rattle.ips_state.specs.declared.state.State.{State}
 unfoldable pub configured : State → List Channel
 configured s = take (s .count) (s .channels)
 
--- what an index past the table's end gives
+-- what an index past the end gives
+abbrev pub noSetting : Setting
+noSetting = record { id = 0; controlled = false; size = record { 0 = 0 } }
+
+abbrev pub noStart : ChannelStart
+noStart = record { setting = noSetting; first = record { 0 = 0 } }
+
 abbrev pub noChannel : Channel
-noChannel = record { id = 0; controlled = false; size = record { 0 = 0 }; status = statuses.Absent; flow = Flow.Free; sequence = record { 0 = 0 }; latest = 0; queue = record { entries = []; count = 0 } }
+noChannel = record { setting = noSetting; status = statuses.Absent; flow = Flow.Free; sequence = record { 0 = 0 }; latest = 0; queue = record { entries = []; count = 0 } }
 
 unfoldable pub channelAt : State → ℕ → Channel
 channelAt s index = getD (s .channels) index noChannel
@@ -29,14 +36,17 @@ unfoldable pub withChannel : State → ℕ → Channel → State
 withChannel s index c = record { datalink = s .datalink; channels = set (s .channels) index c; count = s .count; instance = s .instance; context = s .context }
 
 -- ---- a fresh start
-abbrev pub freshOf : Setting → Channel
-freshOf k = freshChannel (k .id) (k .controlled) (k .size) (k .first)
+abbrev pub startAt : Configuration → ℕ → ChannelStart
+startAt k index = getD (k .starts) index noStart
+
+abbrev pub freshOf : ChannelStart → Channel
+freshOf start = freshChannel (start .setting) (start .first)
 
 unfoldable pub blankChannel : Channel
-blankChannel = freshChannel 0 false (record { 0 = 0 }) (record { 0 = 0 })
+blankChannel = freshOf noStart
 
 unfoldable pub freshChannels : Configuration → List Channel
-freshChannels k = map freshOf (take (k .count) (k .settings)) ++ replicate (MOST-CHANNELS - length (take (k .count) (k .settings))) blankChannel
+freshChannels k = map freshOf (take (k .count) (k .starts)) ++ replicate (MOST-CHANNELS - length (take (k .count) (k .starts))) blankChannel
 
 unfoldable pub freshState : Configuration → State
 freshState k = record { datalink = k .datalink; channels = freshChannels k; count = k .count; instance = instances.Absent; context = contexts.Absent }

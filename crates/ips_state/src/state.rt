@@ -5,24 +5,26 @@ ghost use Rattle.quantity.specs.Limits.{MOST-CHANNELS};
 ghost use Rattle.ips_state.specs.Table.{blankChannel, freshOf, freshChannels, freshState, blankState, channelAt};
 use ips_channel::state;
 use ips_channel::state::Channel;
+use ips_channel::state::Setting;
 use meaning::message::Context;
 use meaning::message::Instance;
 use quantity::count::ByteCount;
 use quantity::count::DatalinkId;
 use quantity::count::FlowSequence;
 use quantity::limit::MOST_CHANNELS;
+use quantity::refusal::Refusal;
 
-// How one channel is configured: flow-controlled or else plain, its first sequence, the length of its store.
-pub struct Setting {
-    pub id: u8,
-    pub controlled: bool,
+// How one channel starts: its setting and its first sequence.
+pub struct ChannelStart {
+    pub setting: Setting,
     pub first: FlowSequence,
-    pub size: ByteCount,
 }
 
+// What a fresh start is given.
 pub struct Configuration {
     pub datalink: DatalinkId,
-    pub settings: [Setting; MOST_CHANNELS],
+    // In configuration order.
+    pub starts: [ChannelStart; MOST_CHANNELS],
     pub count: usize,
 }
 
@@ -36,19 +38,30 @@ pub struct State {
     pub context: Context,
 }
 
+// 19, or the state has started.
+pub enum StartAnswer {
+    Started,
+    Refused(Refusal),
+}
+
 // A place of the table that no channel has.
 fn blank_channel() -> Channel
     ensures { λ r. ⌜ r ≡ blankChannel ⌝ }
 {
-    state::fresh(0, false, ByteCount(0), FlowSequence(0))
+    let setting = Setting {
+        id: 0,
+        controlled: false,
+        size: ByteCount(0),
+    };
+    state::fresh(setting, FlowSequence(0))
 }
 
-fn fresh_channel(setting: Setting) -> Channel
-    ensures { λ r. ⌜ r ≡ freshOf setting ⌝ }
+fn fresh_channel(start: ChannelStart) -> Channel
+    ensures { λ r. ⌜ r ≡ freshOf start ⌝ }
 {
-    let size = setting.size;
-    let first = setting.first;
-    state::fresh(setting.id, setting.controlled, size, first)
+    let setting = start.setting;
+    let first = start.first;
+    state::fresh(setting, first)
 }
 
 // Every configured channel afresh; a count above the table's places fills them all.
@@ -59,7 +72,7 @@ fn fresh_channels(configuration: Configuration) -> [Channel; MOST_CHANNELS]
     let count = configuration.count;
     let mut at = 0;
     while at < count && at < MOST_CHANNELS {
-        channels[at] = fresh_channel(configuration.settings[at]);
+        channels[at] = fresh_channel(configuration.starts[at]);
         at += 1;
     }
     channels

@@ -20,7 +20,7 @@ pub struct Survey {
     pub start: ByteCount,
 }
 
-// A byte has so many values.
+// The values of a byte.
 const BYTES: usize = 256;
 
 // A state outside the limits has no places.
@@ -57,7 +57,8 @@ fn walk(state: State, id: u8) -> Survey
     let mut at = 0;
     while at < count {
         let channel = state.channels[at];
-        let here = channel.id as usize;
+        let setting = channel.setting;
+        let here = setting.id as usize;
         if !limits::channel_fits(channel) {
             return outside();
         }
@@ -65,11 +66,11 @@ fn walk(state: State, id: u8) -> Survey
             return outside();
         }
         seen[here] = true;
-        if channel.id == id {
+        if setting.id == id {
             index = at;
             start = total;
         }
-        total += channel.size.0;
+        total += setting.size.0;
         at += 1;
     }
     if !seen[0] {
@@ -83,7 +84,8 @@ fn walk(state: State, id: u8) -> Survey
     }
 }
 
-pub fn look(state: State, id: u8) -> Survey
+// Whether the state is within the limits, the length of the memory it asks for, and where the channel of an ID and its store stand.
+pub fn survey_state(state: State, id: u8) -> Survey
     ensures { λ r. ⌜ r ≡ surveyOf state id ⌝ }
 {
     if state.count < FEWEST_CHANNELS {

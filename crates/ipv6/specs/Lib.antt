@@ -1,1 +1,2 @@
 pub mod Ipv6
+pub mod FixedHeader

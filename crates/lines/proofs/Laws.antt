@@ -1,6 +1,6 @@
 -- What is unread, moved and read. Assumes nothing.
 use mathlib.Core.Path.{_≡_, refl, sym, ap, _∙_}
-use mathlib.Core.Bool.{Bool, true, false, true≢false, cond, _&&_, _||_}
+use mathlib.Core.Bool.{Bool, true, false, true≢false, cond, _&&_, _||_, and-eq-true-iff}
 use mathlib.Core.List.{List, [], _∷_}
 use Prim.Native.Nat.{ℕ, zero, suc, _+_, _-_, _≤_, _<_}
 use native.Mathlib.Numerals.{add-one}
@@ -10,6 +10,7 @@ use borrow.Rule.Slice.PartMut.{midOf, putMid, take-put, mid-len}
 use lib.Dec.{ltb, leb, eqb}
 use lib.ListN.{length, getD, take, drop, set, length-set, length-drop}
 use lib.Seq.{length-take-le, take-add, drop-at, getD-drop, paste, paste-zero, paste-suc, take-paste, drop-paste, length-paste}
+use Rattle.facts.proofs.Tests.{clash}
 use Rattle.bytes.specs.Bytes.{indexOf, indexAfter, slice}
 use Rattle.lines.specs.declared.Input.{Input}
 use Rattle.lines.specs.declared.Found.{Found}
@@ -18,14 +19,10 @@ use Rattle.lines.specs.Unread.{tidyOf, restOf, lineOf, lastOf, foundOf, 
 
 -- ---- where what is unread lies
 
-pub both : (a b : Bool) → (a && b) ≡ true → (a ≡ true) × (b ≡ true)
-both true b e = (refl, e)
-both false b e = ((cc), (cc))
-
 pub tidy-is : (size : ℕ) (input : Input) → tidyOf size input ≡ true → (input .at ≤ input .have) × (input .have ≤ size)
 unfolding tidyOf
 tidy-is size input e =
-    let k = both (leb (input .at) (input .have)) (leb (input .have) size) e in
+    let k = and-eq-true-iff (leb (input .at) (input .have)) (leb (input .have) size) .0 e in
     (leb-true _ _ (k .0), leb-true _ _ (k .1))
 
 -- ---- what stands next
@@ -243,10 +240,6 @@ module _ (buffer : List ℕ) (input : Input) (t : tidyOf (length buffer) input �
       go false q true qe false qv true ql = last-line (none q) qe qv (ltb-true (input .at) (input .have) ql) refl
       go false q true qe false qv false ql = nothing qe qv (ltb-false (input .at) (input .have) ql) refl
       go false q false qe v qv l ql = unended (none q) qe refl
-
--- two answers that can't be one
-pub clash : {A : Type 0} → _≡_ {A = ℕ} 0 1 → A
-clash z = absurd (omega arith)
 
 -- what a caller goes by: a line that is found lies within the buffer
 pub next-inside : (buffer : List ℕ) (input : Input) {from to : ℕ} {rest : Input} → nextOf buffer input ≡ Line from to rest

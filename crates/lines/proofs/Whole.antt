@@ -1,6 +1,6 @@
 -- Every line of an input is reported once and in order, in whatever pieces the input comes. Assumes nothing.
 use mathlib.Core.Path.{_≡_, refl, sym, ap, _∙_}
-use mathlib.Core.Bool.{Bool, true, false, true≢false, false≢true, _&&_, _||_}
+use mathlib.Core.Bool.{Bool, true, false, true≢false, false≢true, _&&_, _||_, and-eq-true-iff}
 use mathlib.Core.List.{List, [], _∷_, _++_, append-assoc}
 use Prim.Native.Nat.{ℕ, suc, _+_, _-_, _≤_, _<_}
 use native.Mathlib.Omega.{arith}
@@ -8,12 +8,13 @@ use borrow.Author.Tests.{eqb-true, eqb-false, le-leb}
 use lib.Dec.{eqb}
 use lib.ListN.{length, take, drop, take-append-drop}
 use lib.Seq.{take-take, drop-drop}
+use Rattle.facts.proofs.Tests.{neither, clash}
 use Rattle.bytes.specs.Bytes.{slice}
 use Rattle.lines.specs.declared.Input.{Input}
 use Rattle.lines.specs.declared.Found.the-variants.{More, End, Line, Over}
 use Rattle.lines.specs.Unread.{startOf, tidyOf, restOf, nextOf, lostOf, keptOf, Filled}
 use Rattle.lines.specs.Reports.{linesOf, Report, whole, dropped, reportsOf, Turns, ends, line, over, more}
-use Rattle.lines.proofs.Laws.{both, clash, tidy-is, slice-is, unread, stop, unread-length, next-cases}
+use Rattle.lines.proofs.Laws.{tidy-is, slice-is, unread, stop, unread-length, next-cases}
 use Rattle.lines.proofs.Laws.{Next, a-line, a-dropped, last-line, last-dropped, unended, nothing}
 use Rattle.lines.proofs.Split.{behindLine, meant, meant-line, meant-over, meant-on, meant-full, meant-last}
 
@@ -35,16 +36,12 @@ slice-take from to n l h g k =
     ∙ ap (λ (m : ℕ). take m (drop from l)) e
     ∙ sym (ap (take n) (slice-is from to l h g) ∙ take-take n (to - from) (drop from l) k)
 
-neither : (a b : Bool) → (a || b) ≡ false → (a ≡ false) × (b ≡ false)
-neither true b e = absurd (true≢false e)
-neither false b e = (refl, e)
-
 -- a line is dropped that fills the buffer, and one that is kept doesn't
 module _ (size : ℕ) (input : Input) where
   lost-full : lostOf size input ≡ true → input .over ≡ false → (input .at ≡ 0) × (input .have ≡ size)
   unfolding lostOf
   lost-full e h =
-      let k = both (eqb (input .at) 0) (eqb (input .have) size) (rw h at e) in
+      let k = and-eq-true-iff (eqb (input .at) 0) (eqb (input .have) size) .0 (rw h at e) in
       (eqb-true (input .at) 0 (k .0), eqb-true (input .have) size (k .1))
 
   lost-not : 0 < size → input .have ≤ size → lostOf size input ≡ false → (input .over ≡ false) × (input .have - input .at < size)

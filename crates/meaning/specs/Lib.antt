@@ -1,2 +1,4 @@
+pub mod Cells
 pub mod Kinds
 pub mod Statuses
+pub mod StatusKinds

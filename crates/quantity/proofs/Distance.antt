@@ -6,11 +6,11 @@ use native.Mathlib.Omega.{arith}
 use lib.IntN.{ℤ, pos, negsuc, subℕ, _-ℤ_}
 use lib.Dec.{leb, leb→le, le→leb}
 use borrow.Author.Tests.{lt-ltb, le-ltb}
+use Rattle.facts.proofs.Tests.{by-le}
 use Rattle.quantity.specs.declared.count.FlowSequence.{FlowSequence}
 use Rattle.quantity.specs.declared.count.FlowWindow.{FlowWindow}
 use Rattle.quantity.specs.declared.count.ByteCount.{ByteCount}
 use Rattle.quantity.specs.Distance.{lowOf, IsDistance, aheadOf, distanceOf, fitsOf}
-use Rattle.quantity.proofs.Tests.{by-le}
 
 -- ---- from a word r that is known to be the wrapped difference
 module _ (s : FlowSequence) (w : FlowWindow) (r : ℕ) (e : r ≡ aheadOf s w) where

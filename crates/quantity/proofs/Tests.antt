@@ -1,24 +1,12 @@
 -- Tests on numbers, taken apart. Assumes nothing.
-use mathlib.Core.Path.{_≡_, refl, sym, _∙_}
-use mathlib.Core.Bool.{Bool, true, false}
-use Prim.Native.Nat.{ℕ, _+_, _-_, _≤_, _<_}
+use mathlib.Core.Path.{_≡_, sym, _∙_}
+use Prim.Native.Nat.{ℕ, _+_, _-_, _≤_}
 use native.Mathlib.Omega.{arith}
 use lib.IntN.{pos, subℕ}
 use lib.Signed.{leZ}
-use lib.Dec.{T, leb}
-use borrow.Author.Tests.{leb-true, leb-false, le-leb, lt-leb, lt-ltb, le-ltb}
-
--- a test on two numbers, with what it tells in each case
-pub by-le {ℓ} : {X : Type ℓ} (a b : ℕ) → (a ≤ b → X) → (b < a → X) → X
-by-le {X = X} a b f g = go (leb a b) refl
-  where
-    go : (t : Bool) → leb a b ≡ t → X
-    go true e = f (leb-true a b e)
-    go false e = g (leb-false a b e)
-
-pub is-true : (t : Bool) → T t → t ≡ true
-is-true true h = refl
-is-true false h = absurd h
+use lib.Dec.{leb}
+use borrow.Author.Tests.{le-leb, lt-leb, lt-ltb, le-ltb}
+use Rattle.facts.proofs.Tests.{by-le}
 
 -- two tests that tell the same
 pub leb-same : (a b x y : ℕ) → (a ≤ b → x ≤ y) → (x ≤ y → a ≤ b) → leb a b ≡ leb x y

@@ -8,12 +8,13 @@ use lib.IntN.{ℤ, pos, negsuc, subℕ}
 use lib.Signed.{leZ}
 use lib.Dec.{T, leb, leb→le, le→leb}
 use borrow.Author.Tests.{leb-true, lt-leb, lt-ltb, le-ltb}
+use Rattle.facts.proofs.Tests.{by-le, is-true}
 use Rattle.quantity.specs.declared.count.FlowSequence.{FlowSequence}
 use Rattle.quantity.specs.declared.count.FlowWindow.{FlowWindow}
 use Rattle.quantity.specs.declared.count.ByteCount.{ByteCount}
 use Rattle.quantity.specs.Distance.{aheadOf, distanceOf, fitsOf, advanceOf}
 use Rattle.quantity.specs.Window.{sequenceAt, Stands, standingAt, sequenceAfter, countAfter, eachFits}
-use Rattle.quantity.proofs.Tests.{by-le, is-true, leb-same, leZ-sub}
+use Rattle.quantity.proofs.Tests.{leb-same, leZ-sub}
 use Rattle.quantity.proofs.Distance.{fits-ahead, fits-behind}
 
 -- the facts in natural numbers, of a number below zero

@@ -74,9 +74,9 @@ abbrev pub NO-ROOM : ℕ
 NO-ROOM = 18
 
 -- configuration; in any call that takes them, a state or a lent memory outside the limits (the paper lists which)
-abbrev pub CONFIGURATION : ℕ
-CONFIGURATION = 19
+abbrev pub OUTSIDE-LIMITS : ℕ
+OUTSIDE-LIMITS = 19
 
 -- a meaning to be written that the lists, or section 3's lengths and values, don't allow (a number too big for its length too)
-abbrev pub MEANING : ℕ
-MEANING = 20
+abbrev pub NOT-WRITABLE : ℕ
+NOT-WRITABLE = 20

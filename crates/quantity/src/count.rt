@@ -36,7 +36,7 @@ pub fn distance(sequence: FlowSequence, window: FlowWindow) -> i64
     }
 }
 
-// A packet of so many bytes fits when they are at most the distance.
+// A packet fits when its bytes are at most the distance.
 pub fn fits(sequence: FlowSequence, window: FlowWindow, bytes: ByteCount) -> bool
     ensures { λ r. ⌜ r ≡ fitsOf sequence window bytes ⌝ }
 {

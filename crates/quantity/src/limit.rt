@@ -18,7 +18,7 @@ pub const LARGEST_STORE: usize = 65536;
 // Channel IDs are the numbers below the reserved one.
 pub const RESERVED_CHANNEL: u8 = 255;
 
-// How many Channel IDs there are: a table over them has so many places.
+// The number of Channel IDs, and of the places of a table over them.
 pub const CHANNEL_IDS: usize = 255;
 
 pub const HIGHEST_STATUS: u8 = 15;

@@ -35,9 +35,9 @@ pub const FULL: u8 = 17;
 
 pub const NO_ROOM: u8 = 18;
 
-pub const CONFIGURATION: u8 = 19;
+pub const OUTSIDE_LIMITS: u8 = 19;
 
-pub const MEANING: u8 = 20;
+pub const NOT_WRITABLE: u8 = 20;
 
 // A refusal: its number and its place.
 pub struct Refusal {

@@ -1,36 +1,28 @@
 -- What the tests of an option tell: of its length, and of the channel that it names. Assumes nothing.
-use Prim.Native.Nat.{ℕ, _-_, _≤_, _<_}
+use Prim.Native.Nat.{ℕ, _≤_, _<_}
 use mathlib.Core.Path.{_≡_, refl, sym}
 use mathlib.Core.List.{List, [], _∷_}
-use mathlib.Core.Bool.{Bool, true, false, cond, _&&_}
+use mathlib.Core.Bool.{Bool, true, false, cond, and-eq-true-iff}
 use native.Mathlib.Omega.{arith}
 use borrow.Author.Tests.{ltb-true, leb-true}
 use lib.Dec.{ltb, leb}
-use lib.ListN.{length, getD, take, drop, length-drop}
-use lib.Seq.{take-all}
+use lib.ListN.{length, getD}
+use Rattle.facts.proofs.Tests.{clash}
 use Rattle.quantity.specs.Limits.{RESERVED-CHANNEL, CHANNEL-IDS, SHORTEST-NAME, LONGEST-NAME}
 use Rattle.quantity.specs.Refusals.{LENGTH, VALUE, UNLISTED}
 use Rattle.meaning.specs.declared.message.End.{End}
 use Rattle.meaning.specs.declared.message.Plane.{Plane}
 use Rattle.meaning.specs.Kinds.{among, known, mayHold, lengthListed, valueListed, DATALINK-IDENTIFIER, LINK-INSTANCE, DATALINK-CONTEXT, CHANNEL-STATUS, FLOW-WINDOW, PACKET-DATA, CHANNEL-IDENTIFIER, EXPIRATION-TIME, FLOW-SEQUENCE}
-use Rattle.meaning.proofs.Amongst.{clash, amongst}
+use Rattle.meaning.proofs.Amongst.{amongst}
 use Rattle.read_option.specs.declared.answer.Item.{Item}
 use Rattle.read_option.specs.declared.answer.OptionAnswer.{OptionAnswer}
 use Rattle.read_option.specs.declared.answer.OptionAnswer.the-variants.{Took, Refused}
 use Rattle.read_option.specs.Items.{itemOf, statedOf, answerOf, InTable, Placed}
 
--- a part up to the end is what is left
-pub rest-part : (a : ℕ) (s : List ℕ) → take (length s - a) (drop a s) ≡ drop a s
-rest-part a s = take-all (length s - a) (drop a s) (rw length-drop (omega arith))
-
 -- "1 to 8"
 pub name-fits : (n : ℕ) → lengthListed LINK-INSTANCE n ≡ true → n ≤ LONGEST-NAME
 unfolding lengthListed
-name-fits n e = go (leb SHORTEST-NAME n) e
-  where
-    go : (b : Bool) → (b && leb n LONGEST-NAME) ≡ true → n ≤ LONGEST-NAME
-    go true h = leb-true n LONGEST-NAME h
-    go false h = let z : _≡_ {A = ℕ} 0 1 = cc in absurd (omega arith)
+name-fits n e = leb-true n LONGEST-NAME (and-eq-true-iff (leb SHORTEST-NAME n) (leb n LONGEST-NAME) .0 e .1)
 
 -- "1 or 5"
 pub window-there : (n : ℕ) → lengthListed FLOW-WINDOW n ≡ true → 1 ≤ n

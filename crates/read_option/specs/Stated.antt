@@ -1,10 +1,11 @@
 -- What the content of an option states, by its kind: sections 3.3.1 to 3.3.9.
-use Prim.Native.Nat.{ℕ, zero, suc, _%_}
-use mathlib.Core.List.{List, [], _∷_}
+use Prim.Native.Nat.{ℕ, _%_}
+use mathlib.Core.List.{List}
 use mathlib.Core.Option.{Option, none, some}
 use mathlib.Core.Bool.{cond}
 use lib.ListN.{length, getD, drop}
 use lib.Dec.{eqb}
+use Rattle.facts.specs.Tables.{tabulate}
 use Rattle.quantity.specs.Limits.{CHANNEL-IDS}
 use Rattle.wire.specs.Numbers.{bigEndian}
 use Rattle.meaning.specs.declared.message.Datalink.{Datalink}
@@ -23,6 +24,10 @@ use Rattle.meaning.specs.Kinds.{DATALINK-IDENTIFIER, LINK-INSTANCE, DATALINK-CO
 -- for each type and channel the content of the option, or none
 abbrev pub Table : Type 0
 Table = ℕ → ℕ → Option (List ℕ)
+
+-- no option at all
+abbrev pub nothing : Table
+nothing = λ kind channel. none
 
 abbrev pub datalinkFrom : Option (List ℕ) → Datalink
 datalinkFrom none = Datalink.Absent
@@ -66,11 +71,6 @@ expirationFrom (some content) = Expiration.Given (bigEndian content)
 abbrev pub countedFrom : Option (List ℕ) → Counted
 countedFrom none = Counted.Absent
 countedFrom (some content) = Counted.Given (getD content 0 0) (record { 0 = bigEndian (drop 1 content) })
-
--- f 0, f 1, .., so many
-unfoldable pub tabulate {ℓ} : {A : Type ℓ} → ℕ → (ℕ → A) → List A
-tabulate zero f = []
-tabulate (suc n) f = f 0 ∷ tabulate n (λ k. f (suc k))
 
 -- "the meaning of a message is .. for each known kind (and channel) what is stated"
 unfoldable pub controlStated : Table → Control

@@ -1,4 +1,3 @@
--- The laws of judging options one after another, for this crate's proofs and for those above it.
+-- A turn of a reader's loop, for any sort of message.
 pub mod Turn
 pub mod Taking
-pub mod Controls

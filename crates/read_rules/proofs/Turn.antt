@@ -6,11 +6,11 @@ use native.Mathlib.Omega.{arith}
 use native.Mathlib.Nat.{add-sub-cancel-left}
 use lib.ListN.{length, take, drop, length-drop}
 use lib.Seq.{drop-drop, length-take-le}
+use Rattle.facts.proofs.Lists.{rest-part}
 use Rattle.quantity.specs.Refusals.{CUT}
 use Rattle.wire.specs.declared.option.Frame.the-variants.{Cut, Whole}
 use Rattle.wire.specs.Options.{frameOf, split}
 use Rattle.wire.proofs.Options.{frame-tells, split-end, split-cut, split-whole}
-use Rattle.read_option.proofs.Contents.{rest-part}
 use Rattle.read_rules.specs.Judging.{next, stop, Rules, judge}
 
 -- a whole option at a place, of n bytes of content, ends within the datagram

@@ -4,7 +4,9 @@ use mathlib.Core.List.{List, [], _∷_}
 use mathlib.Core.Bool.{Bool, true, false, cond}
 use lib.ListN.{length, getD}
 use lib.Dec.{eqb}
+use Rattle.quantity.specs.declared.count.DatalinkId.{DatalinkId}
 use Rattle.quantity.specs.Refusals.{LENGTH, VALUE, UNLISTED, REPEATED, BEHIND-PACKET, MISSING, UNPAIRED, OTHER-DATALINK}
+use Rattle.meaning.specs.declared.message.Datalink.{Datalink}
 use Rattle.meaning.specs.declared.message.End.{End}
 use Rattle.meaning.specs.declared.message.Plane.{Plane}
 use Rattle.meaning.specs.Kinds.{among, known, lengthListed, valueListed, mayHold, oneForEach, mustHold}
@@ -58,3 +60,14 @@ finishOf S n m =
 
 abbrev pub rulesOf : {A B : Type 0} → Sort A B → Rules A B
 rulesOf S = record { plane = S .plane; blank = S .blank; step = stepOf S; finish = finishOf S; refuse = S .refuse; other = S .other }
+
+-- ---- the Datalink ID, which every sort of message must hold
+
+-- number 11: the Datalink ID is the configured one
+abbrev pub isOurs : DatalinkId → Datalink → Bool
+isOurs id Datalink.Absent = false
+isOurs id (Datalink.Given d) = eqb (d .0) (id .0)
+
+abbrev pub unstatedDatalink : Datalink → Bool
+unstatedDatalink Datalink.Absent = true
+unstatedDatalink (Datalink.Given d) = false

@@ -1,5 +1,4 @@
-// What reading a control message answers.
-use meaning::message::Control;
+// What reading a message answers.
 use quantity::refusal::Refusal;
 
 // A reader of one plane says so of a message of the other.
@@ -7,10 +6,4 @@ pub enum Verdict {
     Accepted,
     OtherPlane,
     Refused(Refusal),
-}
-
-// The meaning is that of a message that states nothing unless it is accepted.
-pub struct ControlReading {
-    pub verdict: Verdict,
-    pub message: Control,
 }

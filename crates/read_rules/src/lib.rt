@@ -1,3 +1,2 @@
-// A message's options, judged one after another: those of a control message, of either end.
+// The order of tests that a message is read by, for any sort of message.
 pub mod answer;
-pub mod control;

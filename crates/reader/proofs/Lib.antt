@@ -1,4 +1,2 @@
--- The laws of reading, for this crate's proofs and for those above it.
-pub mod Carried
+-- The laws of the header, for this crate's proofs and for those above it.
 pub mod Planes
-pub mod Gathering

@@ -13,11 +13,13 @@ use Rattle.quantity.specs.Limits.{LONGEST-DATAGRAM}
 use Rattle.quantity.specs.Refusals.{LONG-DATAGRAM, HEADER}
 use Rattle.wire.specs.Options.{split}
 use Rattle.meaning.specs.declared.message.End.{End}
-use Rattle.read_rules.specs.Judging.{Rules, judge, CURRENT-VERSION, versionOf, flagOf, flag, readWith}
+use Rattle.read_rules.specs.Judging.{Rules, judge}
 use Rattle.read_rules.specs.Sorts.{rulesOf}
-use Rattle.read_rules.specs.Controls.{controlRefused, controlSort}
+use Rattle.read_control.specs.Message.{controlRefused, controlSort}
+use Rattle.read_data.specs.Message.{dataRefused, dataSort}
 use Rattle.reader.specs.declared.answer.PlaneAnswer.{PlaneAnswer}
-use Rattle.reader.specs.Readings.{dataRefused, dataSort, readControl, readData, planeOf}
+use Rattle.reader.specs.Header.{CURRENT-VERSION, versionOf, flagOf, flag, readWith}
+use Rattle.reader.specs.Readings.{readControl, readData, planeOf}
 
 module _ {A B : Type 0} (R : Rules A B) (s : List ℕ) where
   -- the options, if a Data Plane flag is that of the plane

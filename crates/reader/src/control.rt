@@ -7,18 +7,17 @@ use crate::answer::Verdict;
 use crate::header;
 use meaning::message::End;
 use quantity::count::DatalinkId;
-use read_rules::control;
 
 // A control message, read whole, or the first refusal; or the answer that it is of the other plane.
 pub fn read(datagram: &[u8], end: End, id: DatalinkId) -> ControlReading
     ensures { λ r. ⌜ r ≡ readControl end id (now (datagram .entry)) ⌝ }
 {
     match header::plane(datagram) {
-        PlaneAnswer::Control => control::options(datagram, end, id),
+        PlaneAnswer::Control => read_control::options(datagram, end, id),
         PlaneAnswer::Data => ControlReading {
             verdict: Verdict::OtherPlane,
-            message: control::blank(),
+            message: read_control::blank(),
         },
-        PlaneAnswer::Refused(refusal) => control::refused(refusal.number, refusal.place),
+        PlaneAnswer::Refused(refusal) => read_control::refused(refusal.number, refusal.place),
     }
 }

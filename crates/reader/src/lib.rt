@@ -1,6 +1,7 @@
-// Reading a message of either end and either plane.
+// Reading a message of either end and either plane, and the packet that a data message carries.
 pub mod answer;
 pub mod control;
 pub mod data;
 pub mod header;
-pub mod packet;
+
+pub use read_data::packet;

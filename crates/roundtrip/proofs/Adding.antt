@@ -16,9 +16,10 @@ use Rattle.meaning.specs.declared.message.Plane.{Plane}
 use Rattle.meaning.specs.declared.message.Datalink.{Datalink}
 use Rattle.meaning.specs.Kinds.{among, known, lengthListed, valueListed, mayHold, DATALINK-IDENTIFIER, PACKET-DATA}
 use Rattle.read_option.specs.Stated.{datalinkFrom}
-use Rattle.read_rules.specs.Judging.{next, judge, readWith, versionOf, flagOf, flag, CURRENT-VERSION}
+use Rattle.read_rules.specs.Judging.{next, judge}
 use Rattle.read_rules.specs.Sorts.{Sort, faultOf, channelOf, stepOf, rulesOf}
-use Rattle.reader.specs.Readings.{packetIn}
+use Rattle.read_data.specs.Packet.{packetIn}
+use Rattle.reader.specs.Header.{readWith, versionOf, flagOf, flag, CURRENT-VERSION}
 use Rattle.write_option.specs.Parts.{datalinkThen}
 
 -- the longest option but Packet Data: a frame, and a Link Instance or a Context

@@ -7,10 +7,11 @@ use native.Mathlib.Omega.{arith}
 use borrow.Author.Tests.{ltb-true, ltb-false}
 use lib.ListN.{length}
 use lib.Dec.{ltb}
+use Rattle.facts.proofs.Tests.{clash}
 use Rattle.quantity.specs.declared.count.ByteCount.{ByteCount}
 use Rattle.quantity.specs.declared.refusal.Refusal.{Refusal}
 use Rattle.quantity.specs.Limits.{LONGEST-DATAGRAM}
-use Rattle.quantity.specs.Refusals.{NO-ROOM, MEANING}
+use Rattle.quantity.specs.Refusals.{NO-ROOM, NOT-WRITABLE}
 use Rattle.wire.specs.Options.{over}
 use Rattle.writer.specs.declared.answer.WriteAnswer.{WriteAnswer}
 use Rattle.writer.specs.Written.{Outcome}
@@ -23,11 +24,11 @@ outcome-one o p = (o .answers ∙ sym (p .answers), o .bytes-are ∙ sym (p .byt
 
 -- no answer is two
 apart : {count : ByteCount} {refusal : Refusal} → WriteAnswer.Wrote count ≡ WriteAnswer.Refused refusal → ⊥
-apart e = let z : _≡_ {A = ℕ} 0 1 = cc in omega arith
+apart e = clash (cc)
 
-two-numbers : refusedBy NO-ROOM ≡ refusedBy MEANING → ⊥
+two-numbers : refusedBy NO-ROOM ≡ refusedBy NOT-WRITABLE → ⊥
 two-numbers e =
-    let same : _≡_ {A = Refusal} (record { number = NO-ROOM; place = 0 }) (record { number = MEANING; place = 0 }) = cc in
+    let same : _≡_ {A = Refusal} (record { number = NO-ROOM; place = 0 }) (record { number = NOT-WRITABLE; place = 0 }) = cc in
     omega (arith, ap (λ (r : Refusal). r .number) same)
 
 -- the three ways out
@@ -50,7 +51,7 @@ module _ (message out : List ℕ) (answer : WriteAnswer) (out′ : List ℕ) whe
     stays = λ refusal e. b;
   }
 
-  meaningless : answer ≡ refusedBy MEANING → out′ ≡ out → Exact false message out answer out′
+  meaningless : answer ≡ refusedBy NOT-WRITABLE → out′ ≡ out → Exact false message out answer out′
   meaningless a b = record {
     written = λ p q. absurd (false≢true p);
     sent = λ count e. absurd (apart (sym e ∙ a));

@@ -9,11 +9,12 @@ use native.Mathlib.Nat.{mod-eq-of-lt}
 use borrow.Author.Tests.{eq-eqb, leb-true, ltb-true}
 use lib.ListN.{length, getD, replicate}
 use lib.Dec.{ltb, leb, eqb, lit≤}
+use Rattle.facts.proofs.Tables.{tabulate-same, each-place}
 use Rattle.quantity.specs.declared.count.DatalinkId.{DatalinkId}
 use Rattle.quantity.specs.Limits.{LONGEST-DATAGRAM, HIGHEST-STATUS, SHORTEST-NAME, LONGEST-NAME}
 use Rattle.wire.specs.Numbers.{bytesOf, bigEndian}
-use Rattle.wire.proofs.Numbers.{length-bytes, there-and-back}
 use Rattle.wire.specs.Options.{Options, done, option, bytes, Whole-options}
+use Rattle.wire.proofs.Numbers.{length-bytes, there-and-back}
 use Rattle.meaning.specs.declared.message.End.{End}
 use Rattle.meaning.specs.declared.message.Plane.the-variants as planes
 use Rattle.meaning.specs.declared.message.Datalink.{Datalink}
@@ -27,17 +28,18 @@ use Rattle.meaning.specs.declared.message.SequenceCell.{SequenceCell}
 use Rattle.meaning.specs.declared.message.WindowCell.{WindowCell}
 use Rattle.meaning.specs.declared.message.Control.{Control}
 use Rattle.meaning.specs.Kinds.{among, known, lengthListed, valueListed, LINK-INSTANCE, DATALINK-CONTEXT, CHANNEL-STATUS, FLOW-WINDOW, FLOW-SEQUENCE, PACKET-DATA}
+use Rattle.meaning.specs.Cells.{noStatus, noSequence, noWindow}
 use Rattle.read_option.specs.Stated.{statusFrom, sequenceFrom, windowFrom, controlStated}
 use Rattle.read_rules.specs.Judging.{judge}
 use Rattle.read_rules.specs.Sorts.{channelOf, finishOf}
-use Rattle.read_rules.specs.Controls.{blankControl, controlSort, controlAccepted, unstatedStatus, controlUnstated, controlState, statusAbsent, sequenceAbsent, windowAbsent}
+use Rattle.read_control.specs.Message.{blankControl, controlSort, controlAccepted, unstatedStatus, controlUnstated, controlState}
 use Rattle.reader.specs.Readings.{readControl}
 use Rattle.writable.specs.Allowed.{may, fitsLength, datalinkAllowed, instanceAllowed, contextAllowed, statusAllowed, statusesAllowed, primaryAllowed, sequenceAllowed, sequencesAllowed, windowAllowed, windowsAllowed, controlAllowed, stands}
 use Rattle.write_option.specs.Parts.{datalinkThen, instanceThen, contextThen, statusThen, sequenceThen, windowThen, statusesThen, sequencesThen, windowsThen}
 use Rattle.writer.specs.Written.{controlOptions, controlWritten, CONTROL-HEADER}
 use Rattle.roundtrip.specs.Values.{SequenceWord, WindowWord, ControlValue}
 use Rattle.roundtrip.proofs.Adding.{Adds, adds-none, adds-option, adds-both, adds-datalink, read-back}
-use Rattle.roundtrip.proofs.Tables.{tabulate-same, each-place, Cell, nothing, stated, Column, adds-column}
+use Rattle.roundtrip.proofs.Tables.{Cell, nothing, stated, Column, adds-column}
 
 -- a message with another part of one kind
 abbrev withDatalink : Control → Datalink → Control
@@ -109,7 +111,7 @@ abbrev windowMade : List ℕ → WindowCell
 windowMade content = record { window = windowFrom (some content) }
 
 module _ (end : End) where
-  status-cell : (channel : ℕ) (x : Status) → statusAllowed end x ≡ true → Cell end CHANNEL-STATUS statusAbsent statusMade channel (statusThen channel x) (record { status = x })
+  status-cell : (channel : ℕ) (x : Status) → statusAllowed end x ≡ true → Cell end CHANNEL-STATUS noStatus statusMade channel (statusThen channel x) (record { status = x })
   unfolding lengthListed
   status-cell channel Status.Absent e = nothing
   status-cell channel (Status.Given s) e =
@@ -118,7 +120,7 @@ module _ (end : End) where
       stated (record { status = Status.Given s }) (s ∷ []) (parts .0) refl (lit≤ tt) (rw (mod-eq-of-lt small))
 
   sequence-cell : (channel : ℕ) (x : Sequence) → sequenceAllowed end x ≡ true → SequenceWord x
-      → Cell end FLOW-SEQUENCE sequenceAbsent sequenceMade channel (sequenceThen channel x) (record { sequence = x })
+      → Cell end FLOW-SEQUENCE noSequence sequenceMade channel (sequenceThen channel x) (record { sequence = x })
   unfolding lengthListed
   sequence-cell channel Sequence.Absent e w = nothing
   sequence-cell channel (Sequence.Given s) e w =
@@ -126,7 +128,7 @@ module _ (end : End) where
       stated (record { sequence = Sequence.Given s }) (bytesOf 4 (s .0)) e (rw l) (omega arith) (rw (there-and-back 4 (s .0) w))
 
   window-cell : (channel : ℕ) (x : Window) → windowAllowed end x ≡ true → WindowWord x
-      → Cell end FLOW-WINDOW windowAbsent windowMade channel (windowThen channel x) (record { window = x })
+      → Cell end FLOW-WINDOW noWindow windowMade channel (windowThen channel x) (record { window = x })
   unfolding lengthListed
   window-cell channel Window.Absent e w = nothing
   window-cell channel Window.Empty e w = stated (record { window = Window.Empty }) [] e refl (lit≤ tt) refl
@@ -135,7 +137,7 @@ module _ (end : End) where
       stated (record { window = Window.Given x }) (bytesOf 4 (x .0)) e (rw l) (omega arith) (rw (l, there-and-back 4 (x .0) w))
 
   module _ (m : Control) where
-    status-column : Column end CHANNEL-STATUS (λ n cell. statusThen n (cell .status)) statusAbsent (withStatuses m) statusMade (λ cell. statusAllowed end (cell .status) ≡ true)
+    status-column : Column end CHANNEL-STATUS (λ n cell. statusThen n (cell .status)) noStatus (withStatuses m) statusMade (λ cell. statusAllowed end (cell .status) ≡ true)
     unfolding controlUnstated controlState
     status-column = record {
       is-known = refl;
@@ -147,7 +149,7 @@ module _ (end : End) where
       puts = λ channel cell e. status-cell channel (cell .status) e;
     }
 
-    sequence-column : Column end FLOW-SEQUENCE (λ n cell. sequenceThen n (cell .sequence)) sequenceAbsent (withSequences m) sequenceMade
+    sequence-column : Column end FLOW-SEQUENCE (λ n cell. sequenceThen n (cell .sequence)) noSequence (withSequences m) sequenceMade
         (λ cell. (sequenceAllowed end (cell .sequence) ≡ true) × SequenceWord (cell .sequence))
     unfolding controlUnstated controlState
     sequence-column = record {
@@ -160,7 +162,7 @@ module _ (end : End) where
       puts = λ channel cell e. sequence-cell channel (cell .sequence) (e .0) (e .1);
     }
 
-    window-column : Column end FLOW-WINDOW (λ n cell. windowThen n (cell .window)) windowAbsent (withWindows m) windowMade
+    window-column : Column end FLOW-WINDOW (λ n cell. windowThen n (cell .window)) noWindow (withWindows m) windowMade
         (λ cell. (windowAllowed end (cell .window) ≡ true) × WindowWord (cell .window))
     unfolding controlUnstated controlState
     window-column = record {
@@ -177,10 +179,10 @@ module _ (end : End) where
 record Parts (end : End) (m : Control) : Type 0 where
   instance : instanceAllowed end (m .instance) ≡ true
   context : contextAllowed end (m .context) ≡ true
-  statuses : (n : ℕ) → statusAllowed end (getD (m .statuses) n statusAbsent .status) ≡ true
+  statuses : (n : ℕ) → statusAllowed end (getD (m .statuses) n noStatus .status) ≡ true
   primary : primaryAllowed end (m .statuses) ≡ true
-  sequences : (n : ℕ) → sequenceAllowed end (getD (m .sequences) n sequenceAbsent .sequence) ≡ true
-  windows : (n : ℕ) → windowAllowed end (getD (m .windows) n windowAbsent .window) ≡ true
+  sequences : (n : ℕ) → sequenceAllowed end (getD (m .sequences) n noSequence .sequence) ≡ true
+  windows : (n : ℕ) → windowAllowed end (getD (m .windows) n noWindow .window) ≡ true
 
 parts-allowed : (end : End) (m : Control) → controlAllowed end m ≡ true → Parts end m
 unfolding controlAllowed statusesAllowed sequencesAllowed windowsAllowed
@@ -194,10 +196,10 @@ parts-allowed end m e =
     record {
       instance = b .0;
       context = c .0;
-      statuses = each-place (statusesAllowed end) (λ cell. statusAllowed end (cell .status)) statusAbsent (λ cell cells. refl) refl (m .statuses) (d .0);
+      statuses = each-place (statusesAllowed end) (λ cell. statusAllowed end (cell .status)) noStatus (λ cell cells. refl) refl (m .statuses) (d .0);
       primary = f .0;
-      sequences = each-place (sequencesAllowed end) (λ cell. sequenceAllowed end (cell .sequence)) sequenceAbsent (λ cell cells. refl) refl (m .sequences) (g .0);
-      windows = each-place (windowsAllowed end) (λ cell. windowAllowed end (cell .window)) windowAbsent (λ cell cells. refl) refl (m .windows) (g .1);
+      sequences = each-place (sequencesAllowed end) (λ cell. sequenceAllowed end (cell .sequence)) noSequence (λ cell cells. refl) refl (m .sequences) (g .0);
+      windows = each-place (windowsAllowed end) (λ cell. windowAllowed end (cell .window)) noWindow (λ cell cells. refl) refl (m .windows) (g .1);
     }
 
 -- the options of a message, before others
@@ -213,13 +215,13 @@ most m = 1 + (1 + (1 + (length (m .statuses) + (length (m .sequences) + length (
 
 -- nothing stated, and then part after part, in tables as long as the message's own
 abbrev noWindows : Control → Control
-noWindows m = withWindows m (replicate (length (m .windows)) windowAbsent)
+noWindows m = withWindows m (replicate (length (m .windows)) noWindow)
 
 abbrev noSequences : Control → Control
-noSequences m = withSequences (noWindows m) (replicate (length (m .sequences)) sequenceAbsent)
+noSequences m = withSequences (noWindows m) (replicate (length (m .sequences)) noSequence)
 
 abbrev noStatuses : Control → Control
-noStatuses m = withStatuses (noSequences m) (replicate (length (m .statuses)) statusAbsent)
+noStatuses m = withStatuses (noSequences m) (replicate (length (m .statuses)) noStatus)
 
 abbrev noContext : Control → Control
 noContext m = withContext (noStatuses m) Context.Absent
@@ -233,7 +235,7 @@ noDatalink m = withDatalink (noInstance m) Datalink.Absent
 blank-is : (m : Control) → ControlValue m → noDatalink m ≡ blankControl
 unfolding blankControl controlStated
 blank-is m value =
-    rw (tabulate-same statusAbsent (value .statuses-long), tabulate-same sequenceAbsent (value .sequences-long), tabulate-same windowAbsent (value .windows-long))
+    rw (tabulate-same noStatus (value .statuses-long), tabulate-same noSequence (value .sequences-long), tabulate-same noWindow (value .windows-long))
 
 standing : (x : Status) → stands x ≡ true → unstatedStatus x ≡ false
 standing Status.Absent e = sym e
@@ -261,7 +263,7 @@ module _ (end : End) (id : DatalinkId) (m : Control) (value : ControlValue m) (a
     where
       go : (e : End) → primaryAllowed e (m .statuses) ≡ true → finishOf (controlSort e id) place m ≡ controlAccepted m
       go End.Ips p = rw (d, eq-eqb (id .0) (id .0) refl)
-      go End.Radio p = rw (d, standing (getD (m .statuses) 0 statusAbsent .status) p, eq-eqb (id .0) (id .0) refl)
+      go End.Radio p = rw (d, standing (getD (m .statuses) 0 noStatus .status) p, eq-eqb (id .0) (id .0) refl)
 
 -- so that number 18 is given for a control message exactly where the output is shorter
 pub control-short : (end : End) (m : Control) → ControlValue m → controlAllowed end m ≡ true → length (controlWritten m) ≤ LONGEST-DATAGRAM

@@ -23,8 +23,10 @@ use Rattle.read_option.specs.Stated.{dataStated}
 use Rattle.read_rules.specs.declared.answer.Verdict.{Verdict}
 use Rattle.read_rules.specs.Judging.{judge}
 use Rattle.read_rules.specs.Sorts.{finishOf}
-use Rattle.reader.specs.declared.answer.DataReading.{DataReading}
-use Rattle.reader.specs.Readings.{Gathered, pairs, blankData, dataUnstated, dataState, dataAccepted, dataSort, readData, packetIn, packetOf}
+use Rattle.read_data.specs.declared.DataReading.{DataReading}
+use Rattle.read_data.specs.Message.{Gathered, pairs, blankData, dataUnstated, dataState, dataAccepted, dataSort}
+use Rattle.read_data.specs.Packet.{packetIn}
+use Rattle.reader.specs.Readings.{readData, packetOf}
 use Rattle.writable.specs.Allowed.{may, datalinkAllowed, countedAllowed, channelAllowed, expirationAllowed, dataAllowed}
 use Rattle.write_option.specs.Parts.{datalinkThen, countedThen, channelThen, expirationThen}
 use Rattle.writer.specs.Written.{dataOptions, dataWritten, DATA-HEADER}

@@ -8,16 +8,16 @@ use native.Mathlib.Omega.{arith}
 use borrow.Author.Tests.{eqb-true}
 use lib.Dec.{eqb}
 use lib.ListN.{length, drop}
+use Rattle.facts.proofs.Tests.{clash}
 use Rattle.quantity.specs.declared.count.DatalinkId.{DatalinkId}
 use Rattle.wire.specs.Numbers.{Octets, bigEndian, bytesOf}
-use Rattle.wire.proofs.Numbers.{big-endian-below}
 use Rattle.wire.specs.Options.{Options, done, cut, option, bytes, optionBytes}
+use Rattle.wire.proofs.Numbers.{big-endian-below}
 use Rattle.meaning.specs.declared.message.End.{End}
 use Rattle.meaning.specs.declared.message.Plane.{Plane}
 use Rattle.meaning.specs.Kinds.{among, known, lengthListed, valueListed, mayHold}
-use Rattle.meaning.proofs.Amongst.{clash}
-use Rattle.roundtrip.specs.Values.{Word}
 use Rattle.acceptance.specs.Account.{All, Listed, speaks, the, tableOf, Accepts}
+use Rattle.roundtrip.specs.Values.{Word}
 
 pub record Held (plane : Plane) (end : End) (kind : ℕ) (content : List ℕ) : Type 0 where
   pub may-stand : among kind (mayHold plane end) ≡ true

@@ -1,6 +1,6 @@
 -- A control message that is accepted: what its options state may be written, and is a value. Assumes nothing.
-use Prim.Native.Nat.{ℕ, zero, suc, _%_, _^_}
-use mathlib.Core.Path.{_≡_, refl, ap, _∙_}
+use Prim.Native.Nat.{ℕ, _%_, _^_}
+use mathlib.Core.Path.{_≡_, refl}
 use mathlib.Core.List.{List, [], _∷_}
 use mathlib.Core.Option.{Option, none, some}
 use mathlib.Core.Bool.{Bool, true, false, cond, _&&_, true≢false}
@@ -8,6 +8,8 @@ use native.Mathlib.Omega.{arith}
 use borrow.Author.Tests.{eqb-true, lt-ltb, le-leb}
 use lib.ListN.{length, getD, drop}
 use lib.Dec.{eqb, lit<}
+use Rattle.facts.specs.Tables.{tabulate}
+use Rattle.facts.proofs.Tables.{length-tabulate, all-places, each-tabulated, getD-tabulate}
 use Rattle.quantity.specs.declared.count.DatalinkId.{DatalinkId}
 use Rattle.quantity.specs.Limits.{CHANNEL-IDS, HIGHEST-STATUS}
 use Rattle.wire.specs.Numbers.{Octets, bigEndian}
@@ -18,36 +20,13 @@ use Rattle.meaning.specs.declared.message.Plane.the-variants as planes
 use Rattle.meaning.specs.declared.message.Window.{Window}
 use Rattle.meaning.specs.declared.message.StatusCell.{StatusCell}
 use Rattle.meaning.specs.Kinds.{among, known, lengthListed, mustHold, LINK-INSTANCE, DATALINK-CONTEXT, CHANNEL-STATUS, FLOW-WINDOW, FLOW-SEQUENCE}
+use Rattle.meaning.specs.Cells.{noStatus, noSequence, noWindow}
 use Rattle.meaning.proofs.Amongst.{amongst}
-use Rattle.read_option.specs.Stated.{Table, tabulate, instanceFrom, contextFrom, statusFrom, sequenceFrom, windowFrom, controlStated}
-use Rattle.read_rules.specs.Controls.{statusAbsent, sequenceAbsent, windowAbsent}
+use Rattle.read_option.specs.Stated.{Table, instanceFrom, contextFrom, statusFrom, sequenceFrom, windowFrom, controlStated}
 use Rattle.acceptance.specs.Account.{tableOf, Filled, Accepts, controlMeaning}
-use Rattle.acceptance.proofs.Tables.{getD-tabulate}
 use Rattle.writable.specs.Allowed.{may, fitsLength, instanceAllowed, contextAllowed, statusAllowed, statusesAllowed, stands, primaryAllowed, sequenceAllowed, sequencesAllowed, windowAllowed, windowsAllowed, controlAllowed}
 use Rattle.roundtrip.specs.Values.{SequenceWord, WindowWord, ControlValue}
 use Rattle.roundtrip.proofs.Held.{Held, Holds, word-behind, table-holds}
-
--- ---- tables
-
-module _ {C : Type 0} where
-  pub length-tabulate : (size : ℕ) (f : ℕ → C) → length (tabulate size f) ≡ size
-  unfolding tabulate
-  length-tabulate zero f = refl
-  length-tabulate (suc size) f = ap suc (length-tabulate size (λ n. f (suc n)))
-
-  -- a test on a table, from one on each place
-  all-places : (all : List C → Bool) (one : C → Bool) → all [] ≡ true → ((cell : C) (cells : List C) → all (cell ∷ cells) ≡ one cell && all cells)
-      → (size : ℕ) (f : ℕ → C) → ((n : ℕ) → one (f n) ≡ true) → all (tabulate size f) ≡ true
-  unfolding tabulate
-  all-places all one empty each zero f h = empty
-  all-places all one empty each (suc size) f h = each (f 0) (tabulate size (λ n. f (suc n))) ∙ rw (h 0) (all-places all one empty each size (λ n. f (suc n)) (λ n. h (suc n)))
-
-  -- what holds of each place of a table, and of an absent one
-  each-tabulated : (P : C → Type 0) (absent : C) → P absent → (size : ℕ) (f : ℕ → C) → ((n : ℕ) → P (f n)) → (n : ℕ) → P (getD (tabulate size f) n absent)
-  unfolding tabulate
-  each-tabulated P absent p zero f h n = p
-  each-tabulated P absent p (suc size) f h zero = h 0
-  each-tabulated P absent p (suc size) f h (suc n) = each-tabulated P absent p size (λ k. f (suc k)) (λ k. h (suc k)) n
 
 -- ---- the parts of a control message, each from what an option holds
 
@@ -104,7 +83,7 @@ primary-allowed : (end : End) (τ : Table) → Filled (mustHold planes.Control e
     → primaryAllowed end (tabulate CHANNEL-IDS (λ n. record { status = statusFrom (τ CHANNEL-STATUS n) })) ≡ true
 primary-allowed End.Ips τ filled = refl
 primary-allowed End.Radio τ filled =
-    rw (getD-tabulate {A = StatusCell} CHANNEL-IDS (λ n. record { status = statusFrom (τ CHANNEL-STATUS n) }) 0 statusAbsent (lit< tt))
+    rw (getD-tabulate {A = StatusCell} CHANNEL-IDS (λ n. record { status = statusFrom (τ CHANNEL-STATUS n) }) 0 noStatus (lit< tt))
     (stated-stands (τ CHANNEL-STATUS 0) (filled .1 .0))
 
 -- ---- a control message
@@ -138,8 +117,8 @@ module _ (end : End) (id : DatalinkId) (s : List ℕ) (o : Octets s) (f : Option
     statuses-long = length-tabulate CHANNEL-IDS (λ n. record { status = statusFrom (stated CHANNEL-STATUS n) });
     sequences-long = length-tabulate CHANNEL-IDS (λ n. record { sequence = sequenceFrom (stated FLOW-SEQUENCE n) });
     windows-long = length-tabulate CHANNEL-IDS (λ n. record { window = windowFrom (stated FLOW-WINDOW n) });
-    sequence-words = each-tabulated (λ cell. SequenceWord (cell .sequence)) sequenceAbsent tt CHANNEL-IDS (λ n. record { sequence = sequenceFrom (stated FLOW-SEQUENCE n) })
+    sequence-words = each-tabulated (λ cell. SequenceWord (cell .sequence)) noSequence tt CHANNEL-IDS (λ n. record { sequence = sequenceFrom (stated FLOW-SEQUENCE n) })
         (λ n. sequence-word end (stated FLOW-SEQUENCE n) (holds FLOW-SEQUENCE n refl));
-    window-words = each-tabulated (λ cell. WindowWord (cell .window)) windowAbsent tt CHANNEL-IDS (λ n. record { window = windowFrom (stated FLOW-WINDOW n) })
+    window-words = each-tabulated (λ cell. WindowWord (cell .window)) noWindow tt CHANNEL-IDS (λ n. record { window = windowFrom (stated FLOW-WINDOW n) })
         (λ n. window-word end (stated FLOW-WINDOW n) (holds FLOW-WINDOW n refl));
   }

@@ -19,10 +19,10 @@ use Rattle.meaning.specs.declared.message.Datalink.{Datalink}
 use Rattle.meaning.specs.declared.message.Control.{Control}
 use Rattle.meaning.specs.declared.message.Data.{Data}
 use Rattle.read_rules.specs.declared.answer.Verdict.{Verdict}
-use Rattle.read_rules.specs.Controls.{controlAccepted}
+use Rattle.read_control.specs.Message.{controlAccepted}
 use Rattle.reader.specs.Readings.{readControl, readData, packetOf}
-use Rattle.writer.specs.declared.answer.WriteAnswer.{WriteAnswer}
 use Rattle.writable.specs.Allowed.{controlAllowed, dataAllowed}
+use Rattle.writer.specs.declared.answer.WriteAnswer.{WriteAnswer}
 use Rattle.writer.specs.Written.{controlWritten, dataWritten, Outcome}
 use Rattle.roundtrip.specs.Values.{ControlValue, DataValue}
 use Rattle.roundtrip.specs.Answers.{Room, refusedBy, Sent, Exact}

@@ -1,8 +1,8 @@
 -- A table of a control message, written channel by channel and read back: one proof for the three tables. Assumes nothing.
-use Prim.Native.Nat.{ℕ, zero, suc, _+_, _≤_, _<_}
-use mathlib.Core.Path.{_≡_, refl, sym, ap, _∙_}
+use Prim.Native.Nat.{ℕ, suc, _+_, _≤_, _<_}
+use mathlib.Core.Path.{_≡_, refl, _∙_}
 use mathlib.Core.List.{List, [], _∷_, _++_, append-assoc}
-use mathlib.Core.Bool.{Bool, true, false, _&&_, and-eq-true-iff}
+use mathlib.Core.Bool.{true, false}
 use native.Mathlib.Omega.{arith}
 use native.Mathlib.Numerals.{add-one}
 use borrow.Author.Tests.{lt-ltb}
@@ -16,30 +16,10 @@ use Rattle.meaning.specs.declared.message.End.{End}
 use Rattle.meaning.specs.declared.message.Plane.the-variants as planes
 use Rattle.meaning.specs.declared.message.Control.{Control}
 use Rattle.meaning.specs.Kinds.{among, known, lengthListed, valueListed, oneForEach, naming, PACKET-DATA}
-use Rattle.read_option.specs.Stated.{tabulate}
-use Rattle.read_rules.specs.Controls.{controlSort, controlUnstated, controlState}
+use Rattle.read_control.specs.Message.{controlSort, controlUnstated, controlState}
 use Rattle.writable.specs.Allowed.{may}
 use Rattle.write_option.specs.Parts.{tableThen}
 use Rattle.roundtrip.proofs.Adding.{Adds, adds-none, adds-option, adds-both}
-
--- ---- places
-
-tabulate-one : {C : Type 0} (n : ℕ) (cell : C) → tabulate n (λ place. cell) ≡ replicate n cell
-unfolding tabulate
-tabulate-one zero cell = refl
-tabulate-one (suc n) cell = ap (λ cells. cell ∷ cells) (tabulate-one n cell)
-
--- a table that says nothing; the number of its places stays a variable, so that no check writes them out
-pub tabulate-same : {C : Type 0} {n k : ℕ} (cell : C) → n ≡ k → tabulate k (λ place. cell) ≡ replicate n cell
-tabulate-same {n} cell e = ap (λ (k : ℕ). tabulate k (λ place. cell)) (sym e) ∙ tabulate-one n cell
-
--- a test on a table is one on each place, and an absent place passes it
-pub each-place : {C : Type 0} (all : List C → Bool) (one : C → Bool) (absent : C) → ((cell : C) (cells : List C) → all (cell ∷ cells) ≡ one cell && all cells)
-    → one absent ≡ true → (cells : List C) → all cells ≡ true → (n : ℕ) → one (getD cells n absent) ≡ true
-each-place all one absent each passes [] e n = passes
-each-place all one absent each passes (cell ∷ cells) e zero = and-eq-true-iff (one cell) (all cells) .0 (rw (each cell cells) at e) .0
-each-place all one absent each passes (cell ∷ cells) e (suc n) =
-    each-place all one absent each passes cells (and-eq-true-iff (one cell) (all cells) .0 (rw (each cell cells) at e) .1) n
 
 -- ---- cells
 

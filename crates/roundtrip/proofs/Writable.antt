@@ -13,10 +13,10 @@ use Rattle.wire.specs.Options.{Options}
 use Rattle.meaning.specs.declared.message.End.{End}
 use Rattle.meaning.specs.declared.message.Plane.the-variants as planes
 use Rattle.read_option.specs.Stated.{controlStated, dataStated}
-use Rattle.read_rules.specs.declared.answer.ControlReading.{ControlReading}
 use Rattle.read_rules.specs.declared.answer.Verdict.{Verdict}
-use Rattle.read_rules.specs.Controls.{controlAccepted}
-use Rattle.reader.specs.declared.answer.DataReading.{DataReading}
+use Rattle.read_control.specs.declared.ControlReading.{ControlReading}
+use Rattle.read_control.specs.Message.{controlAccepted}
+use Rattle.read_data.specs.declared.DataReading.{DataReading}
 use Rattle.reader.specs.Readings.{readControl, readData, packetOf}
 use Rattle.acceptance.specs.Account.{Accepts, controlMeaning, dataMeaning}
 use Rattle.acceptance.proofs.Control.{control-account}

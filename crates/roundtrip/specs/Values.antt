@@ -9,7 +9,7 @@ use Rattle.meaning.specs.declared.message.Expiration.{Expiration}
 use Rattle.meaning.specs.declared.message.Counted.{Counted}
 use Rattle.meaning.specs.declared.message.Control.{Control}
 use Rattle.meaning.specs.declared.message.Data.{Data}
-use Rattle.read_rules.specs.Controls.{sequenceAbsent, windowAbsent}
+use Rattle.meaning.specs.Cells.{noSequence, noWindow}
 
 -- a number of 32 bits
 abbrev pub Word : ℕ → Type 0
@@ -36,8 +36,8 @@ pub record ControlValue (m : Control) : Type 0 where
   pub statuses-long : length (m .statuses) ≡ CHANNEL-IDS
   pub sequences-long : length (m .sequences) ≡ CHANNEL-IDS
   pub windows-long : length (m .windows) ≡ CHANNEL-IDS
-  pub sequence-words : (channel : ℕ) → SequenceWord (getD (m .sequences) channel sequenceAbsent .sequence)
-  pub window-words : (channel : ℕ) → WindowWord (getD (m .windows) channel windowAbsent .window)
+  pub sequence-words : (channel : ℕ) → SequenceWord (getD (m .sequences) channel noSequence .sequence)
+  pub window-words : (channel : ℕ) → WindowWord (getD (m .windows) channel noWindow .window)
 
 pub record DataValue (m : Data) : Type 0 where
   pub sequence-word : CountedWord (m .sequence)

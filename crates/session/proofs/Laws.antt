@@ -1,31 +1,20 @@
--- What the words of a line tell of the bounds that the program needs. Assumes nothing.
-use Prim.Native.Nat.{ℕ, _≤_}
-use mathlib.Core.Bool.{Bool, true, false, cond}
+-- A line that isn't about a state is answered as its definition says. Assumes nothing.
+use mathlib.Core.Bool.{true, false}
 use mathlib.Core.List.{List}
-use mathlib.Core.Path.{_≡_}
-use native.Mathlib.Omega.{arith}
-use lib.Dec.{eqb}
-use lib.ListN.{length}
-use Rattle.text.specs.Words.{wordOf, beyondOf}
-use Rattle.text.specs.Numbers.{parseOf}
-use Rattle.text.specs.declared.Number.{Number}
-use Rattle.text.specs.declared.Hexed.{Hexed}
-use Rattle.text.proofs.Bounds.{parse-most}
-use Rattle.wording.specs.declared.OfferWords.{OfferWords}
-use Rattle.wording.specs.Wording.{onlyOf, BytesSaid, OfferSays}
+use mathlib.Core.Path.{_≡_, sym, ap, _∙_}
+use Prim.Native.Nat.{ℕ}
+use lib.ListN.{length, take}
+use Rattle.facts.proofs.Tests.{clash}
+use Rattle.message_words.specs.Saying.{Says}
+use Rattle.session_read.specs.declared.line.Line.{Line}
+use Rattle.session_read.specs.Lines.{Asks}
+use Rattle.session_print.specs.Messages.{messageTexts, aboutState}
+use Rattle.session_print.proofs.Lines.{answers-line}
+use Rattle.session.specs.Answers.{Answers}
 
--- a number as the last word is at most the bound
-pub only-below : (most : ℕ) (rest : List ℕ) {n : ℕ} → onlyOf most rest ≡ Number.Value n → n ≤ most
-unfolding onlyOf
-only-below most rest {n} e = go (eqb (length (beyondOf rest)) 0) e
-  where
-    go : (t : Bool) → cond t (parseOf most (wordOf rest)) Number.Bad ≡ Number.Value n → n ≤ most
-    go true p = parse-most most (wordOf rest) p
-    go false p = let z : _≡_ {A = ℕ} 0 1 = cc in absurd (omega arith)
+module _ {lent line : List ℕ} {r : Line} {lent′ : List ℕ} (k : Asks lent line r lent′) (most : ℕ) {out : List ℕ} {count : ℕ} {out′ : List ℕ} where
+  pub answers-state : aboutState (r .asked) ≡ true → Answers (length lent) most line out count out′
+  answers-state e = record { message = λ h. let other = sym e ∙ ap aboutState (k .asked) ∙ h in clash (cc) }
 
--- the bytes that a word stands for lie within the lent memory
-pub bytes-within : {lent rest lent′ : List ℕ} {r : Hexed} {n : ℕ} → BytesSaid lent rest r lent′ → r ≡ Hexed.Long n → n ≤ length lent′
-bytes-within h e = rw e at (h .within)
-
-pub offer-within : {lent rest lent′ : List ℕ} {r : OfferWords} {channel time expiry n : ℕ} → OfferSays lent rest r lent′ → r ≡ OfferWords.Said channel time expiry n → n ≤ length lent′
-offer-within h e = rw e at (h .within)
+  pub answers-message : {datagram : List ℕ} → datagram ≡ take (r .bytes) lent′ → Says out 0 (messageTexts most datagram (r .asked)) count out′ → Answers (length lent) most line out count out′
+  answers-message e h = record { message = λ z. answers-line k most e h }

@@ -1,38 +1,31 @@
-// The session script: reads a line, writes its answer, and never stops early.
+// The session script: reads a line, writes its answer, and never stops early. A command is a row of `session_read`'s table and a call here.
+ghost use mathlib.Core.Path.{_≡_};
 ghost use Prim.Native.Nat.{_≤_};
-use endpoint::call;
-use endpoint::queries;
-use endpoint::radio;
-use endpoint::start;
-use ips_channel::state::Channel;
+ghost use lib.ListN.{length, take};
+ghost use Rattle.session.specs.Answers.{Answers};
+use endpoint::ByteCount;
+use endpoint::Channel;
+use endpoint::Refusal;
+use endpoint::State;
 use ips_state::state;
-use ips_state::state::State;
 use ips_state::survey;
 use libc::STDOUT_FILENO;
 use lines::Found;
-use quantity::count::ByteCount;
+use quantity::limit::LONGEST_DATAGRAM;
 use quantity::limit::MOST_CHANNELS;
 use quantity::refusal;
-use quantity::refusal::Refusal;
-use text::Hexed;
-use text::Number;
-use text::head;
-use text::tail;
-use wording::NextWords;
-use wording::OfferWords;
-use wording::is;
-use wording::only;
+use session_print::about_state;
+use session_read::Asked;
+use session_read::Command;
+use session_read::StartWords;
 
-// "A line may be 140,000 bytes long."
-const LONGEST_LINE: usize = 140000;
-
-// It stands in the buffer with its newline.
+// The longest line of 140,000 bytes stands in the buffer with its newline.
 const ROOM: usize = 140001;
 
 // The longest answer is a store of 65,536 bytes in hexadecimal, with a word before it.
 const ANSWER: usize = 140000;
 
-// The bytes that a line says have half its length at most; the message that is written for it stands there too, and is no longer.
+// The bytes that a line says have half its length at most.
 const LENT: usize = 70000;
 
 // All stores that the endpoint takes.
@@ -68,7 +61,9 @@ fn nothing() -> Held {
     }
 }
 
-fn kept(held: Held, count: usize) -> Turn {
+fn kept(held: Held, count: usize) -> Turn
+    ensures { λ r. ⌜ r .count ≡ count ⌝ }
+{
     Turn { held, count }
 }
 
@@ -84,21 +79,14 @@ fn changed(held: Held, state: State, count: usize) -> Turn {
     }
 }
 
-fn bad_line(held: Held, out: &mut [u8]) -> Turn {
-    kept(held, text::put(out, 0, b"bad line"))
-}
-
-fn start_line(held: Held, memory: &mut [u8], rest: &[u8], out: &mut [u8]) -> Turn {
-    let words = starting::start_words(rest);
-    if !words.said {
-        return bad_line(held, out);
-    }
+// `start ..`
+fn start_line(held: Held, memory: &mut [u8], words: StartWords, out: &mut [u8]) -> Turn {
     let size = least(words.size, memory.len());
     let configuration = words.configuration;
-    let begun = start::start(configuration, &mut memory[0..size]);
+    let begun = endpoint::start(configuration, &mut memory[0..size]);
     let answer = begun.answer;
     let state = begun.state;
-    let count = saying::started(out, 0, answer);
+    let count = session_print::started(out, 0, answer);
     if state.count == 0 {
         return kept(held, count);
     }
@@ -112,82 +100,69 @@ fn start_line(held: Held, memory: &mut [u8], rest: &[u8], out: &mut [u8]) -> Tur
     }
 }
 
-fn offer_packet(
+// `offer CHANNEL NOW EXPIRY HEX`
+fn offer_line(
     held: Held,
     memory: &mut [u8],
     id: u8,
-    packet: &[u8],
-    expiry: u64,
     time: u64,
+    expiry: u64,
+    packet: &[u8],
     out: &mut [u8],
 ) -> Turn {
     let state = held.state;
-    let offered = call::offer(state, memory, id, packet, expiry, time);
+    let offered = endpoint::offer(state, memory, id, packet, expiry, time);
     let answer = offered.answer;
     let after = offered.state;
-    changed(held, after, saying::offered(out, 0, answer))
+    changed(held, after, session_print::offered(out, 0, answer))
 }
 
-// `offer CHANNEL NOW EXPIRY HEX`
-fn offer_line(held: Held, memory: &mut [u8], rest: &[u8], lent: &mut [u8], out: &mut [u8]) -> Turn {
-    let OfferWords::Said(id, time, expiry, n) = wording::offer_words(rest, lent) else {
-        return bad_line(held, out);
-    };
-    offer_packet(held, memory, id, &lent[0..n], expiry, time, out)
-}
-
+// `next CHANNEL NOW ROOM`
 fn next_line(
     held: Held,
     memory: &mut [u8],
-    rest: &[u8],
+    id: u8,
+    time: u64,
+    room: usize,
     output: &mut [u8],
     out: &mut [u8],
 ) -> Turn {
-    let NextWords::Said(id, time, room) = wording::next_words(rest) else {
-        return bad_line(held, out);
-    };
     let state = held.state;
     let size = least(room, output.len());
-    let asked = call::next(state, memory, id, time, &mut output[0..size]);
+    let asked = endpoint::next(state, memory, id, time, &mut output[0..size]);
     let answer = asked.answer;
     let after = asked.state;
-    changed(held, after, saying::asked(out, 0, answer, output))
+    changed(held, after, session_print::asked(out, 0, answer, output))
 }
 
-fn withdraw_line(held: Held, memory: &mut [u8], rest: &[u8], out: &mut [u8]) -> Turn {
-    let Number::Value(id) = only(rest, wording::HIGHEST_ID) else {
-        return bad_line(held, out);
-    };
+// `withdraw CHANNEL`
+fn withdraw_line(held: Held, memory: &mut [u8], id: u8, out: &mut [u8]) -> Turn {
     let state = held.state;
-    let emptied = call::withdraw(state, memory, id as u8);
+    let emptied = endpoint::withdraw(state, memory, id);
     let answer = emptied.answer;
     let after = emptied.state;
-    changed(held, after, saying::emptied(out, 0, answer))
+    changed(held, after, session_print::emptied(out, 0, answer))
 }
 
-fn radio_line(held: Held, rest: &[u8], lent: &mut [u8], out: &mut [u8]) -> Turn {
-    let Hexed::Long(n) = wording::bytes_only(rest, lent) else {
-        return bad_line(held, out);
-    };
+// `radio HEX`
+fn radio_line(held: Held, datagram: &[u8], out: &mut [u8]) -> Turn {
     let state = held.state;
-    let heard = radio::hand_in(state, &lent[0..n]);
+    let heard = endpoint::hand_in(state, datagram);
     let answer = heard.answer;
     let after = heard.state;
-    changed(held, after, saying::heard(out, 0, answer))
+    changed(held, after, session_print::heard(out, 0, answer))
 }
 
-fn query_line(held: Held, rest: &[u8], output: &mut [u8], out: &mut [u8]) -> Turn {
-    let Number::Value(room) = only(rest, wording::MOST_ROOM) else {
-        return bad_line(held, out);
-    };
+// `query ROOM`
+fn query_line(held: Held, room: usize, output: &mut [u8], out: &mut [u8]) -> Turn {
     let state = held.state;
-    let size = least(room as usize, output.len());
-    let answer = queries::ask(state, &mut output[0..size]);
-    kept(held, saying::queried(out, 0, answer, output))
+    let size = least(room, output.len());
+    let answer = endpoint::query(state, &mut output[0..size]);
+    kept(held, session_print::queried(out, 0, answer, output))
 }
 
 fn unknown_channel(out: &mut [u8]) -> usize {
-    phrase::whole::refused(
+    message_words::whole::refused(
         out,
         0,
         Refusal {
@@ -199,19 +174,16 @@ fn unknown_channel(out: &mut [u8]) -> usize {
 
 // Every byte of a channel's store, which starts there in the memory.
 fn stored(channel: Channel, memory: &[u8], start: ByteCount, out: &mut [u8]) -> usize {
-    let size = channel.size;
+    let size = channel.setting.size;
     let from = least(start.0, memory.len());
     let long = least(size.0, memory.len() - from);
-    saying::held(out, 0, &memory[from..from + long])
+    session_print::held(out, 0, &memory[from..from + long])
 }
 
 // `show CHANNEL`, or `store CHANNEL`
-fn show_line(held: Held, memory: &[u8], rest: &[u8], whole: bool, out: &mut [u8]) -> Turn {
-    let Number::Value(id) = only(rest, wording::HIGHEST_ID) else {
-        return bad_line(held, out);
-    };
+fn show_line(held: Held, memory: &[u8], id: u8, whole: bool, out: &mut [u8]) -> Turn {
     let state = held.state;
-    let found = survey::look(state, id as u8);
+    let found = survey::survey_state(state, id);
     let index = found.index;
     if index >= state.count || index >= MOST_CHANNELS {
         return kept(held, unknown_channel(out));
@@ -220,85 +192,98 @@ fn show_line(held: Held, memory: &[u8], rest: &[u8], whole: bool, out: &mut [u8]
     if whole {
         return kept(held, stored(channel, memory, found.start, out));
     }
-    kept(held, saying::channel(out, 0, channel))
-}
-
-// What a line is about, by its first word.
-enum Asked {
-    Offer,
-    Next,
-    Withdraw,
-    Radio,
-    Query,
-    Show,
-    Store,
-    Message,
-}
-
-fn asked_by(name: &[u8]) -> Asked {
-    if is(name, b"offer") {
-        return Asked::Offer;
-    }
-    if is(name, b"next") {
-        return Asked::Next;
-    }
-    if is(name, b"withdraw") {
-        return Asked::Withdraw;
-    }
-    if is(name, b"radio") {
-        return Asked::Radio;
-    }
-    if is(name, b"query") {
-        return Asked::Query;
-    }
-    if is(name, b"show") {
-        return Asked::Show;
-    }
-    if is(name, b"store") {
-        return Asked::Store;
-    }
-    Asked::Message
+    kept(held, session_print::channel(out, 0, channel))
 }
 
 // A line about a state that was started, on the memory that is lent with it.
-fn serve_line(held: Held, memory: &mut [u8], line: &[u8], lent: &mut [u8], out: &mut [u8]) -> Turn {
-    let rest = tail(line);
-    match asked_by(head(line)) {
-        Asked::Offer => offer_line(held, memory, rest, lent, out),
-        Asked::Next => next_line(held, memory, rest, lent, out),
-        Asked::Withdraw => withdraw_line(held, memory, rest, out),
-        Asked::Radio => radio_line(held, rest, lent, out),
-        Asked::Query => query_line(held, rest, lent, out),
-        Asked::Show => show_line(held, memory, rest, false, out),
-        Asked::Store => show_line(held, memory, rest, true, out),
-        Asked::Message => kept(held, script::answer(line, out)),
+fn command_line(
+    held: Held,
+    memory: &mut [u8],
+    command: Command,
+    bytes: &[u8],
+    output: &mut [u8],
+    out: &mut [u8],
+) -> Turn {
+    match command {
+        Command::Offer(id, time, expiry) => offer_line(held, memory, id, time, expiry, bytes, out),
+        Command::Next(id, time, room) => next_line(held, memory, id, time, room, output, out),
+        Command::Withdraw(id) => withdraw_line(held, memory, id, out),
+        Command::Radio => radio_line(held, bytes, out),
+        Command::Query(room) => query_line(held, room, output, out),
+        Command::Show(id) => show_line(held, memory, id, false, out),
+        Command::Store(id) => show_line(held, memory, id, true, out),
     }
 }
 
-// Any line: about messages, a start, or about the state that is held.
+// A start, or a line about the state that is held.
+fn state_line(
+    held: Held,
+    memory: &mut [u8],
+    asked: Asked,
+    words: StartWords,
+    bytes: &[u8],
+    output: &mut [u8],
+    out: &mut [u8],
+) -> Turn {
+    let Asked::State(command) = asked else {
+        return start_line(held, memory, words, out);
+    };
+    if !held.started {
+        return kept(held, session_print::bad_line(out));
+    }
+    let size = least(held.size, memory.len());
+    command_line(held, &mut memory[0..size], command, bytes, output, out)
+}
+
+// The first bytes of a lent memory.
+fn first(lent: &[u8], count: usize) -> &[u8]
+    requires { ⌜ count ≤ length (now lent) ⌝ }
+    ensures { λ r. ⌜ now r ≡ take count (now (lent .entry)) ⌝ }
+{
+    &lent[0..count]
+}
+
+// Any line. One that isn't about a state is answered as its definition says.
 fn answer_line(
     held: Held,
     memory: &mut [u8],
     line: &[u8],
     lent: &mut [u8],
+    output: &mut [u8],
     out: &mut [u8],
-) -> Turn {
-    if line.len() > LONGEST_LINE {
-        return bad_line(held, out);
+) -> Turn
+    ensures { λ r. ⌜ Answers (length (now (lent .entry))) (length (now (output .entry))) (now (line .entry)) (now (out .entry)) (r .count) (now (out .exit)) ⌝ }
+{
+    let said = session_read::read(line, lent);
+    let asked = said.asked;
+    let words = said.start;
+    if about_state(asked) {
+        return state_line(
+            held,
+            memory,
+            asked,
+            words,
+            first(lent, said.bytes),
+            output,
+            out,
+        );
     }
-    if is(head(line), b"start") {
-        return start_line(held, memory, tail(line), out);
-    }
-    if !held.started {
-        return kept(held, script::answer(line, out));
-    }
-    let size = least(held.size, memory.len());
-    serve_line(held, &mut memory[0..size], line, lent, out)
+    kept(
+        held,
+        session_print::message(asked, first(lent, said.bytes), output, out),
+    )
 }
 
 // Prints the answer to a line.
-fn say(held: Held, memory: &mut [u8], line: &[u8], lent: &mut [u8], out: &mut [u8]) -> Held {
-    let turn = answer_line(held, memory, line, lent, out);
+fn say(
+    held: Held,
+    memory: &mut [u8],
+    line: &[u8],
+    lent: &mut [u8],
+    output: &mut [u8],
+    out: &mut [u8],
+) -> Held {
+    let turn = answer_line(held, memory, line, lent, output, out);
     let end = text::put(out, turn.count, b"\n");
     if end <= out.len() {
         io::write_all(STDOUT_FILENO, &out[0..end]);
@@ -307,7 +292,7 @@ fn say(held: Held, memory: &mut [u8], line: &[u8], lent: &mut [u8], out: &mut [u
 }
 
 // Answers line after line. Nothing says that an input ends, so the turns are counted.
-fn serve(buffer: &mut [u8], memory: &mut [u8], lent: &mut [u8], out: &mut [u8]) {
+fn serve(buffer: &mut [u8], memory: &mut [u8], lent: &mut [u8], output: &mut [u8], out: &mut [u8]) {
     let mut held = nothing();
     let mut input = lines::start();
     let mut turns = u64::MAX;
@@ -317,11 +302,11 @@ fn serve(buffer: &mut [u8], memory: &mut [u8], lent: &mut [u8], out: &mut [u8]) 
             Found::More => input = lines::fill(buffer, input),
             Found::End => return,
             Found::Line { from, to, rest } => {
-                held = say(held, memory, &buffer[from..to], lent, out);
+                held = say(held, memory, &buffer[from..to], lent, output, out);
                 input = rest;
             }
             Found::Over(rest) => {
-                held = say(held, memory, b"", lent, out);
+                held = say(held, memory, b"", lent, output, out);
                 input = rest;
             }
         }
@@ -333,15 +318,17 @@ fn hold(
     buffer: &mut [u8; ROOM],
     memory: &mut [u8; MEMORY],
     lent: &mut [u8; LENT],
+    output: &mut [u8; LONGEST_DATAGRAM],
     out: &mut [u8; ANSWER],
 ) {
-    serve(buffer, memory, lent, out);
+    serve(buffer, memory, lent, output, out);
 }
 
 fn main() {
     let mut buffer = [0u8; ROOM];
     let mut memory = [0u8; MEMORY];
     let mut lent = [0u8; LENT];
+    let mut output = [0u8; LONGEST_DATAGRAM];
     let mut out = [0u8; ANSWER];
-    hold(&mut buffer, &mut memory, &mut lent, &mut out);
+    hold(&mut buffer, &mut memory, &mut lent, &mut output, &mut out);
 }

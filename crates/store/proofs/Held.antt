@@ -1,5 +1,5 @@
 -- A queue and a store that hold packets: what the crates above cite. Assumes nothing.
-use mathlib.Core.Bool.{Bool, true, false, _&&_, _||_}
+use mathlib.Core.Bool.{Bool, true, false, _&&_, and-eq-true-iff}
 use mathlib.Core.Path.{_≡_, refl, sym, ap, ap₂, _∙_}
 use mathlib.Core.List.{List, [], _∷_, _++_, map, tail, append-assoc, append-nil}
 use Prim.Native.Nat.{ℕ, zero, suc, _+_, _-_, _<_, _≤_}
@@ -9,6 +9,7 @@ use borrow.Author.Tests.{leb-true, leb-false, ltb-false, le-leb}
 use lib.Dec.{leb, ltb}
 use lib.ListN.{length, take, drop, replicate, length-append, length-replicate, length-map}
 use lib.Seq.{take-append-seam, drop-append-seam, take-nil, take-take}
+use Rattle.facts.proofs.Tests.{neither}
 use Rattle.quantity.specs.Limits.{MOST-WAITING}
 use Rattle.store.specs.declared.queue.Entry.{Entry}
 use Rattle.store.specs.declared.queue.Queue.{Queue}
@@ -17,9 +18,9 @@ use Rattle.store.specs.Packets.{Packet, alive, joined, firstBytes, isFul
 use Rattle.store.specs.Waiting.{waiting, total, cut, packetsOf, noEntry, listed, entryOf, queueOf, storeOf, Holds, Sound, within, allWithin, wellFormed, Offering}
 use Rattle.store.specs.Parts.{kept, amountOf}
 use Rattle.store.proofs.Lasting.{lasting-ind, lasting-fewer, lasting-again, lasting-map}
-use Rattle.store.proofs.Entries.{waiting-few, both, within-limits, total-kept, total-of, entries-cut, entries-alive}
+use Rattle.store.proofs.Entries.{waiting-few, within-limits, total-kept, total-of, entries-cut, entries-alive}
 
--- ---- packets that a queue and a store of so many bytes may hold
+-- ---- packets that a queue and a store of a size may hold
 pub record Fit (size : ℕ) (ps : List Packet) : Type 0 where
   pub few : length ps ≤ MOST-WAITING
   pub room : length (joined ps) ≤ size
@@ -74,8 +75,8 @@ module _ (q : Queue) (size : ℕ) (e : wellFormed q size ≡ true) where
   well-parts : (q .count ≤ MOST-WAITING) × (allWithin (waiting q) ≡ true) × (total (waiting q) ≤ size)
   unfolding wellFormed
   well-parts =
-      let x = both (leb (q .count) MOST-WAITING && allWithin (waiting q)) (leb (total (waiting q)) size) e in
-      let y = both (leb (q .count) MOST-WAITING) (allWithin (waiting q)) (x .0) in
+      let x = and-eq-true-iff (leb (q .count) MOST-WAITING && allWithin (waiting q)) (leb (total (waiting q)) size) .0 e in
+      let y = and-eq-true-iff (leb (q .count) MOST-WAITING) (allWithin (waiting q)) .0 (x .0) in
       (leb-true (q .count) MOST-WAITING (y .0), y .1, leb-true (total (waiting q)) size (x .1))
 
   pub well-sound : (s : List ℕ) → length s ≡ size → Sound q s
@@ -100,8 +101,8 @@ within-kept : (t : ℕ) (es : List Entry) → allWithin es ≡ true → allWithi
 unfolding allWithin
 within-kept =
     lasting-ind (λ (e : Entry). e .expiry) (λ ys xs. allWithin xs ≡ true → allWithin ys ≡ true) (λ h. h)
-    (λ e ys xs f h. let k = both (within (e .length .0)) (allWithin xs) h in rw (k .0) (f (k .1)))
-    (λ e ys xs f h. f (both (within (e .length .0)) (allWithin xs) h .1))
+    (λ e ys xs f h. let k = and-eq-true-iff (within (e .length .0)) (allWithin xs) .0 h in rw (k .0) (f (k .1)))
+    (λ e ys xs f h. f (and-eq-true-iff (within (e .length .0)) (allWithin xs) .0 h .1))
 
 pub fit-alive : (size t : ℕ) (ps : List Packet) → Fit size ps → Fit size (alive t ps)
 unfolding entryOf
@@ -119,7 +120,7 @@ fit-tail size [] f = f
 fit-tail size (p ∷ ps) f = record {
   few = omega (arith, f .few);
   room = omega (arith, f .room, length-append (p .bytes) (joined ps));
-  sizes = both (within (length (p .bytes))) (allWithin (map entryOf ps)) (f .sizes) .1;
+  sizes = and-eq-true-iff (within (length (p .bytes))) (allWithin (map entryOf ps)) .0 (f .sizes) .1;
 }
 
 pub joined-join : (ps : List Packet) (p : Packet) → joined (ps ++ (p ∷ [])) ≡ joined ps ++ p .bytes
@@ -131,14 +132,10 @@ within-join : (ps : List Packet) (p : Packet) → allWithin (map entryOf ps) ≡
 unfolding allWithin entryOf
 within-join [] p e d = rw d
 within-join (x ∷ ps) p e d =
-    let h = both (within (length (x .bytes))) (allWithin (map entryOf ps)) e in
+    let h = and-eq-true-iff (within (length (x .bytes))) (allWithin (map entryOf ps)) .0 e in
     rw (h .0) (within-join ps p (h .1) d)
 
 -- ---- room
-neither : (a b : Bool) → (a || b) ≡ false → (a ≡ false) × (b ≡ false)
-neither true b e = ((cc), (cc))
-neither false b e = (refl, e)
-
 pub room-left : (size : ℕ) (ps : List Packet) (p : Packet) → isFull size ps p ≡ false → (length ps < MOST-WAITING) × (length (joined ps) + length (p .bytes) ≤ size)
 unfolding isFull
 room-left size ps p e =
@@ -158,7 +155,7 @@ alive-again = lasting-again (λ (p : Packet). p .expiry)
 
 pub fit-first : (size : ℕ) (p : Packet) (ps : List Packet) → Fit size (p ∷ ps) → within (length (p .bytes)) ≡ true
 unfolding allWithin entryOf
-fit-first size p ps f = both (within (length (p .bytes))) (allWithin (map entryOf ps)) (f .sizes) .0
+fit-first size p ps f = and-eq-true-iff (within (length (p .bytes))) (allWithin (map entryOf ps)) .0 (f .sizes) .0
 
 -- a packet that waits is not empty, so no bytes mean that none waits
 pub first-none : (size : ℕ) (ps : List Packet) → Fit size ps → length (firstBytes ps) ≡ 0 → ps ≡ []

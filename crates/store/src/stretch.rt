@@ -5,7 +5,7 @@ ghost use lib.ListN.{length, drop, replicate};
 ghost use Rattle.store.specs.Parts.{pasted};
 use quantity::count::ByteCount;
 
-// Moves so many bytes down. The two stretches may overlap; where they are one, no byte is rewritten.
+// Moves bytes down. The two stretches may overlap; where they are one, no byte is rewritten.
 pub(crate) fn move_down(store: &mut [u8], from: usize, to: usize, bytes: ByteCount)
     requires { ⌜ (to ≤ from) × (from + bytes .0 ≤ length (now store)) ⌝ }
     ensures { λ _. ⌜ now (store .exit) ≡ pasted (now (store .entry)) to (drop from (now (store .entry))) (bytes .0) ⌝ }

@@ -89,7 +89,7 @@ pub fn clear(store: &mut [u8]) -> Queue
     queue::empty()
 }
 
-// Whether there is no room for so many bytes more.
+// Whether there is no room for one packet more, or none for its bytes.
 fn is_full(amount: Amount, bytes: ByteCount, size: ByteCount) -> bool
     requires { ⌜ amount .bytes .0 + bytes .0 < 2 ^ 64 ⌝ }
     ensures { λ r. ⌜ r ≡ full (amount .packets) (amount .bytes .0) (bytes .0) (size .0) ⌝ }

@@ -1,5 +1,5 @@
 -- What a caller learns of a number that was read. Assumes nothing.
-use mathlib.Core.Bool.{Bool, true, false, not, cond, _&&_}
+use mathlib.Core.Bool.{Bool, true, false, not, cond, _&&_, and-eq-true-iff}
 use mathlib.Core.Path.{_≡_, refl, sym, ap, _∙_}
 use mathlib.Core.List.{List, [], _∷_}
 use Prim.Native.Nat.{ℕ, suc, _+_, _-_, _*_, _^_, _≤_, _<_}
@@ -9,22 +9,15 @@ use native.Mathlib.Omega.{arith}
 use borrow.Author.Tests.{ltb-true, leb-true, eqb-false, not-true}
 use lib.Dec.{ltb, leb, eqb}
 use lib.ListN.{length}
+use Rattle.facts.proofs.Tests.{clash}
 use Rattle.text.specs.declared.Number.{Number}
 use Rattle.text.specs.declared.Number.the-variants.{Bad, Value}
 use Rattle.text.specs.Numbers.{within, digitOf, stepOf, andThen, followOf, bySize, plainOf, parseOf}
-
--- two answers that can't be one
-pub clash : {A : Type 0} → _≡_ {A = ℕ} 0 1 → A
-clash z = absurd (omega arith)
 
 -- a test that lets a number through was passed
 passed : (t : Bool) (n : Number) {read : ℕ} → cond t n Bad ≡ Value read → (t ≡ true) × (n ≡ Value read)
 passed true n e = (refl, e)
 passed false n e = ((cc), (cc))
-
-both : (t u : Bool) → (t && u) ≡ true → (t ≡ true) × (u ≡ true)
-both true u e = (refl, e)
-both false u e = ((cc), (cc))
 
 -- a digit that was read
 record Stepped (base most value byte longer : ℕ) : Type 0 where
@@ -37,7 +30,7 @@ unfolding stepOf
 stepped base most value byte {longer} e =
     let sum : ℕ = value * base + digitOf byte in
     let p = passed (ltb (digitOf byte) base && leb sum most) (Value sum) e in
-    let q = both (ltb (digitOf byte) base) (leb sum most) (p .0) in
+    let q = and-eq-true-iff (ltb (digitOf byte) base) (leb sum most) .0 (p .0) in
     let same : longer ≡ sum = cc (p .1) in
     record { digit = ltb-true (digitOf byte) base (q .0); same = same; bound = omega (arith, leb-true sum most (q .1)) }
 
@@ -83,7 +76,7 @@ module _ (most : ℕ) (word : List ℕ) {read : ℕ} (e : parseOf most word ≡ 
 -- a byte other than `0` is no digit 0
 digit-more : (byte : ℕ) → (byte ≡ 48 → ⊥) → 0 < digitOf byte
 unfolding digitOf
-digit-more byte h = go (within 48 57 byte) (within 97 102 byte) (λ q. leb-true 48 byte (both (leb 48 byte) (leb byte 57) q .0))
+digit-more byte h = go (within 48 57 byte) (within 97 102 byte) (λ q. leb-true 48 byte (and-eq-true-iff (leb 48 byte) (leb byte 57) .0 q .0))
   where
     go : (t u : Bool) → (t ≡ true → 48 ≤ byte) → 0 < cond t (byte - 48) (cond u (byte - 97 + 10) 16)
     go true u f = omega (arith, f refl)

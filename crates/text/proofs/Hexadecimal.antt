@@ -10,6 +10,7 @@ use borrow.Author.Tests.{le-leb, lt-leb, leb-true, eqb-true}
 use lib.Dec.{leb}
 use lib.ListN.{length, getD, take, drop, set, length-drop, length-set}
 use lib.Seq.{getD-drop, drop-drop, paste, paste-zero, paste-suc, take-suc, take-all, take-at, take-length, length-take-le}
+use Rattle.facts.proofs.Tests.{clash}
 use Rattle.io.specs.Digits.{digits, Fewest}
 use Rattle.text.specs.declared.Number.{Number}
 use Rattle.text.specs.declared.Number.the-variants.{Bad, Value}
@@ -18,7 +19,7 @@ use Rattle.text.specs.Numbers.{bySize}
 use Rattle.text.specs.Laying.{laid, Lays}
 use Rattle.text.specs.Strings.{byteOf, before, pairAt, pairsOf, readableOf, hexedOf, unhexed, pairsText, bytesText}
 use Rattle.text.proofs.Decimals.{fewest-most}
-use Rattle.text.proofs.Bounds.{clash, follow-most}
+use Rattle.text.proofs.Bounds.{follow-most}
 use Rattle.text.proofs.Reading.{next}
 use Rattle.text.proofs.Writing.{laid-in, lays-none, lays-as, lays-empty, lays-on}
 

@@ -9,6 +9,7 @@ use native.Mathlib.Omega.{arith}
 use borrow.Author.Tests.{lt-ltb, le-ltb, eq-eqb, ne-eqb}
 use lib.IntN.{ℤ, pos, negsuc, natAbs}
 use lib.ListN.{length, getD, drop, List·getD-append}
+use Rattle.facts.proofs.Tests.{clash}
 use Rattle.io.specs.Digits.{digits, glyph, Fewest}
 use Rattle.text.specs.declared.Number.{Number}
 use Rattle.text.specs.declared.Number.the-variants.{Bad, Value}
@@ -16,7 +17,6 @@ use Rattle.text.specs.declared.Hexed.the-variants as hexed
 use Rattle.text.specs.Laying.{laid, decimalText, signedText}
 use Rattle.text.specs.Numbers.{digitOf, stepOf, andThen, followOf, plainOf, parseOf}
 use Rattle.text.specs.Strings.{before, pairsOf, readableOf, hexedOf, unhexed, pairsText, bytesText}
-use Rattle.text.proofs.Bounds.{clash}
 use Rattle.text.proofs.Decimals.{length-digits, decimal-written}
 use Rattle.text.proofs.Hexadecimal.{pairs-length, unhex-good}
 use Rattle.text.proofs.Reading.{digit-decimal, digit-letter, step-on, size-one, size-more}

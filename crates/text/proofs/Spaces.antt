@@ -5,12 +5,9 @@ use Prim.Native.Nat.{ℕ, _+_, _-_}
 use native.Mathlib.Omega.{arith}
 use lib.ListN.{length, take, drop, length-append, length-drop, take-append-drop}
 use lib.Seq.{take-all, take-length}
+use Rattle.facts.proofs.Lists.{rest-part}
 use Rattle.bytes.specs.Bytes.{indexOf, slice}
 use Rattle.text.specs.Words.{headOf, tailOf}
-
--- a part that goes to the end is the rest
-pub rest-is : (s : List ℕ) (n : ℕ) → take (length s - n) (drop n s) ≡ drop n s
-rest-is s n = take-all (length s - n) (drop n s) (simp length-drop (omega arith))
 
 pub none-is : (s : List ℕ) → length s ≡ 0 → _≡_ {A = List ℕ} [] (drop 1 s)
 none-is [] h = refl
@@ -28,7 +25,7 @@ module _ (line : List ℕ) (end : ℕ) (found : end ≡ 0 + indexOf 32 (slice 0 
 
   pub tail-is : take (length line - end) (drop end line) ≡ tailOf line
   unfolding tailOf
-  tail-is = rest-is line end ∙ ap (λ (n : ℕ). drop n line) space-is
+  tail-is = rest-part end line ∙ ap (λ (n : ℕ). drop n line) space-is
 
 -- the two parts are the whole
 pub parts-length : (line : List ℕ) → length (headOf line) + length (tailOf line) ≡ length line

@@ -8,8 +8,8 @@ use borrow.Author.Tests.{le-leb, lt-leb}
 use borrow.Rule.Slice.PartMut.{midOf, putMid}
 use lib.ListN.{length, take, drop, length-append, length-drop, take-append-drop}
 use lib.Seq.{length-take-le, take-length, take-at, drop-drop, drop-append-add, drop-length}
+use Rattle.facts.proofs.Lists.{rest-part}
 use Rattle.text.specs.Laying.{laid, behind, Lays, Wrote}
-use Rattle.text.proofs.Spaces.{rest-is}
 
 -- ---- a text with room, and one without
 
@@ -53,7 +53,7 @@ lays-copy out at text n part room e h = record {
 }
   where
     same : part ≡ text ++ drop (at + length text) out
-    same = h ∙ rw (take-length text, rest-is out at) (ap (λ (l : List ℕ). text ++ l) (drop-drop (length text) at out))
+    same = h ∙ rw (take-length text, rest-part at out) (ap (λ (l : List ℕ). text ++ l) (drop-drop (length text) at out))
 
     none : drop (length out - at) (drop at out) ≡ []
     none = rw (sym (length-drop at out)) (drop-length (drop at out))

@@ -6,7 +6,7 @@ use mathlib.Core.Bool.{Bool, true, false, cond}
 use native.Mathlib.Omega.{arith}
 use borrow.Author.Tests.{lt-ltb, le-ltb, eq-eqb, ne-eqb, eqb-true, ltb-false}
 use lib.Dec.{ltb, eqb}
-use lib.ListN.{length, getD, take, drop, set, length-append, length-drop, length-take, take-append-drop}
+use lib.ListN.{length, getD, take, drop, set, length-append, length-drop, length-take, take-append-drop, drop-of-length-le}
 use lib.Seq.{length-take-le, take-length, drop-length, take-at, drop-at, drop-drop, drop-cons}
 use Rattle.wire.specs.declared.option.Frame.{Frame}
 use Rattle.wire.specs.declared.option.Frame.the-variants.{Cut, Whole}
@@ -59,10 +59,6 @@ frame-tells xs kind size e = go (ltb (length xs) 3) refl (ltb (length xs - 3) (l
         record { kind-is = cc; size-is = sym n; inside = omega arith }
 
 -- ---- a body, option by option
-
-nil-of : {A : Type 0} (xs : List A) → length xs ≡ 0 → xs ≡ []
-nil-of [] e = refl
-nil-of (x ∷ xs) e = absurd (omega arith)
 
 -- two ways to cut what is shorter that agree there
 same-first : (xs : List ℕ) (f g : List ℕ → Options) → ((ys : List ℕ) → length ys < length xs → f ys ≡ g ys) → splitFirst (frameOf xs) xs f ≡ splitFirst (frameOf xs) xs g
@@ -172,7 +168,7 @@ Shorter k xs = (ys : List ℕ) → length ys < length xs → Octets ys → bytes
 
 bytes-with : (k : ℕ) (xs : List ℕ) → length xs ≤ k → Octets xs → bytes (splitWith k xs) ≡ xs
 unfolding splitWith bytes
-bytes-with zero xs h o = sym (nil-of xs (omega arith))
+bytes-with zero xs h o = sym (drop-of-length-le xs {i = 0} (omega arith))
 bytes-with (suc k) xs h o = each (eqb (length xs) 0) refl (λ ys l p. bytes-with k ys (omega arith) p)
   where
     go : (f : Frame) → frameOf xs ≡ f → Shorter k xs → bytes (splitFirst f xs (splitWith k)) ≡ xs
@@ -183,7 +179,7 @@ bytes-with (suc k) xs h o = each (eqb (length xs) 0) refl (λ ys l p. bytes-with
         ∙ first-bytes xs kind size o e
 
     each : (b : Bool) → eqb (length xs) 0 ≡ b → Shorter k xs → bytes (cond b done (splitFirst (frameOf xs) xs (splitWith k))) ≡ xs
-    each true e shorter = sym (nil-of xs (eqb-true (length xs) 0 e))
+    each true e shorter = sym (drop-of-length-le xs {i = 0} (omega (arith, eqb-true (length xs) 0 e)))
     each false e shorter = go (frameOf xs) refl shorter
 
 -- a body is the concatenation of its options

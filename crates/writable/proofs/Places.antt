@@ -14,7 +14,8 @@ use Rattle.meaning.specs.declared.message.StatusCell.{StatusCell}
 use Rattle.meaning.specs.declared.message.SequenceCell.{SequenceCell}
 use Rattle.meaning.specs.declared.message.WindowCell.{WindowCell}
 use Rattle.meaning.specs.declared.message.Control.{Control}
-use Rattle.meaning.proofs.Tables.{noStatus, noSequence, noWindow, Full}
+use Rattle.meaning.specs.Cells.{noStatus, noSequence, noWindow}
+use Rattle.meaning.proofs.Tables.{Full}
 use Rattle.writable.specs.Allowed.{datalinkAllowed, instanceAllowed, contextAllowed, primaryAllowed, controlAllowed, statusAllowed, sequenceAllowed, windowAllowed, statusesAllowed, sequencesAllowed, windowsAllowed}
 
 regroup : (a b c d e f : Bool) → ((a && d) && ((b && e) && (c && f))) ≡ ((a && (b && c)) && (d && (e && f)))

@@ -8,7 +8,7 @@ use meaning::message::End;
 // A Length has 16 bits.
 const LENGTHS: usize = 65536;
 
-// With a packet of so many bytes.
+// Whether a data message may be written with a packet of this size.
 pub fn may_write(end: End, message: Data, size: usize) -> bool
     ensures { λ r. ⌜ r ≡ dataAllowed end message size ⌝ }
 {

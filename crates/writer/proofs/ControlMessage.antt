@@ -4,13 +4,13 @@ use mathlib.Core.Path.{_≡_}
 use mathlib.Core.List.{List}
 use native.Mathlib.Omega.{arith}
 use lib.ListN.{length, set}
-use Rattle.wire.specs.Options.{Options, done}
+use Rattle.wire.specs.Options.{Options, done, bytes}
 use Rattle.meaning.specs.declared.message.Control.{Control}
-use Rattle.write_option.specs.declared.option.Stated.{Stated}
-use Rattle.write_option.specs.Laying.{sizeOf, statedThen, States}
 use Rattle.write_option.specs.Parts.{datalinkThen, instanceThen, contextThen, statusesThen, sequencesThen, windowsThen}
-use Rattle.write_option.proofs.Laying.{prefixing-size, states-behind, Standing, standing-header}
-use Rattle.write_option.proofs.Tables.{statuses-prefixing, sequences-prefixing}
+use Rattle.write_option.specs.Sizes.{datalinkSize, instanceSize, contextSize, statusesSize, sequencesSize, windowsSize}
+use Rattle.write_option.proofs.Laying.{part-length, Standing, standing-header}
+use Rattle.write_option.proofs.Parts.{datalink-part, instance-part, context-part}
+use Rattle.write_option.proofs.Tables.{statuses-part, sequences-part, windows-part}
 use Rattle.writer.specs.Written.{controlOptions, controlWritten, CONTROL-HEADER}
 
 -- what follows each part
@@ -32,19 +32,19 @@ behindInstance m = contextThen (m .context) (behindContext m)
 abbrev pub behindDatalink : Control → Options
 behindDatalink m = instanceThen (m .instance) (behindInstance m)
 
-pub control-length : (m : Control) {datalink instance context : Stated}
-    → States datalink (datalinkThen (m .datalink)) → States instance (instanceThen (m .instance)) → States context (contextThen (m .context))
-    → length (controlWritten m) ≡ 1 + sizeOf (statedThen datalink) + sizeOf (statedThen instance) + sizeOf (statedThen context)
-    + (sizeOf (statusesThen (m .statuses)) + (sizeOf (sequencesThen (m .sequences)) + sizeOf (windowsThen (m .windows))))
-unfolding controlWritten controlOptions
-control-length m p q r =
+pub control-length : (m : Control)
+    → length (controlWritten m) ≡ 1 + datalinkSize (m .datalink) + instanceSize (m .instance) + contextSize (m .context)
+    + (statusesSize (m .statuses) + (sequencesSize (m .sequences) + windowsSize (m .windows)))
+unfolding controlWritten controlOptions bytes
+control-length m =
     omega (
       arith,
-      states-behind p (behindDatalink m),
-      states-behind q (behindInstance m),
-      states-behind r (behindContext m),
-      prefixing-size (statuses-prefixing (m .statuses)) (behindStatuses m),
-      prefixing-size (sequences-prefixing (m .sequences)) (behindSequences m),
+      part-length (datalink-part (m .datalink)) (behindDatalink m),
+      part-length (instance-part (m .instance)) (behindInstance m),
+      part-length (context-part (m .context)) (behindContext m),
+      part-length (statuses-part (m .statuses)) (behindStatuses m),
+      part-length (sequences-part (m .sequences)) (behindSequences m),
+      part-length (windows-part (m .windows)) (behindWindows m),
     )
 
 -- the header stands, and every part is left

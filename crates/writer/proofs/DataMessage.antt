@@ -4,13 +4,13 @@ use mathlib.Core.Path.{_≡_}
 use mathlib.Core.List.{List}
 use native.Mathlib.Omega.{arith}
 use lib.ListN.{length, set}
-use Rattle.wire.specs.Options.{Options, done, option}
+use Rattle.wire.specs.Options.{Options, done, option, bytes}
 use Rattle.meaning.specs.Kinds.{PACKET-DATA}
 use Rattle.meaning.specs.declared.message.Data.{Data}
-use Rattle.write_option.specs.declared.option.Stated.{Stated}
-use Rattle.write_option.specs.Laying.{sizeOf, statedThen, States}
 use Rattle.write_option.specs.Parts.{datalinkThen, countedThen, channelThen, expirationThen}
-use Rattle.write_option.proofs.Laying.{option-size, states-behind, Standing, standing-header}
+use Rattle.write_option.specs.Sizes.{datalinkSize, countedSize, channelSize, expirationSize}
+use Rattle.write_option.proofs.Laying.{part-length, Standing, standing-header}
+use Rattle.write_option.proofs.Parts.{datalink-part, counted-part, channel-part, expiration-part, packet-part}
 use Rattle.writer.specs.Written.{dataOptions, dataWritten, DATA-HEADER}
 
 -- what follows each option
@@ -29,19 +29,18 @@ behindCounted m packet = channelThen (m .channel) (behindChannel m packet)
 abbrev pub behindDatalink : Data → List ℕ → Options
 behindDatalink m packet = countedThen (m .sequence) (behindCounted m packet)
 
-pub data-length : (m : Data) (packet : List ℕ) {datalink sequence channel expiration : Stated}
-    → States datalink (datalinkThen (m .datalink)) → States sequence (countedThen (m .sequence)) → States channel (channelThen (m .channel)) → States expiration (expirationThen (m .expiration))
-    → length (dataWritten m packet) ≡ 1 + sizeOf (statedThen datalink) + sizeOf (statedThen sequence) + sizeOf (statedThen channel) + sizeOf (statedThen expiration)
+pub data-length : (m : Data) (packet : List ℕ)
+    → length (dataWritten m packet) ≡ 1 + datalinkSize (m .datalink) + countedSize (m .sequence) + channelSize (m .channel) + expirationSize (m .expiration)
     + (3 + length packet)
-unfolding dataWritten dataOptions
-data-length m packet p q r s =
+unfolding dataWritten dataOptions bytes
+data-length m packet =
     omega (
       arith,
-      states-behind p (behindDatalink m packet),
-      states-behind q (behindCounted m packet),
-      states-behind r (behindChannel m packet),
-      states-behind s (behindExpiration m packet),
-      option-size PACKET-DATA packet,
+      part-length (datalink-part (m .datalink)) (behindDatalink m packet),
+      part-length (counted-part (m .sequence)) (behindCounted m packet),
+      part-length (channel-part (m .channel)) (behindChannel m packet),
+      part-length (expiration-part (m .expiration)) (behindExpiration m packet),
+      part-length (packet-part packet) (behindPacket m packet),
     )
 
 pub data-header : (m : Data) (packet entry : List ℕ) → length (dataWritten m packet) ≤ length entry

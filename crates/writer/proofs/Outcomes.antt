@@ -8,13 +8,13 @@ use borrow.Author.Tests.{not-true, not-false, ltb-false}
 use lib.Dec.{ltb}
 use lib.ListN.{length}
 use Rattle.quantity.specs.Limits.{LONGEST-DATAGRAM}
-use Rattle.quantity.specs.Refusals.{NO-ROOM, MEANING}
+use Rattle.quantity.specs.Refusals.{NO-ROOM, NOT-WRITABLE}
 use Rattle.wire.specs.Options.{Laid}
 use Rattle.writer.specs.declared.answer.WriteAnswer.{WriteAnswer}
 use Rattle.writer.specs.Written.{noRoom, Outcome}
 
 pub outcome-refused : {allowed may : Bool} {message out : List ℕ} {a : WriteAnswer} → may ≡ allowed → not may ≡ true
-    → a ≡ WriteAnswer.Refused (record { number = MEANING; place = 0 }) → Outcome allowed message out a out
+    → a ≡ WriteAnswer.Refused (record { number = NOT-WRITABLE; place = 0 }) → Outcome allowed message out a out
 outcome-refused {may = may} e t a = let n = not-true may t in record { answers = a ∙ rw (← e, n); bytes-are = rw (← e, n) }
 
 -- what the code knows where 18 is judged: the message may be written, and whether there is no room for it

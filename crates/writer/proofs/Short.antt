@@ -1,7 +1,7 @@
 -- The contents of a meaning that may be written are short. Assumes nothing.
 use Prim.Native.Nat.{ℕ, _≤_, _<_, _^_}
 use mathlib.Core.Path.{_≡_, refl}
-use mathlib.Core.Bool.{Bool, true, false, _&&_}
+use mathlib.Core.Bool.{Bool, true, false, _&&_, and-eq-true-iff}
 use native.Mathlib.Omega.{arith}
 use borrow.Author.Tests.{ltb-true, leb-true}
 use lib.Dec.{leb, ltb}
@@ -16,14 +16,10 @@ use Rattle.meaning.specs.declared.message.Data.{Data}
 use Rattle.writable.specs.Allowed.{may, datalinkAllowed, instanceAllowed, contextAllowed, controlAllowed, countedAllowed, channelAllowed, expirationAllowed, dataAllowed}
 use Rattle.write_option.specs.Laying.{ShortInstance, ShortContext, ShortNames}
 
-both : (a b : Bool) → (a && b) ≡ true → (a ≡ true) × (b ≡ true)
-both true b e = (refl, e)
-both false b e = let z : _≡_ {A = ℕ} 0 1 = cc in absurd (omega arith)
-
 short-length : (a : Bool) (number n : ℕ) → (a && ((leb SHORTEST-NAME n && leb n LONGEST-NAME) && ltb number (256 ^ n))) ≡ true → n ≤ LONGEST-NAME
 short-length a number n e =
-    let listed = both (leb SHORTEST-NAME n && leb n LONGEST-NAME) (ltb number (256 ^ n)) (both a _ e .1) .0 in
-    leb-true n LONGEST-NAME (both (leb SHORTEST-NAME n) (leb n LONGEST-NAME) listed .1)
+    let listed = and-eq-true-iff (leb SHORTEST-NAME n && leb n LONGEST-NAME) (ltb number (256 ^ n)) .0 (and-eq-true-iff a _ .0 e .1) .0 in
+    leb-true n LONGEST-NAME (and-eq-true-iff (leb SHORTEST-NAME n) (leb n LONGEST-NAME) .0 listed .1)
 
 instance-short : (end : End) (instance : Instance) → instanceAllowed end instance ≡ true → ShortInstance instance
 unfolding lengthListed
@@ -38,14 +34,14 @@ context-short end (Context.Given b n) e = short-length (may planes.Control end D
 pub control-short : (end : End) (m : Control) → controlAllowed end m ≡ true → ShortNames m
 unfolding controlAllowed
 control-short end m e =
-    let behind = both (datalinkAllowed (m .datalink)) _ e .1 in
-    let instance = both (instanceAllowed end (m .instance)) _ behind in
-    (instance-short end (m .instance) (instance .0), context-short end (m .context) (both (contextAllowed end (m .context)) _ (instance .1) .0))
+    let behind = and-eq-true-iff (datalinkAllowed (m .datalink)) _ .0 e .1 in
+    let instance = and-eq-true-iff (instanceAllowed end (m .instance)) _ .0 behind in
+    (instance-short end (m .instance) (instance .0), context-short end (m .context) (and-eq-true-iff (contextAllowed end (m .context)) _ .0 (instance .1) .0))
 
 pub data-short : (end : End) (m : Data) (n : ℕ) → dataAllowed end m n ≡ true → n < 2 ^ 16
 unfolding dataAllowed
 data-short end m n e =
-    let behind = both (datalinkAllowed (m .datalink)) _ e .1 in
-    let counted = both (countedAllowed end (m .sequence) (m .channel)) _ behind .1 in
-    let channel = both (channelAllowed end (m .channel)) _ counted .1 in
-    ltb-true n (2 ^ 16) (both (expirationAllowed end (m .expiration)) _ channel .1)
+    let behind = and-eq-true-iff (datalinkAllowed (m .datalink)) _ .0 e .1 in
+    let counted = and-eq-true-iff (countedAllowed end (m .sequence) (m .channel)) _ .0 behind .1 in
+    let channel = and-eq-true-iff (channelAllowed end (m .channel)) _ .0 counted .1 in
+    ltb-true n (2 ^ 16) (and-eq-true-iff (expirationAllowed end (m .expiration)) _ .0 channel .1)

@@ -7,7 +7,7 @@ use mathlib.Core.Bool.{Bool, cond, _||_}
 use lib.ListN.{length}
 use lib.Dec.{ltb}
 use Rattle.quantity.specs.Limits.{LONGEST-DATAGRAM}
-use Rattle.quantity.specs.Refusals.{NO-ROOM, MEANING}
+use Rattle.quantity.specs.Refusals.{NO-ROOM, NOT-WRITABLE}
 use Rattle.wire.specs.Options.{Options, done, option, bytes, over}
 use Rattle.meaning.specs.declared.message.Control.{Control}
 use Rattle.meaning.specs.declared.message.Data.{Data}
@@ -48,7 +48,7 @@ abbrev pub answerTo : Bool → List ℕ → ℕ → WriteAnswer
 answerTo allowed message room =
     cond allowed
     (cond (noRoom (length message) room) (WriteAnswer.Refused (record { number = NO-ROOM; place = 0 })) (WriteAnswer.Wrote (record { 0 = length message })))
-    (WriteAnswer.Refused (record { number = MEANING; place = 0 }))
+    (WriteAnswer.Refused (record { number = NOT-WRITABLE; place = 0 }))
 
 abbrev pub outAfter : Bool → List ℕ → List ℕ → List ℕ
 outAfter allowed message out = cond allowed (cond (noRoom (length message) (length out)) out (over message out)) out

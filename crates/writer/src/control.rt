@@ -13,6 +13,7 @@ use meaning::message::End;
 use quantity::count::ByteCount;
 use quantity::refusal;
 use write_option::option;
+use write_option::size;
 use write_option::table;
 
 // Version 1, the control plane.
@@ -30,13 +31,13 @@ fn size(message: Control) -> usize
     let sequences = message.sequences;
     let windows = message.windows;
     1
-        + option::size(option::datalink(datalink))
-        + option::size(option::instance(instance))
-        + option::size(option::context(context))
-        + table::size(statuses, sequences, windows)
+        + size::datalink(datalink)
+        + size::instance(instance)
+        + size::context(context)
+        + size::tables(statuses, sequences, windows)
 }
 
-// Each part is written into the rest of the output behind the one before.
+// Each option is written into the rest of the output behind the one before.
 fn lay(message: Control, out: &mut [u8]) -> usize
     requires { ⌜ ShortNames message ⌝ }
     requires { ⌜ length (controlWritten message) ≤ length (now out) ⌝ }
@@ -48,14 +49,11 @@ fn lay(message: Control, out: &mut [u8]) -> usize
     let statuses = message.statuses;
     let sequences = message.sequences;
     let windows = message.windows;
-    let stated_datalink = option::datalink(datalink);
-    let stated_instance = option::instance(instance);
-    let stated_context = option::context(context);
     out[0] = HEADER;
     let mut at: usize = 1;
-    at = at + option::lay(&mut out[at..], stated_datalink);
-    at = at + option::lay(&mut out[at..], stated_instance);
-    at = at + option::lay(&mut out[at..], stated_context);
+    at = at + option::lay_datalink(&mut out[at..], datalink);
+    at = at + option::lay_instance(&mut out[at..], instance);
+    at = at + option::lay_context(&mut out[at..], context);
     at = at + table::lay_statuses(&mut out[at..], statuses);
     at = at + table::lay_sequences(&mut out[at..], sequences);
     at = at + table::lay_windows(&mut out[at..], windows);
@@ -67,7 +65,7 @@ pub fn write(end: End, message: Control, out: &mut [u8]) -> WriteAnswer
     ensures { λ r. ⌜ Outcome (controlAllowed end message) (controlWritten message) (now (out .entry)) r (now (out .exit)) ⌝ }
 {
     if !writable::control::may_write(end, message) {
-        return answer::refused(refusal::MEANING);
+        return answer::refused(refusal::NOT_WRITABLE);
     }
     if answer::no_room(size(message), out.len()) {
         return answer::refused(refusal::NO_ROOM);

@@ -7,13 +7,13 @@ ghost use Rattle.writable.specs.Allowed.{dataAllowed};
 ghost use Rattle.writer.specs.Written.{dataWritten, Outcome};
 use crate::answer;
 use crate::answer::WriteAnswer;
-use meaning::kind;
 use meaning::message::Data;
 use meaning::message::End;
 use quantity::count::ByteCount;
 use quantity::refusal;
 use wire::option::FRAME_SIZE;
 use write_option::option;
+use write_option::size;
 
 // Version 1, the data plane.
 const HEADER: u8 = 24;
@@ -28,10 +28,10 @@ fn size(message: Data, packet: &[u8]) -> usize
     let channel = message.channel;
     let expiration = message.expiration;
     1
-        + option::size(option::datalink(datalink))
-        + option::size(option::counted(sequence))
-        + option::size(option::channel(channel))
-        + option::size(option::expiration(expiration))
+        + size::datalink(datalink)
+        + size::counted(sequence)
+        + size::channel(channel)
+        + size::expiration(expiration)
         + FRAME_SIZE
         + packet.len()
 }
@@ -46,17 +46,13 @@ fn lay(message: Data, packet: &[u8], out: &mut [u8]) -> usize
     let sequence = message.sequence;
     let channel = message.channel;
     let expiration = message.expiration;
-    let stated_datalink = option::datalink(datalink);
-    let stated_sequence = option::counted(sequence);
-    let stated_channel = option::channel(channel);
-    let stated_expiration = option::expiration(expiration);
     out[0] = HEADER;
     let mut at: usize = 1;
-    at = at + option::lay(&mut out[at..], stated_datalink);
-    at = at + option::lay(&mut out[at..], stated_sequence);
-    at = at + option::lay(&mut out[at..], stated_channel);
-    at = at + option::lay(&mut out[at..], stated_expiration);
-    at + wire::option::lay(&mut out[at..], kind::PACKET_DATA, packet)
+    at = at + option::lay_datalink(&mut out[at..], datalink);
+    at = at + option::lay_counted(&mut out[at..], sequence);
+    at = at + option::lay_channel(&mut out[at..], channel);
+    at = at + option::lay_expiration(&mut out[at..], expiration);
+    at + option::lay_packet(&mut out[at..], packet)
 }
 
 // 20 and 18 are judged before a byte is touched.
@@ -64,7 +60,7 @@ pub fn write(end: End, message: Data, packet: &[u8], out: &mut [u8]) -> WriteAns
     ensures { λ r. ⌜ Outcome (dataAllowed end message (length (now (packet .entry)))) (dataWritten message (now (packet .entry))) (now (out .entry)) r (now (out .exit)) ⌝ }
 {
     if !writable::data::may_write(end, message, packet.len()) {
-        return answer::refused(refusal::MEANING);
+        return answer::refused(refusal::NOT_WRITABLE);
     }
     if answer::no_room(size(message, packet), out.len()) {
         return answer::refused(refusal::NO_ROOM);

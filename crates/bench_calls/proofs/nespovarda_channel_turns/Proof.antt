@@ -1,5 +1,5 @@
 -- `nespovarda_channel_turns` meets its contract: the law of each turn is `Standing`'s. Assumes nothing.
-use Prim.Native.Nat.{_-_}
+use Prim.Native.Nat.{_-_, _<_, _^_}
 use mathlib.Core.Path.{_≡_, refl}
 use native.Mathlib.Omega.{arith}
 use borrow.Author.Needs.{needs}
@@ -16,6 +16,9 @@ Inv-loop script store₀ packet out₀ carried₀ at₀ store out carried at =
 abbrev μ-loop : tie.MeasureT-loop
 μ-loop script store₀ packet out₀ carried₀ at₀ store out carried at = length script - at
 
+script-fits : (c : tie.Start Inv-loop μ-loop) → length (c .args .script .now) < 2 ^ 64
+script-fits c = omega arith
+
 begin-requires : tie.Need-begin-requires Inv-loop μ-loop
 begin-requires c κs = search needs
 
@@ -29,7 +32,7 @@ step-requires : tie.Need-step-requires Inv-loop μ-loop
 step-requires c κs = c .before .before .before .before .loop .inv .2 .ready
 
 add-at : tie.Need-add-at Inv-loop μ-loop
-add-at c = search needs
+add-at c = omega (arith, c .before .before .before .before .before .before .before .before .loop-test .taken, script-fits (c .before .before .before .before .before .before .before .before .before .before .before .before .before .before .before))
 
 loop-less : tie.Need-loop-less Inv-loop μ-loop
 loop-less c = omega arith

@@ -2,7 +2,7 @@
 use mathlib.Core.Path.{sym, _∙_}
 use borrow.Author.Needs.{needs}
 use borrow.Author.Tests.{not-true, not-false}
-use Rattle.read_rules.specs.Controls.{controlRefused}
+use Rattle.read_control.specs.Message.{controlRefused}
 use Rattle.reader.proofs.Planes.{plane-refuses}
 use Rattle.bench_reader.specs.Digests.{endOf}
 use Rattle.bench_reader.proofs.nespovarda_control_digest.Statement.{statement}

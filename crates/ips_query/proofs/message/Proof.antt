@@ -1,4 +1,4 @@
--- `query::message` meets its contract. Assumes nothing.
+-- `message` meets its contract. Assumes nothing.
 use borrow.Author.Needs.{needs}
 use Rattle.ips_query.specs.Query.{queryOf}
 use Rattle.ips_query.proofs.message.Statement.{statement}

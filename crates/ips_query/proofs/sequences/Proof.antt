@@ -1,10 +1,10 @@
--- `query::sequences` meets its contract. The loop's invariant: the channels before the place are in the table. Assumes nothing.
+-- `sequences` meets its contract. The loop's invariant: the channels before the place are in the table. Assumes nothing.
 use Prim.Native.Nat.{_-_, _<_}
 use mathlib.Core.Logic.{⊎-elim}
 use native.Mathlib.Omega.{arith}
 use borrow.Author.Needs.{needs}
+use Rattle.facts.proofs.Lists.{length-mapped}
 use Rattle.quantity.specs.Limits.{MOST-CHANNELS, CHANNEL-IDS}
-use Rattle.meaning.proofs.Tables.{length-mapped}
 use Rattle.ips_state.specs.Table.{channelAt}
 use Rattle.ips_query.proofs.Queries.{Gathering, gathering-start, gathering-place, gathering-id, gathering-plain, gathering-controlled, gathering-end}
 use Rattle.ips_query.proofs.sequences.Statement.{statement}
@@ -27,13 +27,13 @@ element-copy-out-channel c = gathering-place _ _ _ (c .loop-test .taken) (c .bef
 
 cast-id : tie.Need-cast-id Inv-loop μ-loop
 unfolding channelAt
-cast-id c = let turn = c .before .before in omega (arith, gathering-id _ _ _ (turn .loop-test .taken) (turn .before .loop .inv))
+cast-id c = let turn = c .before .before .before in omega (arith, gathering-id _ _ _ (turn .loop-test .taken) (turn .before .loop .inv))
 
 -- the store's place is in the table, by the channel's ID as by its index
-stored : (c : tie.Then1 Inv-loop μ-loop) → let head = c .before .before .before .before .before in
-    (channelAt (head .before .args .t1) (head .loop .at) .id < CHANNEL-IDS) × (head .loop .at < MOST-CHANNELS)
+stored : (c : tie.Then1 Inv-loop μ-loop) → let head = c .before .before .before .before .before .before in
+    (channelAt (head .before .args .t1) (head .loop .at) .setting .id < CHANNEL-IDS) × (head .loop .at < MOST-CHANNELS)
 stored c =
-    let turn = c .before .before .before .before in
+    let turn = c .before .before .before .before .before in
     (gathering-id _ _ _ (turn .loop-test .taken) (turn .before .loop .inv), gathering-place _ _ _ (turn .loop-test .taken) (turn .before .loop .inv))
 
 mul-cells : tie.Need-mul-cells Inv-loop μ-loop
@@ -47,7 +47,7 @@ array-set-from-cells c = omega (arith, stored c)
 loop-again : tie.Need-loop-again Inv-loop μ-loop
 unfolding channelAt
 loop-again c =
-    let turn = c .before .before .before .before in
+    let turn = c .before .before .before .before .before in
     ⊎-elim (λ w. rw (w .1) (gathering-controlled _ _ _ (turn .loop-test .taken) (turn .before .loop .inv) (w .0 .taken)))
     (λ w. rw (w .1) (gathering-plain _ _ _ (turn .loop-test .taken) (turn .before .loop .inv) (w .0 .left))) (c .if1 .came)
 

@@ -1,4 +1,4 @@
--- `hearing::hear` meets its contract. Assumes nothing.
+-- `hear` meets its contract. Assumes nothing.
 use borrow.Author.Needs.{needs}
 use Rattle.ips_radio.specs.Heard.{heardBy}
 use Rattle.ips_radio.proofs.hear.Statement.{statement}

@@ -1,4 +1,4 @@
--- `hearing::is_due` meets its contract. Assumes nothing.
+-- `is_due` meets its contract. Assumes nothing.
 use borrow.Author.Needs.{needs}
 use borrow.Author.Tests.{eq-eqb, ne-eqb}
 use Rattle.ips_radio.proofs.is_due.Statement.{statement}

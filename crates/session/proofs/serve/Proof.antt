@@ -8,11 +8,11 @@ use Rattle.session.proofs.serve.Statement.{statement}
 use Rattle.session.proofs.serve.Tie as tie
 
 abbrev Inv-loop : tie.InvT-loop
-Inv-loop buffer₀ memory₀ lent₀ out₀ held₀ input₀ turns₀ t12 buffer memory lent out held input turns =
-    (length buffer ≡ length buffer₀) × (length memory ≡ length memory₀) × (length lent ≡ length lent₀) × (length out ≡ length out₀)
+Inv-loop buffer₀ memory₀ lent₀ output₀ out₀ held₀ input₀ turns₀ t13 buffer memory lent output out held input turns =
+    (length buffer ≡ length buffer₀) × (length memory ≡ length memory₀) × (length lent ≡ length lent₀) × (length output ≡ length output₀) × (length out ≡ length out₀)
 
 abbrev μ-loop : tie.MeasureT-loop
-μ-loop buffer₀ memory₀ lent₀ out₀ held₀ input₀ turns₀ t12 buffer memory lent out held input turns =
+μ-loop buffer₀ memory₀ lent₀ output₀ out₀ held₀ input₀ turns₀ t13 buffer memory lent output out held input turns =
     turns
 
 inside : (c : tie.After-known-told Inv-loop μ-loop) → let line = c .before .from .given .0 in (line .0 ≤ line .1 .0) × (line .1 .0 ≤ length (c .before .before .before .before .before .before .loop .buffer))
@@ -60,6 +60,9 @@ same-length-3 c = search needs
 same-length-4 : tie.Need-same-length-4 Inv-loop μ-loop
 same-length-4 c = search needs
 
+same-length-5 : tie.Need-same-length-5 Inv-loop μ-loop
+same-length-5 c = search needs
+
 returns : tie.Need-returns Inv-loop μ-loop
 returns c = search needs
 
@@ -99,9 +102,6 @@ loop-less-3 c = search needs
 loop-again-3 : tie.Need-loop-again-3 Inv-loop μ-loop
 loop-again-3 c = search needs
 
-same-length-5 : tie.Need-same-length-5 Inv-loop μ-loop
-same-length-5 c = search needs
-
 same-length-6 : tie.Need-same-length-6 Inv-loop μ-loop
 same-length-6 c = search needs
 
@@ -110,6 +110,12 @@ same-length-7 c = search needs
 
 same-length-8 : tie.Need-same-length-8 Inv-loop μ-loop
 same-length-8 c = search needs
+
+same-length-9 : tie.Need-same-length-9 Inv-loop μ-loop
+same-length-9 c = search needs
+
+same-length-10 : tie.Need-same-length-10 Inv-loop μ-loop
+same-length-10 c = search needs
 
 returns-2 : tie.Need-returns-2 Inv-loop μ-loop
 returns-2 c = search needs
@@ -134,6 +140,7 @@ serve-spec =
     same-length-2
     same-length-3
     same-length-4
+    same-length-5
     returns
     enum-known-from
     sub-say
@@ -147,8 +154,9 @@ serve-spec =
     say-requires-2
     loop-less-3
     loop-again-3
-    same-length-5
     same-length-6
     same-length-7
     same-length-8
+    same-length-9
+    same-length-10
     returns-2)

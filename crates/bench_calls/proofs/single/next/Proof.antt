@@ -20,7 +20,7 @@ same-length-2 : tie.Need-same-length-2
 same-length-2 c = search needs
 
 returns : tie.Need-returns
-returns c = asked-goes _ _ (c .before .before .before .before .before .before .before .before .before .before .before .before .pre) _ _ _ _ (c .before .before .before .before .before .before .before .next .ensures) _ (c .before .next2 .ensures) _ (c .mix .ensures)
+returns c = asked-goes _ _ (c .before .before .before .before .before .before .before .before .before .before .before .before .pre) _ _ _ _ _ (c .before .before .before .before .before .before .before .next .ensures) _ (c .before .next2 .ensures) _ (c .mix .ensures)
 
 pub next-spec : {M : Type 1} → statement M
 next-spec =

@@ -14,7 +14,7 @@ same-length : tie.Need-same-length
 same-length c = search needs
 
 returns : tie.Need-returns
-returns c = begun-is _ _ _ (c .before .before .before .before .before .configuration .ensures) _ _ _ (c .before .before .before .start .ensures)
+returns c = begun-is _ _ _ (c .before .before .before .before .before .configuration .ensures) _ _ _ _ (c .before .before .before .start .ensures)
 
 pub begin-spec : {M : Type 1} → statement M
 begin-spec = tie.close (tie.spec configuration-requires start-requires same-length returns)

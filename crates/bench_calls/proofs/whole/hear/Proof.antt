@@ -14,7 +14,7 @@ mix-requires : tie.Need-mix-requires
 mix-requires c κs = search needs
 
 returns : tie.Need-returns
-returns c = heard-is _ _ _ (c .before .before .before .hand-in .ensures) _ (c .before .before .radio .ensures) _ (c .before .mix .ensures)
+returns c = heard-is _ _ _ _ (c .before .before .before .hand-in .ensures) _ (c .before .before .radio .ensures) _ (c .before .mix .ensures)
 
 pub hear-spec : {M : Type 1} → statement M
 hear-spec = tie.close (tie.spec hand-in-requires radio-requires mix-requires returns)

@@ -20,7 +20,7 @@ same-length-2 : tie.Need-same-length-2
 same-length-2 c = search needs
 
 returns : tie.Need-returns
-returns c = asked-is _ _ _ _ _ _ _ (c .before .before .before .before .before .before .before .next .ensures) _ (c .before .before .next2 .ensures) _ (c .before .mix .ensures)
+returns c = asked-is _ _ _ _ _ _ _ _ (c .before .before .before .before .before .before .before .next .ensures) _ (c .before .before .next2 .ensures) _ (c .before .mix .ensures)
 
 pub next-spec : {M : Type 1} → statement M
 next-spec =

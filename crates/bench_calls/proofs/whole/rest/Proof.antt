@@ -1,5 +1,6 @@
 -- `whole::rest` meets its contract. Assumes nothing.
-use Rattle.bench_calls.proofs.Coursing.{rest-none, rest-part}
+use Rattle.facts.proofs.Lists.{rest-part}
+use Rattle.bench_calls.proofs.Coursing.{rest-none}
 use borrow.Author.Needs.{needs}
 use Rattle.bench_calls.proofs.whole.rest.Statement.{statement}
 use Rattle.bench_calls.proofs.whole.rest.Tie as tie
@@ -26,7 +27,7 @@ part-result-end-2 : tie.Need-part-result-end-2
 part-result-end-2 c = search needs
 
 returns-2 : tie.Need-returns-2
-returns-2 c = rest-part (c .before .before .args .datagrams .now) (c .before .before .args .length)
+returns-2 c = rest-part (c .before .before .args .length) (c .before .before .args .datagrams .now)
 
 pub rest-spec : {M : Type 1} → statement M
 rest-spec =

@@ -17,7 +17,7 @@ same-length : tie.Need-same-length
 same-length c = search needs
 
 returns : tie.Need-returns
-returns c = withdrawn-is _ _ _ _ _ (c .before .before .before .before .before .withdraw .ensures) _ (c .before .before .withdraw2 .ensures) _ (c .before .mix .ensures)
+returns c = withdrawn-is _ _ _ _ _ _ (c .before .before .before .before .before .withdraw .ensures) _ (c .before .before .withdraw2 .ensures) _ (c .before .mix .ensures)
 
 pub withdraw-spec : {M : Type 1} → statement M
 withdraw-spec =

@@ -5,9 +5,10 @@ use mathlib.Core.List.{List, [], _∷_}
 use native.Mathlib.Omega.{arith}
 use borrow.Author.Needs.{needs}
 use lib.ListN.{length, getD, List·getD-eq-default}
+use Rattle.facts.proofs.Lists.{length-mapped}
 use Rattle.quantity.specs.Limits.{CHANNEL-IDS}
-use Rattle.meaning.proofs.Tables.{length-mapped, Full}
-use Rattle.read_rules.specs.Controls.{statusAbsent, sequenceAbsent, windowAbsent}
+use Rattle.meaning.specs.Cells.{noStatus, noSequence, noWindow}
+use Rattle.meaning.proofs.Tables.{Full}
 use Rattle.bench_reader.specs.Digests.{datalinkPart, instancePart, instanceLength, contextPart, contextLength, mixedAll, controlSum}
 use Rattle.bench_reader.proofs.digest.control_sum.Statement.{statement}
 use Rattle.bench_reader.proofs.digest.control_sum.Tie as tie
@@ -36,7 +37,7 @@ returns c =
     let start = tested .before .before .before .before .before .before .before .before .before .before .before in
     let m = start .args .t1 in
     let far = tested .if1 .taken in
-    rw (c .mix8 .ensures, c .before .mix7 .ensures, c .before .before .mix6 .ensures, whole-is (tested .before), beyond (m .statuses) statusAbsent (full start .statuses-full) far, beyond (m .sequences) sequenceAbsent (full start .sequences-full) far, beyond (m .windows) windowAbsent (full start .windows-full) far)
+    rw (c .mix8 .ensures, c .before .mix7 .ensures, c .before .before .mix6 .ensures, whole-is (tested .before), beyond (m .statuses) noStatus (full start .statuses-full) far, beyond (m .sequences) noSequence (full start .sequences-full) far, beyond (m .windows) noWindow (full start .windows-full) far)
 
 returns-2 : tie.Need-returns-2
 unfolding controlSum

@@ -3,39 +3,27 @@ use mathlib.Core.Path.{sym, _∙_}
 use borrow.Author.Needs.{needs}
 use denote.Ref.{now}
 use Rattle.endpoint.proofs.Finding.{Finds, place-found}
-use Rattle.endpoint.proofs.Calling.{withdraws-found, withdraws-refused}
+use Rattle.endpoint.specs.Calls.{lending}
+use Rattle.endpoint.proofs.Calling.{performed-found, performed-refused}
 use Rattle.endpoint.proofs.call.withdraw.Statement.{statement}
 use Rattle.endpoint.proofs.call.withdraw.Tie as tie
 
 abbrev start : tie.After-find → tie.Start
 start c = c .before .before
 
-finds : (c : tie.After-index) → let begun = start (c .before .before) .args in
-    Finds (begun .state) (now (begun .memory)) (begun .id) (c .index .given .0 .0) (c .index .given .0 .1 .0)
-finds c = place-found _ _ _ _ _ (sym (c .before .before .find .ensures) ∙ c .index .given .1)
-
-find-requires : tie.Need-find-requires
-find-requires c κs = search needs
-
-enum-known-index : tie.Need-enum-known-index
-enum-known-index c = search needs
+finds : (c : tie.After-found) → let begun = start (c .before .before) .args in Finds (lending (begun .state) (now (begun .memory))) (begun .id) (c .found .given .0 .0)
+finds c = place-found _ _ _ (sym (c .before .before .find .ensures) ∙ c .found .given .1)
 
 withdraw-at-requires : tie.Need-withdraw-at-requires
-withdraw-at-requires c κs = finds (c .before .before) .stands
-
-enum-known-number : tie.Need-enum-known-number
-enum-known-number c = search needs
-
-same-length : tie.Need-same-length
-same-length c = search needs
+withdraw-at-requires c κs = finds (c .before .before) .located
 
 returns : tie.Need-returns
 returns c =
     let called = c .before .before in
-    withdraws-found _ _ _ _ _ (finds (called .before .before .before)) _ _ (called .withdraw-at .ensures)
+    performed-found _ _ _ (finds (called .before .before .before)) _ _ _ (called .withdraw-at .ensures)
 
 returns-2 : tie.Need-returns-2
-returns-2 c = withdraws-refused _ _ _ _ (sym (c .before .before .before .find .ensures) ∙ c .before .number .given .1)
+returns-2 c = performed-refused _ _ _ (sym (c .before .before .before .find .ensures) ∙ c .before .number .given .1) _
 
 pub withdraw-spec : {M : Type 1} → statement M
-withdraw-spec = tie.close (tie.spec find-requires enum-known-index withdraw-at-requires enum-known-number same-length returns returns-2)
+withdraw-spec = tie.close (tie.spec (λ c κs. search needs) (λ c. search needs) withdraw-at-requires (λ c. search needs) (λ c. search needs) returns returns-2)

@@ -3,24 +3,6 @@ use borrow.Author.Needs.{needs}
 use Rattle.endpoint.proofs.radio.control.Statement.{statement}
 use Rattle.endpoint.proofs.radio.control.Tie as tie
 
-enum-told : tie.Need-enum-told
-enum-told c = search needs
-
-accepted-requires : tie.Need-accepted-requires
-accepted-requires c κs = search needs
-
-enum-told-2 : tie.Need-enum-told-2
-enum-told-2 c = search needs
-
-passed-requires : tie.Need-passed-requires
-passed-requires c κs = search needs
-
-enum-known-verdict : tie.Need-enum-known-verdict
-enum-known-verdict c = search needs
-
-refused-requires : tie.Need-refused-requires
-refused-requires c κs = search needs
-
 returns : tie.Need-returns
 returns c = rw (c .before .enum-told .given .1) (c .accepted .ensures)
 
@@ -34,12 +16,12 @@ pub control-spec : {M : Type 1} → statement M
 control-spec =
     tie.close
     (tie.spec
-    enum-told
-    accepted-requires
-    enum-told-2
-    passed-requires
-    enum-known-verdict
-    refused-requires
+    (λ c. search needs)
+    (λ c κs. search needs)
+    (λ c. search needs)
+    (λ c κs. search needs)
+    (λ c. search needs)
+    (λ c κs. search needs)
     returns
     returns-2
     returns-3)

@@ -3,17 +3,8 @@ use borrow.Author.Needs.{needs}
 use Rattle.ips_channel_calls.proofs.asking.counted_on.Statement.{statement}
 use Rattle.ips_channel_calls.proofs.asking.counted_on.Tie as tie
 
-enum-told : tie.Need-enum-told
-enum-told c = search needs
-
-enum-known-sequence : tie.Need-enum-known-sequence
-enum-known-sequence c = search needs
-
-returns : tie.Need-returns
-returns c = search needs
-
 returns-2 : tie.Need-returns-2
 returns-2 c = rw (c .before .sequence .given .1)
 
 pub counted-on-spec : {M : Type 1} → statement M
-counted-on-spec = tie.close (tie.spec enum-told enum-known-sequence returns returns-2)
+counted-on-spec = tie.close (tie.spec (λ c. search needs) (λ c. search needs) (λ c. search needs) returns-2)

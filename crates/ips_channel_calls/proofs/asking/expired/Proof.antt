@@ -1,20 +1,14 @@
 -- `asking::expired` meets its contract. Assumes nothing.
 use borrow.Author.Needs.{needs}
-use Rattle.ips_channel_calls.proofs.Leaving.{ready-sound, leaves}
+use Rattle.ips_channel_calls.proofs.Leaving.{ready-sound, left-with}
 use Rattle.ips_channel_calls.proofs.asking.expired.Statement.{statement}
 use Rattle.ips_channel_calls.proofs.asking.expired.Tie as tie
 
 expire-requires : tie.Need-expire-requires
 expire-requires c κs = ready-sound _ _ (c .before .before .before .pre)
 
-with-queue-requires : tie.Need-with-queue-requires
-with-queue-requires c κs = search needs
-
-same-length : tie.Need-same-length
-same-length c = search needs
-
 returns : tie.Need-returns
-returns c = let left = c .before .before .before in leaves _ _ (left .before .before .before .before .pre) _ _ _ _ _ (left .expire .ensures) (c .with-queue .ensures)
+returns c = let left = c .before .before .before in left-with _ _ (left .before .before .before .before .pre) _ _ _ _ _ (left .expire .ensures) (c .with-queue .ensures)
 
 pub expired-spec : {M : Type 1} → statement M
-expired-spec = tie.close (tie.spec expire-requires with-queue-requires same-length returns)
+expired-spec = tie.close (tie.spec expire-requires (λ c κs. search needs) (λ c. search needs) returns)

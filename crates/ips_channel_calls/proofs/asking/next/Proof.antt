@@ -1,11 +1,11 @@
--- `asking::next` meets its contract: each way out is a law of `Asks`. Assumes nothing.
+-- `asking::next` meets its contract: each way out is a law of `NextWays`. Assumes nothing.
 use mathlib.Core.Bool.{true}
 use mathlib.Core.Path.{_≡_, sym, _∙_}
 use borrow.Author.Needs.{needs}
 use borrow.Author.Tests.{not-true, not-false}
 use Rattle.meaning.specs.Statuses.{operational}
 use Rattle.flow.specs.Counting.{mayGo}
-use Rattle.ips_channel_calls.proofs.Asks.{asks-early, asks-nothing, asks-not-operational, asks-shut, asks-no-room, asks-sent}
+use Rattle.ips_channel_calls.proofs.NextWays.{asks-early, asks-nothing, asks-not-operational, asks-shut, asks-no-room, asks-sent}
 use Rattle.ips_channel_calls.proofs.asking.next.Statement.{statement}
 use Rattle.ips_channel_calls.proofs.asking.next.Tie as tie
 
@@ -20,23 +20,8 @@ may-go : (c : tie.Else4) → let waiting = c .before .before .before .before in 
     mayGo (channel .flow) (channel .sequence) (waiting .before .before .first-length .result) ≡ true
 may-go c = sym (c .before .may-go .ensures) ∙ not-false _ (c .if4 .left)
 
-refused-requires : tie.Need-refused-requires
-refused-requires c κs = search needs
-
 returns : tie.Need-returns
 returns c = asks-early _ _ _ _ _ (c .before .if1 .taken) _ (c .refused .ensures)
-
-first-length-requires : tie.Need-first-length-requires
-first-length-requires c κs = search needs
-
-is-operational-requires : tie.Need-is-operational-requires
-is-operational-requires c κs = search needs
-
-expired-requires : tie.Need-expired-requires
-expired-requires c κs = search needs
-
-same-length : tie.Need-same-length
-same-length c = search needs
 
 returns-2 : tie.Need-returns-2
 returns-2 c =
@@ -45,12 +30,6 @@ returns-2 c =
     let judged = none .before .before in
     let late = judged .before .before in
     asks-nothing _ _ _ _ _ (late .if1 .left) _ (judged .first-length .ensures) (none .if2 .taken) (late .before .before .before .before .pre) _ _ (left .expired .ensures)
-
-expired-requires-2 : tie.Need-expired-requires-2
-expired-requires-2 c κs = search needs
-
-same-length-2 : tie.Need-same-length-2
-same-length-2 c = search needs
 
 returns-3 : tie.Need-returns-3
 returns-3 c =
@@ -61,15 +40,6 @@ returns-3 c =
     asks-not-operational _ _ _ _ _ (judged .before .before .if1 .left) _ (judged .first-length .ensures) (waiting .if2 .left)
     (sym (waiting .before .is-operational .ensures) ∙ not-true _ (tested .if3 .taken)) _ _ (left .expired2 .ensures)
 
-may-go-requires : tie.Need-may-go-requires
-may-go-requires c κs = search needs
-
-expired-requires-3 : tie.Need-expired-requires-3
-expired-requires-3 c κs = search needs
-
-same-length-3 : tie.Need-same-length-3
-same-length-3 c = search needs
-
 returns-4 : tie.Need-returns-4
 returns-4 c =
     let left = c .before .before in
@@ -79,30 +49,6 @@ returns-4 c =
     let judged = waiting .before .before in
     asks-shut _ _ _ _ _ (judged .before .before .if1 .left) _ (judged .first-length .ensures) (waiting .if2 .left) (is-operational up)
     (sym (tested .before .may-go .ensures) ∙ not-true _ (tested .if4 .taken)) _ _ (left .expired3 .ensures)
-
-counted-requires : tie.Need-counted-requires
-counted-requires c κs = search needs
-
-carried-requires : tie.Need-carried-requires
-carried-requires c κs = search needs
-
-write-first-requires : tie.Need-write-first-requires
-write-first-requires c κs = search needs
-
-enum-known-length : tie.Need-enum-known-length
-enum-known-length c = search needs
-
-enum-told : tie.Need-enum-told
-enum-told c = search needs
-
-refused-requires-2 : tie.Need-refused-requires-2
-refused-requires-2 c κs = search needs
-
-same-length-4 : tie.Need-same-length-4
-same-length-4 c = search needs
-
-same-length-5 : tie.Need-same-length-5
-same-length-5 c = search needs
 
 returns-5 : tie.Need-returns-5
 returns-5 c =
@@ -115,15 +61,6 @@ returns-5 c =
     let judged = waiting .before .before in
     asks-no-room _ _ _ _ _ (judged .before .before .if1 .left) _ (judged .first-length .ensures) (waiting .if2 .left) (is-operational up) (may-go fits)
     _ (carried .before .counted .ensures) _ (carried .carried .ensures) _ _ (written .write-first .ensures) _ (told .enum-told .given .1) _ (c .refused2 .ensures)
-
-sent-requires : tie.Need-sent-requires
-sent-requires c κs = search needs
-
-same-length-6 : tie.Need-same-length-6
-same-length-6 c = search needs
-
-same-length-7 : tie.Need-same-length-7
-same-length-7 c = search needs
 
 returns-6 : tie.Need-returns-6
 returns-6 c =
@@ -142,30 +79,30 @@ pub next-spec : {M : Type 1} → statement M
 next-spec =
     tie.close
     (tie.spec
-    refused-requires
+    (λ c κs. search needs)
     returns
-    first-length-requires
-    is-operational-requires
-    expired-requires
-    same-length
+    (λ c κs. search needs)
+    (λ c κs. search needs)
+    (λ c κs. search needs)
+    (λ c. search needs)
     returns-2
-    expired-requires-2
-    same-length-2
+    (λ c κs. search needs)
+    (λ c. search needs)
     returns-3
-    may-go-requires
-    expired-requires-3
-    same-length-3
+    (λ c κs. search needs)
+    (λ c κs. search needs)
+    (λ c. search needs)
     returns-4
-    counted-requires
-    carried-requires
-    write-first-requires
-    enum-known-length
-    enum-told
-    refused-requires-2
-    same-length-4
-    same-length-5
+    (λ c κs. search needs)
+    (λ c κs. search needs)
+    (λ c κs. search needs)
+    (λ c. search needs)
+    (λ c. search needs)
+    (λ c κs. search needs)
+    (λ c. search needs)
+    (λ c. search needs)
     returns-5
-    sent-requires
-    same-length-6
-    same-length-7
+    (λ c κs. search needs)
+    (λ c. search needs)
+    (λ c. search needs)
     returns-6)

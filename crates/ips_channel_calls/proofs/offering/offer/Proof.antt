@@ -1,4 +1,4 @@
--- `offering::offer` meets its contract: each way out is a law of `Offers`. Assumes nothing.
+-- `offering::offer` meets its contract: each way out is a law of `OfferWays`. Assumes nothing.
 use mathlib.Core.Bool.{true}
 use mathlib.Core.Path.{_≡_, sym, _∙_}
 use borrow.Author.Needs.{needs}
@@ -6,7 +6,7 @@ use borrow.Author.Tests.{not-true, not-false}
 use denote.Ref.{now}
 use Rattle.ipv6.specs.Ipv6.{isIpv6}
 use Rattle.ips_channel_calls.proofs.Leaving.{ready-sound}
-use Rattle.ips_channel_calls.proofs.Offers.{offers-not-ipv6, offers-long, offers-early, offers-past, offers-full, offers-taken}
+use Rattle.ips_channel_calls.proofs.OfferWays.{offers-not-ipv6, offers-long, offers-early, offers-past, offers-full, offers-taken}
 use Rattle.ips_channel_calls.proofs.offering.offer.Statement.{statement}
 use Rattle.ips_channel_calls.proofs.offering.offer.Tie as tie
 
@@ -14,31 +14,16 @@ use Rattle.ips_channel_calls.proofs.offering.offer.Tie as tie
 ipv6 : (c : tie.Else1) → isIpv6 (now (c .before .before .before .before .args .packet)) ≡ true
 ipv6 c = sym (c .before .is-ipv6 .ensures) ∙ not-false _ (c .if1 .left)
 
-is-ipv6-requires : tie.Need-is-ipv6-requires
-is-ipv6-requires c κs = search needs
-
-refused-requires : tie.Need-refused-requires
-refused-requires c κs = search needs
-
 returns : tie.Need-returns
 returns c = let judged = c .before .before in offers-not-ipv6 _ _ _ _ (sym (judged .is-ipv6 .ensures) ∙ not-true _ (c .before .if1 .taken)) _ (c .refused .ensures)
 
-refused-requires-2 : tie.Need-refused-requires-2
-refused-requires-2 c κs = search needs
-
 returns-2 : tie.Need-returns-2
 returns-2 c = offers-long _ _ _ _ (ipv6 (c .before .before)) (c .before .if2 .taken) _ (c .refused2 .ensures)
-
-refused-requires-3 : tie.Need-refused-requires-3
-refused-requires-3 c κs = search needs
 
 returns-3 : tie.Need-returns-3
 returns-3 c =
     let short = c .before .before in
     offers-early _ _ _ _ (ipv6 (short .before)) (short .if2 .left) (c .before .if3 .taken) _ (c .refused3 .ensures)
-
-refused-requires-4 : tie.Need-refused-requires-4
-refused-requires-4 c κs = search needs
 
 returns-4 : tie.Need-returns-4
 returns-4 c =
@@ -49,12 +34,6 @@ returns-4 c =
 offer-requires : tie.Need-offer-requires
 offer-requires c κs = ready-sound _ _ (c .before .before .before .before .before .before .before .before .before .pre)
 
-refused-requires-5 : tie.Need-refused-requires-5
-refused-requires-5 c κs = search needs
-
-same-length : tie.Need-same-length
-same-length c = search needs
-
 returns-5 : tie.Need-returns-5
 returns-5 c =
     let offered = c .before .before .before .before .before in
@@ -62,12 +41,6 @@ returns-5 c =
     let short = lasting .before .before in
     offers-full _ _ _ _ (ipv6 (short .before)) (short .if2 .left) (lasting .before .if3 .left) (lasting .if4 .left) (short .before .before .before .before .before .pre) _ _
     (offered .offer .ensures) (c .before .if5 .taken) _ (c .refused5 .ensures)
-
-with-queue-requires : tie.Need-with-queue-requires
-with-queue-requires c κs = search needs
-
-same-length-2 : tie.Need-same-length-2
-same-length-2 c = search needs
 
 returns-6 : tie.Need-returns-6
 returns-6 c =
@@ -82,19 +55,19 @@ pub offer-spec : {M : Type 1} → statement M
 offer-spec =
     tie.close
     (tie.spec
-    is-ipv6-requires
-    refused-requires
+    (λ c κs. search needs)
+    (λ c κs. search needs)
     returns
-    refused-requires-2
+    (λ c κs. search needs)
     returns-2
-    refused-requires-3
+    (λ c κs. search needs)
     returns-3
-    refused-requires-4
+    (λ c κs. search needs)
     returns-4
     offer-requires
-    refused-requires-5
-    same-length
+    (λ c κs. search needs)
+    (λ c. search needs)
     returns-5
-    with-queue-requires
-    same-length-2
+    (λ c κs. search needs)
+    (λ c. search needs)
     returns-6)

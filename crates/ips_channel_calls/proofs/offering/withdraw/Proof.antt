@@ -4,19 +4,10 @@ use Rattle.ips_channel_calls.proofs.Leaving.{withdraws}
 use Rattle.ips_channel_calls.proofs.offering.withdraw.Statement.{statement}
 use Rattle.ips_channel_calls.proofs.offering.withdraw.Tie as tie
 
-clear-requires : tie.Need-clear-requires
-clear-requires c κs = search needs
-
-with-queue-requires : tie.Need-with-queue-requires
-with-queue-requires c κs = search needs
-
-same-length : tie.Need-same-length
-same-length c = search needs
-
 returns : tie.Need-returns
 returns c =
     let cleared = c .before .before .before in
     withdraws _ _ (cleared .before .before .before .pre) _ _ _ (cleared .clear .ensures) (c .with-queue .ensures)
 
 pub withdraw-spec : {M : Type 1} → statement M
-withdraw-spec = tie.close (tie.spec clear-requires with-queue-requires same-length returns)
+withdraw-spec = tie.close (tie.spec (λ c κs. search needs) (λ c κs. search needs) (λ c. search needs) returns)

@@ -4,12 +4,9 @@ use Rattle.ips_state.specs.Table.{blankChannel}
 use Rattle.ips_state.proofs.state.blank_channel.Statement.{statement}
 use Rattle.ips_state.proofs.state.blank_channel.Tie as tie
 
-fresh-requires : tie.Need-fresh-requires
-fresh-requires c κs = search needs
-
 returns : tie.Need-returns
 unfolding blankChannel
 returns c = c .fresh .ensures
 
 pub blank-channel-spec : {M : Type 1} → statement M
-blank-channel-spec = tie.close (tie.spec fresh-requires returns)
+blank-channel-spec = tie.close (tie.spec (λ c κs. search needs) returns)

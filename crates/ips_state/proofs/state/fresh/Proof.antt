@@ -4,12 +4,9 @@ use Rattle.ips_state.specs.Table.{freshState}
 use Rattle.ips_state.proofs.state.fresh.Statement.{statement}
 use Rattle.ips_state.proofs.state.fresh.Tie as tie
 
-fresh-channels-requires : tie.Need-fresh-channels-requires
-fresh-channels-requires c κs = search needs
-
 returns : tie.Need-returns
 unfolding freshState
 returns c = rw (c .fresh-channels .ensures)
 
 pub fresh-spec : {M : Type 1} → statement M
-fresh-spec = tie.close (tie.spec fresh-channels-requires returns)
+fresh-spec = tie.close (tie.spec (λ c κs. search needs) returns)

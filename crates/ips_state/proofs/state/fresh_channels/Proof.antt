@@ -5,48 +5,24 @@ use native.Mathlib.Omega.{arith}
 use borrow.Author.Needs.{needs}
 use borrow.Author.Tests.{ltb-true, ltb-false}
 use lib.ListN.{length, replicate}
+use Rattle.facts.proofs.Lists.{length-mapped}
 use Rattle.quantity.specs.Limits.{MOST-CHANNELS}
-use Rattle.meaning.proofs.Tables.{length-mapped}
 use Rattle.ips_channel.specs.declared.state.Channel.{Channel}
 use Rattle.ips_state.proofs.Starting.{started, start-none, start-more, start-all, start-most}
 use Rattle.ips_state.proofs.state.fresh_channels.Statement.{statement}
 use Rattle.ips_state.proofs.state.fresh_channels.Tie as tie
 
 abbrev Inv-loop : tie.InvT-loop
-Inv-loop configuration channels₀ count at₀ channels at = (at ≤ count) × (at ≤ MOST-CHANNELS) × (channels ≡ started (configuration .settings) at)
+Inv-loop configuration channels₀ count at₀ channels at = (at ≤ count) × (at ≤ MOST-CHANNELS) × (channels ≡ started (configuration .starts) at)
 
 abbrev μ-loop : tie.MeasureT-loop
 μ-loop configuration channels₀ count at₀ channels at = count - at
 
-full : (c : tie.Start Inv-loop μ-loop) → length (c .args .t1 .settings) ≡ MOST-CHANNELS
+full : (c : tie.Start Inv-loop μ-loop) → length (c .args .t1 .starts) ≡ MOST-CHANNELS
 full c = search (length-mapped, needs)
-
-blank-channel-requires : tie.Need-blank-channel-requires Inv-loop μ-loop
-blank-channel-requires c κs = search needs
 
 loop-holds : tie.Need-loop-holds Inv-loop μ-loop
 loop-holds c = (omega arith, omega arith, ap (λ (channel : Channel). replicate MOST-CHANNELS channel) (c .blank-channel .ensures) ∙ start-none _)
-
-mul-fresh-channel : tie.Need-mul-fresh-channel Inv-loop μ-loop
-mul-fresh-channel c = search needs
-
-element-copy-out-fresh-channel : tie.Need-element-copy-out-fresh-channel Inv-loop μ-loop
-element-copy-out-fresh-channel c = search needs
-
-fresh-channel-requires : tie.Need-fresh-channel-requires Inv-loop μ-loop
-fresh-channel-requires c κs = search needs
-
-mul-channels : tie.Need-mul-channels Inv-loop μ-loop
-mul-channels c = search needs
-
-array-set-from-channels : tie.Need-array-set-from-channels Inv-loop μ-loop
-array-set-from-channels c = search needs
-
-add-at : tie.Need-add-at Inv-loop μ-loop
-add-at c = search needs
-
-loop-less : tie.Need-loop-less Inv-loop μ-loop
-loop-less c = search needs
 
 loop-again : tie.Need-loop-again Inv-loop μ-loop
 loop-again c =
@@ -73,15 +49,15 @@ fresh-channels-spec =
     (tie.spec
     Inv-loop
     μ-loop
-    blank-channel-requires
+    (λ c κs. search needs)
     loop-holds
-    mul-fresh-channel
-    element-copy-out-fresh-channel
-    fresh-channel-requires
-    mul-channels
-    array-set-from-channels
-    add-at
-    loop-less
+    (λ c. search needs)
+    (λ c. search needs)
+    (λ c κs. search needs)
+    (λ c. search needs)
+    (λ c. search needs)
+    (λ c. search needs)
+    (λ c. search needs)
     loop-again
     returns
     returns-2)

@@ -5,12 +5,6 @@ use Rattle.ips_state.specs.Limits.{namesFit}
 use Rattle.ips_state.proofs.survey.names_fit.Statement.{statement}
 use Rattle.ips_state.proofs.survey.names_fit.Tie as tie
 
-instance-requires : tie.Need-instance-requires
-instance-requires c κs = search needs
-
-context-requires : tie.Need-context-requires
-context-requires c κs = search needs
-
 returns : tie.Need-returns
 unfolding namesFit
 returns c = c .context .ensures ∙ rw (sym (c .before .before .instance .ensures) ∙ c .before .if1 .taken)
@@ -20,4 +14,4 @@ unfolding namesFit
 returns-2 c = c .if1 .left ∙ rw (sym (c .before .instance .ensures) ∙ c .if1 .left)
 
 pub names-fit-spec : {M : Type 1} → statement M
-names-fit-spec = tie.close (tie.spec instance-requires context-requires returns returns-2)
+names-fit-spec = tie.close (tie.spec (λ c κs. search needs) (λ c κs. search needs) returns returns-2)

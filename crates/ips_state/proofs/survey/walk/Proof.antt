@@ -7,8 +7,8 @@ use borrow.Author.Needs.{needs}
 use borrow.Author.Tests.{not-true, not-false}
 use lib.ListN.{length, take}
 use lib.Seq.{take-all}
+use Rattle.facts.proofs.Lists.{length-mapped}
 use Rattle.quantity.specs.Limits.{MOST-CHANNELS}
-use Rattle.meaning.proofs.Tables.{length-mapped}
 use Rattle.ips_state.specs.Table.{configured, channelAt}
 use Rattle.ips_state.proofs.Places.{configured-length}
 use Rattle.ips_state.proofs.Walking.{passed, upcoming, one-more, Walking, walk-start, walk-most, walk-here, walk-other, walk-unfit, walk-twice, walk-none, walk-end}
@@ -27,54 +27,30 @@ full c = search (length-mapped, needs)
 loop-holds : tie.Need-loop-holds Inv-loop μ-loop
 loop-holds c = (omega arith, walk-start _ _)
 
-mul-channel : tie.Need-mul-channel Inv-loop μ-loop
-mul-channel c = search needs
-
-element-copy-out-channel : tie.Need-element-copy-out-channel Inv-loop μ-loop
-element-copy-out-channel c = search needs
-
-cast-here : tie.Need-cast-here Inv-loop μ-loop
-cast-here c = search needs
-
-channel-fits-requires : tie.Need-channel-fits-requires Inv-loop μ-loop
-channel-fits-requires c κs = search needs
-
-outside-requires : tie.Need-outside-requires Inv-loop μ-loop
-outside-requires c κs = search needs
-
 returns : tie.Need-returns Inv-loop μ-loop
 unfolding channelAt
 returns c =
     let tested = c .before .before in
-    let turn = tested .before .before .before in
+    let turn = tested .before .before .before .before in
     let at = turn .before in
     c .outside .ensures
     ∙ walk-unfit _ _ _ _ _ _ _ (at .loop .inv .1) _ (omega arith) _ _ (upcoming _ (full (at .before)) (at .before .pre) _ (turn .loop-test .taken))
     (sym (tested .channel-fits .ensures) ∙ not-true _ (c .before .if1 .taken))
 
-array-read-if2 : tie.Need-array-read-if2 Inv-loop μ-loop
-array-read-if2 c = search needs
-
-outside-requires-2 : tie.Need-outside-requires-2 Inv-loop μ-loop
-outside-requires-2 c κs = search needs
-
 returns-2 : tie.Need-returns-2 Inv-loop μ-loop
 unfolding channelAt
 returns-2 c =
-    let turn = c .before .before .before .before .before .before in
+    let turn = c .before .before .before .before .before .before .before in
     let at = turn .before in
     c .outside2 .ensures
     ∙ walk-twice _ _ _ _ _ _ _ (at .loop .inv .1) _ (omega arith) _ _ (upcoming _ (full (at .before)) (at .before .pre) _ (turn .loop-test .taken)) (c .before .if2 .taken)
-
-array-write-seen : tie.Need-array-write-seen Inv-loop μ-loop
-array-write-seen c = search needs
 
 loop-again : tie.Need-loop-again Inv-loop μ-loop
 unfolding channelAt
 loop-again c =
     let new = c .before .before .before in
     let tested = new .before .before in
-    let turn = tested .before .before .before in
+    let turn = tested .before .before .before .before in
     let at = turn .before in
     let fits = sym (tested .channel-fits .ensures) ∙ not-false _ (new .before .if1 .left) in
     let state = at .before .args .t1 in
@@ -87,15 +63,9 @@ loop-again c =
 
 add-total : tie.Need-add-total Inv-loop μ-loop
 add-total c =
-    let at = c .before .before .before .before .before .before .before .before .before in
+    let at = c .before .before .before .before .before .before .before .before .before .before in
     let next = loop-again c in
     omega (arith, next .0, walk-most (configured (at .before .args .t1)) (at .loop .at + 1) _ _ _ _ _ _ (next .1))
-
-add-at : tie.Need-add-at Inv-loop μ-loop
-add-at c = search needs
-
-loop-less : tie.Need-loop-less Inv-loop μ-loop
-loop-less c = search needs
 
 all : (c : tie.After-loop Inv-loop μ-loop) → let at = c .before .loop in let args = c .before .before .args in
     Walking (args .id) (args .t1 .count) (configured (args .t1)) (at .seen) (at .total) (at .index) (at .start)
@@ -103,12 +73,6 @@ all c =
     let start = c .before .before in
     let state = start .args .t1 in
     rw (take-all (c .before .loop .at) (configured state) (omega (arith, configured-length state (full start) (start .pre)))) at (c .before .loop .inv .1)
-
-array-read-if4 : tie.Need-array-read-if4 Inv-loop μ-loop
-array-read-if4 c = search needs
-
-outside-requires-3 : tie.Need-outside-requires-3 Inv-loop μ-loop
-outside-requires-3 c κs = search needs
 
 returns-3 : tie.Need-returns-3 Inv-loop μ-loop
 returns-3 c =
@@ -127,21 +91,21 @@ walk-spec =
     Inv-loop
     μ-loop
     loop-holds
-    mul-channel
-    element-copy-out-channel
-    cast-here
-    channel-fits-requires
-    outside-requires
+    (λ c. search needs)
+    (λ c. search needs)
+    (λ c. search needs)
+    (λ c κs. search needs)
+    (λ c κs. search needs)
     returns
-    array-read-if2
-    outside-requires-2
+    (λ c. search needs)
+    (λ c κs. search needs)
     returns-2
-    array-write-seen
+    (λ c. search needs)
     add-total
-    add-at
-    loop-less
+    (λ c. search needs)
+    (λ c. search needs)
     loop-again
-    array-read-if4
-    outside-requires-3
+    (λ c. search needs)
+    (λ c κs. search needs)
     returns-3
     returns-4)

@@ -7,14 +7,8 @@ use Rattle.quantity.specs.declared.count.FlowSequence.{FlowSequence}
 use Rattle.quantity.proofs.count.advance.Statement.{statement}
 use Rattle.quantity.proofs.count.advance.Tie as tie
 
-cast-low : tie.Need-cast-low
-cast-low c = search needs
-
-wrapping-add-u32-requires : tie.Need-wrapping-add-u32-requires
-wrapping-add-u32-requires c κs = search needs
-
 returns : tie.Need-returns
 returns c = ap {B = FlowSequence} (λ (n : ℕ). record { 0 = n }) (omega arith)
 
 pub advance-spec : {M : Type 1} → statement M
-advance-spec = tie.close (tie.spec cast-low wrapping-add-u32-requires returns)
+advance-spec = tie.close (tie.spec (λ c. search needs) (λ c κs. search needs) returns)

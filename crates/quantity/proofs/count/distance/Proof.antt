@@ -20,15 +20,6 @@ behind-fits r h = rw (lt-ltb r (2 ^ 32) h) (record { sfits = omega arith })
 small : (r : ℕ) → r < 2 ^ 63 → toZ w64 r ≡ pos r
 small r h = toZ-ofZ w64 (pos r) (record { sfits = h })
 
-ahead-requires : tie.Need-ahead-requires
-ahead-requires c κs = search needs
-
-cast-result : tie.Need-cast-result
-cast-result c = search needs
-
-cast-result-2 : tie.Need-cast-result-2
-cast-result-2 c = search needs
-
 sub-result : tie.Need-sub-result
 sub-result c = rw (small (c .before .ahead .result) (omega arith)) (behind-fits (c .before .ahead .result) (omega arith))
 
@@ -43,9 +34,9 @@ pub distance-spec : {M : Type 1} → statement M
 distance-spec =
     tie.close
     (tie.spec
-    ahead-requires
-    cast-result
-    cast-result-2
+    (λ c κs. search needs)
+    (λ c. search needs)
+    (λ c. search needs)
     sub-result
     returns
     returns-2)

@@ -6,12 +6,6 @@ use Rattle.quantity.proofs.Distance.{fits-ahead, fits-behind}
 use Rattle.quantity.proofs.count.fits.Statement.{statement}
 use Rattle.quantity.proofs.count.fits.Tie as tie
 
-ahead-requires : tie.Need-ahead-requires
-ahead-requires c κs = search needs
-
-cast-result : tie.Need-cast-result
-cast-result c = search needs
-
 returns : tie.Need-returns
 returns c = sym (fits-ahead _ _ _ (c .before .before .ahead .ensures) _ (omega arith))
 
@@ -19,4 +13,4 @@ returns-2 : tie.Need-returns-2
 returns-2 c = sym (fits-behind _ _ _ (c .before .ahead .ensures) _ (omega arith) (omega arith))
 
 pub fits-spec : {M : Type 1} → statement M
-fits-spec = tie.close (tie.spec ahead-requires cast-result returns returns-2)
+fits-spec = tie.close (tie.spec (λ c κs. search needs) (λ c. search needs) returns returns-2)

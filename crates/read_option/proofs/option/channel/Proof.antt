@@ -11,9 +11,6 @@ returns : tie.Need-returns
 unfolding statedOf lengthListed
 returns c = simp (ne-eqb _ 1 (c .if1 .taken))
 
-shared-slice-read-id : tie.Need-shared-slice-read-id
-shared-slice-read-id c = search needs
-
 returns-2 : tie.Need-returns-2
 unfolding statedOf lengthListed valueListed
 returns-2 c = simp (eq-eqb _ 1 (c .before .before .if1 .left), le-ltb _ RESERVED-CHANNEL (c .if2 .taken))
@@ -23,4 +20,4 @@ unfolding statedOf lengthListed valueListed itemOf
 returns-3 c = simp (eq-eqb _ 1 (c .before .before .if1 .left), lt-ltb _ RESERVED-CHANNEL (c .if2 .left))
 
 pub channel-spec : {M : Type 1} → statement M
-channel-spec = tie.close (tie.spec returns shared-slice-read-id returns-2 returns-3)
+channel-spec = tie.close (tie.spec returns (λ c. search needs) returns-2 returns-3)

@@ -10,12 +10,9 @@ returns : tie.Need-returns
 unfolding statedOf lengthListed
 returns c = simp (ne-eqb _ 1 (c .if1 .taken))
 
-shared-slice-read-t5 : tie.Need-shared-slice-read-t5
-shared-slice-read-t5 c = search needs
-
 returns-2 : tie.Need-returns-2
 unfolding statedOf lengthListed valueListed itemOf
 returns-2 c = simp (eq-eqb _ 1 (c .before .if1 .left))
 
 pub datalink-spec : {M : Type 1} → statement M
-datalink-spec = tie.close (tie.spec returns shared-slice-read-t5 returns-2)
+datalink-spec = tie.close (tie.spec returns (λ c. search needs) returns-2)

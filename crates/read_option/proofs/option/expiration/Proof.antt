@@ -10,9 +10,6 @@ returns : tie.Need-returns
 unfolding statedOf lengthListed
 returns c = simp (ne-eqb _ 4 (c .if1 .taken))
 
-read-requires : tie.Need-read-requires
-read-requires c κs = search needs
-
 returns-2 : tie.Need-returns-2
 unfolding statedOf lengthListed valueListed
 returns-2 c = simp (eq-eqb _ 4 (c .before .before .if1 .left), ← c .before .read .ensures .0, eq-eqb _ 0 (c .if2 .taken))
@@ -25,4 +22,4 @@ unfolding statedOf lengthListed valueListed itemOf
 returns-3 c = simp (eq-eqb _ 4 (c .before .before .if1 .left), ← c .before .read .ensures .0, ne-eqb _ 0 (c .if2 .left))
 
 pub expiration-spec : {M : Type 1} → statement M
-expiration-spec = tie.close (tie.spec returns read-requires returns-2 cast-t5 returns-3)
+expiration-spec = tie.close (tie.spec returns (λ c κs. search needs) returns-2 cast-t5 returns-3)

@@ -2,10 +2,10 @@
 use borrow.Author.Needs.{needs}
 use borrow.Author.Tests.{le-ltb, lt-ltb, eq-eqb, ne-eqb}
 use lib.ListN.{length-drop}
+use Rattle.facts.proofs.Lists.{rest-part}
 use Rattle.quantity.specs.Limits.{RESERVED-CHANNEL}
 use Rattle.meaning.specs.Kinds.{lengthListed, valueListed}
 use Rattle.read_option.specs.Items.{itemOf, statedOf}
-use Rattle.read_option.proofs.Contents.{rest-part}
 use Rattle.read_option.proofs.option.sequence.Statement.{statement}
 use Rattle.read_option.proofs.option.sequence.Tie as tie
 
@@ -13,24 +13,9 @@ returns : tie.Need-returns
 unfolding statedOf lengthListed
 returns c = simp (ne-eqb _ 5 (c .if1 .taken))
 
-shared-slice-read-channel : tie.Need-shared-slice-read-channel
-shared-slice-read-channel c = search needs
-
 returns-2 : tie.Need-returns-2
 unfolding statedOf lengthListed valueListed
 returns-2 c = simp (eq-eqb _ 5 (c .before .before .if1 .left), le-ltb _ RESERVED-CHANNEL (c .if2 .taken))
-
-sub-read : tie.Need-sub-read
-sub-read c = search needs
-
-part-read-start : tie.Need-part-read-start
-part-read-start c = search needs
-
-part-read-end : tie.Need-part-read-end
-part-read-end c = search needs
-
-read-requires : tie.Need-read-requires
-read-requires c κs = search needs
 
 cast-word : tie.Need-cast-word
 cast-word c = record { fits = rw (rest-part, length-drop, c .before .before .before .before .if1 .left) at (c .read .ensures .1) }
@@ -46,11 +31,11 @@ sequence-spec =
     tie.close
     (tie.spec
     returns
-    shared-slice-read-channel
+    (λ c. search needs)
     returns-2
-    sub-read
-    part-read-start
-    part-read-end
-    read-requires
+    (λ c. search needs)
+    (λ c. search needs)
+    (λ c. search needs)
+    (λ c κs. search needs)
     cast-word
     returns-3)

@@ -11,15 +11,9 @@ returns : tie.Need-returns
 unfolding statedOf lengthListed
 returns c = simp (ne-eqb _ 2 (c .if1 .taken))
 
-shared-slice-read-channel : tie.Need-shared-slice-read-channel
-shared-slice-read-channel c = search needs
-
 returns-2 : tie.Need-returns-2
 unfolding statedOf lengthListed valueListed
 returns-2 c = simp (eq-eqb _ 2 (c .before .before .if1 .left), le-ltb _ RESERVED-CHANNEL (c .if2 .taken))
-
-shared-slice-read-t6 : tie.Need-shared-slice-read-t6
-shared-slice-read-t6 c = search needs
 
 returns-3 : tie.Need-returns-3
 unfolding statedOf lengthListed valueListed itemOf
@@ -27,4 +21,4 @@ returns-3 c = simp (eq-eqb _ 2 (c .before .before .before .if1 .left), lt-ltb _ 
 
 pub status-spec : {M : Type 1} → statement M
 status-spec =
-    tie.close (tie.spec returns shared-slice-read-channel returns-2 shared-slice-read-t6 returns-3)
+    tie.close (tie.spec returns (λ c. search needs) returns-2 (λ c. search needs) returns-3)

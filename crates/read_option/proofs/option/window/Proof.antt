@@ -5,10 +5,11 @@ use native.Mathlib.Omega.{arith}
 use borrow.Author.Needs.{needs}
 use borrow.Author.Tests.{le-ltb, lt-ltb, eq-eqb, ne-eqb, not-true, not-false}
 use lib.ListN.{length, length-drop}
+use Rattle.facts.proofs.Lists.{rest-part}
 use Rattle.quantity.specs.Limits.{RESERVED-CHANNEL}
 use Rattle.meaning.specs.Kinds.{lengthListed, valueListed, FLOW-WINDOW}
 use Rattle.read_option.specs.Items.{itemOf, statedOf}
-use Rattle.read_option.proofs.Contents.{rest-part, window-there, window-five}
+use Rattle.read_option.proofs.Contents.{window-there, window-five}
 use Rattle.read_option.proofs.option.window.Statement.{statement}
 use Rattle.read_option.proofs.option.window.Tie as tie
 
@@ -19,9 +20,6 @@ listed c = sym (c .before .is-window-length .ensures) ∙ not-false _ (c .if1 .l
 -- the field is there
 five : (c : tie.Else3) → length (c .before .before .before .before .before .before .args .content .now) ≡ 5
 five c = window-five _ (listed (c .before .before .before)) (c .if3 .left)
-
-is-window-length-requires : tie.Need-is-window-length-requires
-is-window-length-requires c κs = search needs
 
 returns : tie.Need-returns
 unfolding statedOf
@@ -44,9 +42,6 @@ sub-read c = omega (arith, five c)
 part-read-start : tie.Need-part-read-start
 part-read-start c = omega (arith, five c)
 
-part-read-end : tie.Need-part-read-end
-part-read-end c = search needs
-
 read-requires : tie.Need-read-requires
 read-requires c κs = rw (rest-part, length-drop, five (c .before)) (omega arith)
 
@@ -63,14 +58,14 @@ pub window-spec : {M : Type 1} → statement M
 window-spec =
     tie.close
     (tie.spec
-    is-window-length-requires
+    (λ c κs. search needs)
     returns
     shared-slice-read-channel
     returns-2
     returns-3
     sub-read
     part-read-start
-    part-read-end
+    (λ c. search needs)
     read-requires
     cast-word
     returns-4)

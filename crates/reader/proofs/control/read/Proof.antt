@@ -1,7 +1,7 @@
 -- `control::read` meets its contract, by the plane of the datagram. Assumes nothing.
 use mathlib.Core.Path.{sym, _∙_}
 use borrow.Author.Needs.{needs}
-use Rattle.read_rules.specs.Controls.{controlOther}
+use Rattle.read_control.specs.Message.{controlOther}
 use Rattle.reader.specs.Readings.{readControl}
 use Rattle.reader.proofs.Planes.{by-plane}
 use Rattle.reader.proofs.control.read.Statement.{statement}

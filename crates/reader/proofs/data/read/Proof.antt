@@ -1,7 +1,8 @@
 -- `reader::data::read` is the definition of reading a data message: 1, 2, then the options. Assumes nothing.
 use borrow.Author.Needs.{needs}
 use mathlib.Core.Path.{sym, _∙_}
-use Rattle.reader.specs.Readings.{dataOther, readData}
+use Rattle.read_data.specs.Message.{dataOther}
+use Rattle.reader.specs.Readings.{readData}
 use Rattle.reader.proofs.Planes.{by-plane}
 use Rattle.reader.proofs.data.read.Statement.{statement}
 use Rattle.reader.proofs.data.read.Tie as tie

@@ -2,30 +2,18 @@
 use borrow.Author.Needs.{needs}
 use borrow.Author.Tests.{le-ltb, lt-ltb, eq-eqb, ne-eqb}
 use Rattle.quantity.specs.Limits.{LONGEST-DATAGRAM}
-use Rattle.read_rules.specs.Judging.{CURRENT-VERSION}
+use Rattle.reader.specs.Header.{CURRENT-VERSION}
 use Rattle.reader.specs.Readings.{planeOf}
 use Rattle.reader.proofs.header.plane.Statement.{statement}
 use Rattle.reader.proofs.header.plane.Tie as tie
-
-refused-requires : tie.Need-refused-requires
-refused-requires c κs = search needs
 
 returns : tie.Need-returns
 unfolding planeOf
 returns c = simp (lt-ltb LONGEST-DATAGRAM _ (c .before .if1 .taken)) (c .refused .ensures)
 
-refused-requires-2 : tie.Need-refused-requires-2
-refused-requires-2 c κs = search needs
-
 returns-2 : tie.Need-returns-2
 unfolding planeOf
 returns-2 c = simp (le-ltb LONGEST-DATAGRAM _ (c .before .before .if1 .left), eq-eqb _ 0 (c .before .if2 .taken)) (c .refused2 .ensures)
-
-shared-slice-read-header : tie.Need-shared-slice-read-header
-shared-slice-read-header c = search needs
-
-refused-requires-3 : tie.Need-refused-requires-3
-refused-requires-3 c κs = search needs
 
 returns-3 : tie.Need-returns-3
 unfolding planeOf
@@ -49,12 +37,12 @@ pub plane-spec : {M : Type 1} → statement M
 plane-spec =
     tie.close
     (tie.spec
-    refused-requires
+    (λ c κs. search needs)
     returns
-    refused-requires-2
+    (λ c κs. search needs)
     returns-2
-    shared-slice-read-header
-    refused-requires-3
+    (λ c. search needs)
+    (λ c κs. search needs)
     returns-3
     returns-4
     returns-5)

@@ -5,8 +5,9 @@ use native.Mathlib.Omega.{arith}
 use borrow.Author.Needs.{needs}
 use borrow.Author.Tests.{not-true, not-false}
 use lib.ListN.{drop}
+use Rattle.facts.proofs.Lists.{length-mapped}
 use Rattle.store.specs.Waiting.{waiting}
-use Rattle.store.proofs.Entries.{length-mapped, Upcoming, upcoming, nothing-left}
+use Rattle.store.proofs.Entries.{Upcoming, upcoming, nothing-left}
 use Rattle.store.proofs.Turns.{Judging, judge-start, judge-on, judge-out, judge-end, ill-many, ill-length}
 use Rattle.store.proofs.queue.well_formed.Statement.{statement}
 use Rattle.store.proofs.queue.well_formed.Tie as tie
@@ -26,15 +27,6 @@ returns c = ill-many _ _ (c .if1 .taken)
 loop-holds : tie.Need-loop-holds Inv-loop μ-loop
 loop-holds c = judge-start _
 
-mul-entry : tie.Need-mul-entry Inv-loop μ-loop
-mul-entry c = search needs
-
-element-copy-out-entry : tie.Need-element-copy-out-entry Inv-loop μ-loop
-element-copy-out-entry c = search needs
-
-is-within-requires : tie.Need-is-within-requires Inv-loop μ-loop
-is-within-requires c κs = search needs
-
 returns-2 : tie.Need-returns-2 Inv-loop μ-loop
 returns-2 c =
     let turn = c .before .before .before .before in
@@ -50,12 +42,6 @@ loop-again c =
 add-bytes : tie.Need-add-bytes Inv-loop μ-loop
 add-bytes c = omega (arith, loop-again c .most)
 
-add-at : tie.Need-add-at Inv-loop μ-loop
-add-at c = search needs
-
-loop-less : tie.Need-loop-less Inv-loop μ-loop
-loop-less c = search needs
-
 returns-3 : tie.Need-returns-3 Inv-loop μ-loop
 returns-3 c =
     let over = c .before in
@@ -69,12 +55,12 @@ well-formed-spec =
     μ-loop
     returns
     loop-holds
-    mul-entry
-    element-copy-out-entry
-    is-within-requires
+    (λ c. search needs)
+    (λ c. search needs)
+    (λ c κs. search needs)
     returns-2
     add-bytes
-    add-at
-    loop-less
+    (λ c. search needs)
+    (λ c. search needs)
     loop-again
     returns-3)

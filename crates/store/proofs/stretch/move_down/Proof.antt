@@ -22,31 +22,10 @@ returns c = rw (c .if1 .taken) (moved-home _ _ _)
 loop-holds : tie.Need-loop-holds Inv-loop μ-loop
 loop-holds c = (omega arith, moved-none _ (c .before .args .from) _, refl)
 
-add-store : tie.Need-add-store Inv-loop μ-loop
-add-store c = search needs
-
-slice-read-store : tie.Need-slice-read-store Inv-loop μ-loop
-slice-read-store c = search needs
-
-add-store-2 : tie.Need-add-store-2 Inv-loop μ-loop
-add-store-2 c = search needs
-
-slice-write-store : tie.Need-slice-write-store Inv-loop μ-loop
-slice-write-store c = search needs
-
-add-moved : tie.Need-add-moved Inv-loop μ-loop
-add-moved c = search needs
-
-loop-less : tie.Need-loop-less Inv-loop μ-loop
-loop-less c = search needs
-
 loop-again : tie.Need-loop-again Inv-loop μ-loop
 loop-again c =
     let inv = c .before .before .before .loop .inv in
     (omega arith, moved-more _ _ _ _ _ (inv .1) (omega arith) (omega arith), simp length-set (inv .2))
-
-same-length : tie.Need-same-length Inv-loop μ-loop
-same-length c = search needs
 
 returns-2 : tie.Need-returns-2 Inv-loop μ-loop
 returns-2 c =
@@ -62,12 +41,12 @@ move-down-spec =
     μ-loop
     returns
     loop-holds
-    add-store
-    slice-read-store
-    add-store-2
-    slice-write-store
-    add-moved
-    loop-less
+    (λ c. search needs)
+    (λ c. search needs)
+    (λ c. search needs)
+    (λ c. search needs)
+    (λ c. search needs)
+    (λ c. search needs)
     loop-again
-    same-length
+    (λ c. search needs)
     returns-2)

@@ -4,10 +4,11 @@ use Prim.Native.Nat.{_-_}
 use native.Mathlib.Omega.{arith}
 use borrow.Author.Needs.{needs}
 use lib.ListN.{length, drop}
+use Rattle.facts.proofs.Lists.{length-mapped}
 use Rattle.store.specs.Packets.{alive, joined}
 use Rattle.store.specs.Waiting.{waiting}
 use Rattle.store.specs.Parts.{packetsFrom}
-use Rattle.store.proofs.Entries.{length-mapped, Upcoming, upcoming, nothing-left}
+use Rattle.store.proofs.Entries.{Upcoming, upcoming, nothing-left}
 use Rattle.store.proofs.Turns.{Going, going-start, going-fits, going-on, going-more, going-end}
 use Rattle.store.proofs.waiting.compact.Statement.{statement}
 use Rattle.store.proofs.waiting.compact.Tie as tie
@@ -25,20 +26,8 @@ step c = upcoming _ _ (search (length-mapped, needs)) (c .before .before .before
 loop-holds : tie.Need-loop-holds Inv-loop μ-loop
 loop-holds c = going-start _ _ _ _ _ (c .before .pre)
 
-mul-entry : tie.Need-mul-entry Inv-loop μ-loop
-mul-entry c = search needs
-
-element-copy-out-entry : tie.Need-element-copy-out-entry Inv-loop μ-loop
-element-copy-out-entry c = search needs
-
 add-next : tie.Need-add-next Inv-loop μ-loop
 add-next c = let turn = c .before .before in omega (arith, going-fits _ _ _ _ _ _ _ _ _ (step turn) (turn .before .loop .inv))
-
-add-at : tie.Need-add-at Inv-loop μ-loop
-add-at c = search needs
-
-lasts-requires : tie.Need-lasts-requires Inv-loop μ-loop
-lasts-requires c κs = search needs
 
 move-down-requires : tie.Need-move-down-requires Inv-loop μ-loop
 move-down-requires c κs =
@@ -55,12 +44,6 @@ loop-again c =
 
 add-to : tie.Need-add-to Inv-loop μ-loop
 add-to c = omega (arith, loop-again c)
-
-loop-less : tie.Need-loop-less Inv-loop μ-loop
-loop-less c = search needs
-
-loop-less-2 : tie.Need-loop-less-2 Inv-loop μ-loop
-loop-less-2 c = search needs
 
 loop-again-2 : tie.Need-loop-again-2 Inv-loop μ-loop
 loop-again-2 c =
@@ -82,16 +65,16 @@ compact-spec =
     Inv-loop
     μ-loop
     loop-holds
-    mul-entry
-    element-copy-out-entry
+    (λ c. search needs)
+    (λ c. search needs)
     add-next
-    add-at
-    lasts-requires
+    (λ c. search needs)
+    (λ c κs. search needs)
     move-down-requires
     add-to
-    loop-less
+    (λ c. search needs)
     loop-again
-    loop-less-2
+    (λ c. search needs)
     loop-again-2
     same-length
     returns)

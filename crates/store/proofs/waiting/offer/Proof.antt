@@ -16,9 +16,6 @@ room : (c : tie.Else1) → let load = c .before .before in let args = load .befo
     Room (args .queue) (now (args .store)) (args .time) (load .load .result) (packetFor (now (args .packet)) (args .expiry))
 room c = let load = c .before .before in room-for _ _ _ _ (load .before .before .before .pre) (load .load .ensures) _ _ (c .before .is-full .ensures) (c .if1 .left)
 
-load-requires : tie.Need-load-requires
-load-requires c κs = search needs
-
 is-full-requires : tie.Need-is-full-requires
 is-full-requires c κs = omega (arith, load-fits _ _ _ _ (c .before .before .before .pre) (c .load .ensures))
 
@@ -27,18 +24,12 @@ returns c =
     let load = c .before .before in
     refused _ _ _ _ (judged _ _ _ _ (load .before .before .before .pre) (load .load .ensures) _ _ (c .before .is-full .ensures) ∙ c .if1 .taken)
 
-expire-requires : tie.Need-expire-requires
-expire-requires c κs = search needs
-
 join-requires : tie.Need-join-requires
 join-requires c κs =
     let expired = c .before .before .before in
     let r = room (expired .before .before) in
     let few : expired .expire .result .count < MOST-WAITING = omega (arith, r .few, holds-count _ _ _ _ (expired .expire .ensures)) in
     (few, omega (arith, r .fits, expired .expire .kept .1 .0))
-
-same-length : tie.Need-same-length
-same-length c = search needs
 
 returns-2 : tie.Need-returns-2
 returns-2 c =
@@ -51,10 +42,10 @@ pub offer-spec : {M : Type 1} → statement M
 offer-spec =
     tie.close
     (tie.spec
-    load-requires
+    (λ c κs. search needs)
     is-full-requires
     returns
-    expire-requires
+    (λ c κs. search needs)
     join-requires
-    same-length
+    (λ c. search needs)
     returns-2)

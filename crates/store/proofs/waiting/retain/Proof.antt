@@ -4,27 +4,6 @@ use Rattle.store.proofs.Changes.{retained}
 use Rattle.store.proofs.waiting.retain.Statement.{statement}
 use Rattle.store.proofs.waiting.retain.Tie as tie
 
-compact-requires : tie.Need-compact-requires
-compact-requires c κs = search needs
-
-sub-fill-zeros : tie.Need-sub-fill-zeros
-sub-fill-zeros c = search needs
-
-part-fill-zeros-start : tie.Need-part-fill-zeros-start
-part-fill-zeros-start c = search needs
-
-part-fill-zeros-end : tie.Need-part-fill-zeros-end
-part-fill-zeros-end c = search needs
-
-fill-zeros-requires : tie.Need-fill-zeros-requires
-fill-zeros-requires c κs = search needs
-
-keep-requires : tie.Need-keep-requires
-keep-requires c κs = search needs
-
-same-length : tie.Need-same-length
-same-length c = search needs
-
 returns : tie.Need-returns
 returns c =
     let zeroed = c .before .before .before in
@@ -36,11 +15,11 @@ pub retain-spec : {M : Type 1} → statement M
 retain-spec =
     tie.close
     (tie.spec
-    compact-requires
-    sub-fill-zeros
-    part-fill-zeros-start
-    part-fill-zeros-end
-    fill-zeros-requires
-    keep-requires
-    same-length
+    (λ c κs. search needs)
+    (λ c. search needs)
+    (λ c. search needs)
+    (λ c. search needs)
+    (λ c κs. search needs)
+    (λ c κs. search needs)
+    (λ c. search needs)
     returns)

@@ -1,5 +1,6 @@
 -- `words::stripped` meets its contract: nothing of an empty rest, and else what stands behind its first byte. Assumes nothing.
-use Rattle.text.proofs.Spaces.{none-is, rest-is}
+use Rattle.facts.proofs.Lists.{rest-part}
+use Rattle.text.proofs.Spaces.{none-is}
 use borrow.Author.Needs.{needs}
 use Rattle.text.proofs.words.stripped.Statement.{statement}
 use Rattle.text.proofs.words.stripped.Tie as tie
@@ -26,7 +27,7 @@ part-result-end-2 : tie.Need-part-result-end-2
 part-result-end-2 c = search needs
 
 returns-2 : tie.Need-returns-2
-returns-2 c = rest-is (c .before .before .args .rest .now) 1
+returns-2 c = rest-part 1 (c .before .before .args .rest .now)
 
 pub stripped-spec : {M : Type 1} → statement M
 stripped-spec =

@@ -26,9 +26,6 @@ mul-value c =
     let h : l .value * 256 + 0 < 2 ^ 64 = fits-more {x = 0} (c .loop-test .taken) (c .before .before .pre) (l .inv .1) (lit< tt) in
     record { fits = omega arith }
 
-shared-slice-read-value : tie.Need-shared-slice-read-value Inv-loop μ-loop
-shared-slice-read-value c = omega arith
-
 cast-value : tie.Need-cast-value Inv-loop μ-loop
 cast-value c = omega (arith, c .shared-slice-known .given (c .before .before .loop .i))
 
@@ -36,12 +33,6 @@ add-value : tie.Need-add-value Inv-loop μ-loop
 add-value c =
     let l = c .before .before .loop in
     record { fits = fits-more (c .before .loop-test .taken) (c .before .before .before .pre) (l .inv .1) (c .shared-slice-known .given (l .i) .fits) }
-
-add-i : tie.Need-add-i Inv-loop μ-loop
-add-i c = omega arith
-
-loop-less : tie.Need-loop-less Inv-loop μ-loop
-loop-less c = omega arith
 
 loop-again : tie.Need-loop-again Inv-loop μ-loop
 loop-again c =
@@ -62,10 +53,10 @@ read-spec =
     μ-loop
     loop-holds
     mul-value
-    shared-slice-read-value
+    (λ c. omega arith)
     cast-value
     add-value
-    add-i
-    loop-less
+    (λ c. omega arith)
+    (λ c. omega arith)
     loop-again
     returns)

@@ -14,17 +14,11 @@ use Rattle.wire.proofs.option.first.Tie as tie
 returns : tie.Need-returns
 returns c = frame-short _ (c .if1 .taken)
 
-shared-slice-read-size : tie.Need-shared-slice-read-size
-shared-slice-read-size c = search needs
-
 cast-size : tie.Need-cast-size
 cast-size c = omega (arith, c .shared-slice-known .given 1, c .shared-slice-known .given 2)
 
 mul-size : tie.Need-mul-size
 mul-size c = omega (arith, c .shared-slice-known .given 1, c .shared-slice-known .given 2)
-
-shared-slice-read-size-2 : tie.Need-shared-slice-read-size-2
-shared-slice-read-size-2 c = search needs
 
 cast-size-2 : tie.Need-cast-size-2
 cast-size-2 c = omega (arith, c .shared-slice-known2 .given 1, c .shared-slice-known2 .given 2)
@@ -32,16 +26,10 @@ cast-size-2 c = omega (arith, c .shared-slice-known2 .given 1, c .shared-slice-k
 add-size : tie.Need-add-size
 add-size c = omega (arith, c .shared-slice-known2 .given 1, c .shared-slice-known2 .given 2)
 
-sub-if2 : tie.Need-sub-if2
-sub-if2 c = search needs
-
 returns-2 : tie.Need-returns-2
 returns-2 c =
     let start = c .before .before .before .before in
     frame-past _ (c .before .before .before .if1 .left) (omega (arith, length-at (now (start .args .rest)) (c .before .before .before .if1 .left)))
-
-shared-slice-read-t6 : tie.Need-shared-slice-read-t6
-shared-slice-read-t6 c = search needs
 
 returns-3 : tie.Need-returns-3
 returns-3 c =
@@ -56,13 +44,13 @@ first-spec =
     tie.close
     (tie.spec
     returns
-    shared-slice-read-size
+    (λ c. search needs)
     cast-size
     mul-size
-    shared-slice-read-size-2
+    (λ c. search needs)
     cast-size-2
     add-size
-    sub-if2
+    (λ c. search needs)
     returns-2
-    shared-slice-read-t6
+    (λ c. search needs)
     returns-3)

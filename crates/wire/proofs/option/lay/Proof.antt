@@ -8,17 +8,8 @@ use Rattle.wire.proofs.Options.{option-length, lay-all, laid-same}
 use Rattle.wire.proofs.option.lay.Statement.{statement}
 use Rattle.wire.proofs.option.lay.Tie as tie
 
-slice-write-out : tie.Need-slice-write-out
-slice-write-out c = search needs
-
-cast-out : tie.Need-cast-out
-cast-out c = search needs
-
 slice-write-out-2 : tie.Need-slice-write-out-2
 slice-write-out-2 c = simp length-set (omega arith)
-
-cast-out-2 : tie.Need-cast-out-2
-cast-out-2 c = search needs
 
 slice-write-out-3 : tie.Need-slice-write-out-3
 slice-write-out-3 c = simp length-set (omega arith)
@@ -29,14 +20,8 @@ sub-copy c = simp length-set (omega arith)
 part-copy-start : tie.Need-part-copy-start
 part-copy-start c = simp length-set (omega arith)
 
-part-copy-end : tie.Need-part-copy-end
-part-copy-end c = search needs
-
 copy-requires : tie.Need-copy-requires
 copy-requires c κs = simp (length-take, length-drop, length-set) (omega arith)
-
-add-result : tie.Need-add-result
-add-result c = search needs
 
 same-length : tie.Need-same-length
 same-length c =
@@ -54,15 +39,15 @@ pub lay-spec : {M : Type 1} → statement M
 lay-spec =
     tie.close
     (tie.spec
-    slice-write-out
-    cast-out
+    (λ c. search needs)
+    (λ c. search needs)
     slice-write-out-2
-    cast-out-2
+    (λ c. search needs)
     slice-write-out-3
     sub-copy
     part-copy-start
-    part-copy-end
+    (λ c. search needs)
     copy-requires
-    add-result
+    (λ c. search needs)
     same-length
     returns)

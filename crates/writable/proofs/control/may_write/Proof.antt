@@ -4,21 +4,6 @@ use Rattle.writable.proofs.Places.{control-allowed}
 use Rattle.writable.proofs.control.may_write.Statement.{statement}
 use Rattle.writable.proofs.control.may_write.Tie as tie
 
-datalink-requires : tie.Need-datalink-requires
-datalink-requires c κs = search needs
-
-instance-requires : tie.Need-instance-requires
-instance-requires c κs = search needs
-
-context-requires : tie.Need-context-requires
-context-requires c κs = search needs
-
-tables-requires : tie.Need-tables-requires
-tables-requires c κs = search needs
-
-primary-requires : tie.Need-primary-requires
-primary-requires c κs = search needs
-
 returns : tie.Need-returns
 returns c =
     let tables = c .before in
@@ -52,11 +37,11 @@ pub may-write-spec : {M : Type 1} → statement M
 may-write-spec =
     tie.close
     (tie.spec
-    datalink-requires
-    instance-requires
-    context-requires
-    tables-requires
-    primary-requires
+    (λ c κs. search needs)
+    (λ c κs. search needs)
+    (λ c κs. search needs)
+    (λ c κs. search needs)
+    (λ c κs. search needs)
     returns
     returns-2
     returns-3

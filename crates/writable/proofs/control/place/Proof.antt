@@ -3,15 +3,6 @@ use borrow.Author.Needs.{needs}
 use Rattle.writable.proofs.control.place.Statement.{statement}
 use Rattle.writable.proofs.control.place.Tie as tie
 
-status-requires : tie.Need-status-requires
-status-requires c κs = search needs
-
-sequence-requires : tie.Need-sequence-requires
-sequence-requires c κs = search needs
-
-window-requires : tie.Need-window-requires
-window-requires c κs = search needs
-
 returns : tie.Need-returns
 returns c =
     let second = c .before in
@@ -29,4 +20,4 @@ returns-3 c = rw (← c .before .status .ensures, c .if1 .left)
 pub place-spec : {M : Type 1} → statement M
 place-spec =
     tie.close
-    (tie.spec status-requires sequence-requires window-requires returns returns-2 returns-3)
+    (tie.spec (λ c κs. search needs) (λ c κs. search needs) (λ c κs. search needs) returns returns-2 returns-3)

@@ -3,24 +3,6 @@ use borrow.Author.Needs.{needs}
 use Rattle.writable.proofs.control.primary.Statement.{statement}
 use Rattle.writable.proofs.control.primary.Tie as tie
 
-array-copy-out-cell : tie.Need-array-copy-out-cell
-array-copy-out-cell c = search needs
-
-enum-told : tie.Need-enum-told
-enum-told c = search needs
-
-enum-told-2 : tie.Need-enum-told-2
-enum-told-2 c = search needs
-
-enum-told-3 : tie.Need-enum-told-3
-enum-told-3 c = search needs
-
-enum-told-4 : tie.Need-enum-told-4
-enum-told-4 c = search needs
-
-returns : tie.Need-returns
-returns c = search needs
-
 returns-2 : tie.Need-returns-2
 returns-2 c = rw (c .before .before .enum-told2 .given .1, c .enum-told3 .given .1)
 
@@ -31,11 +13,11 @@ pub primary-spec : {M : Type 1} → statement M
 primary-spec =
     tie.close
     (tie.spec
-    array-copy-out-cell
-    enum-told
-    enum-told-2
-    enum-told-3
-    enum-told-4
-    returns
+    (λ c. search needs)
+    (λ c. search needs)
+    (λ c. search needs)
+    (λ c. search needs)
+    (λ c. search needs)
+    (λ c. search needs)
     returns-2
     returns-3)

@@ -4,18 +4,6 @@ use Rattle.writable.specs.Allowed.{dataAllowed}
 use Rattle.writable.proofs.data.may_write.Statement.{statement}
 use Rattle.writable.proofs.data.may_write.Tie as tie
 
-datalink-requires : tie.Need-datalink-requires
-datalink-requires c κs = search needs
-
-counted-requires : tie.Need-counted-requires
-counted-requires c κs = search needs
-
-channel-requires : tie.Need-channel-requires
-channel-requires c κs = search needs
-
-expiration-requires : tie.Need-expiration-requires
-expiration-requires c κs = search needs
-
 returns : tie.Need-returns
 unfolding dataAllowed
 returns c =
@@ -53,10 +41,10 @@ pub may-write-spec : {M : Type 1} → statement M
 may-write-spec =
     tie.close
     (tie.spec
-    datalink-requires
-    counted-requires
-    channel-requires
-    expiration-requires
+    (λ c κs. search needs)
+    (λ c κs. search needs)
+    (λ c κs. search needs)
+    (λ c κs. search needs)
     returns
     returns-2
     returns-3

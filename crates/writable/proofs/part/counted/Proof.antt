@@ -3,27 +3,6 @@ use borrow.Author.Needs.{needs}
 use Rattle.writable.proofs.part.counted.Statement.{statement}
 use Rattle.writable.proofs.part.counted.Tie as tie
 
-enum-told : tie.Need-enum-told
-enum-told c = search needs
-
-enum-known-counted : tie.Need-enum-known-counted
-enum-known-counted c = search needs
-
-enum-told-2 : tie.Need-enum-told-2
-enum-told-2 c = search needs
-
-enum-known-channel : tie.Need-enum-known-channel
-enum-known-channel c = search needs
-
-may-hold-requires : tie.Need-may-hold-requires
-may-hold-requires c κs = search needs
-
-returns : tie.Need-returns
-returns c = search needs
-
-returns-2 : tie.Need-returns-2
-returns-2 c = search needs
-
 returns-3 : tie.Need-returns-3
 returns-3 c =
     let named = c .before .before .before .channel .given in
@@ -38,12 +17,12 @@ pub counted-spec : {M : Type 1} → statement M
 counted-spec =
     tie.close
     (tie.spec
-    enum-told
-    enum-known-counted
-    enum-told-2
-    enum-known-channel
-    may-hold-requires
-    returns
-    returns-2
+    (λ c. search needs)
+    (λ c. search needs)
+    (λ c. search needs)
+    (λ c. search needs)
+    (λ c κs. search needs)
+    (λ c. search needs)
+    (λ c. search needs)
     returns-3
     returns-4)

@@ -17,12 +17,6 @@ abbrev μ-loop : tie.MeasureT-loop
 loop-holds : tie.Need-loop-holds Inv-loop μ-loop
 loop-holds c = refl
 
-sub-i : tie.Need-sub-i Inv-loop μ-loop
-sub-i c = omega arith
-
-loop-less : tie.Need-loop-less Inv-loop μ-loop
-loop-less c = omega arith
-
 loop-again : tie.Need-loop-again Inv-loop μ-loop
 loop-again c = rw (← fits-less _ _ (c .loop-test .taken)) (c .before .loop .inv)
 
@@ -30,4 +24,4 @@ returns : tie.Need-returns Inv-loop μ-loop
 returns c = fits-nothing (c .before .loop .left) ∙ rw (le-zero (c .loop-test .left)) at (c .before .loop .inv)
 
 pub fits-spec : {M : Type 1} → statement M
-fits-spec = tie.close (tie.spec Inv-loop μ-loop loop-holds sub-i loop-less loop-again returns)
+fits-spec = tie.close (tie.spec Inv-loop μ-loop loop-holds (λ c. omega arith) (λ c. omega arith) loop-again returns)

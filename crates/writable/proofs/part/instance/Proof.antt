@@ -5,21 +5,9 @@ use Rattle.meaning.specs.Kinds.{lengthListed}
 use Rattle.writable.proofs.part.instance.Statement.{statement}
 use Rattle.writable.proofs.part.instance.Tie as tie
 
-enum-told : tie.Need-enum-told
-enum-told c = search needs
-
-enum-known-instance : tie.Need-enum-known-instance
-enum-known-instance c = search needs
-
-name-requires : tie.Need-name-requires
-name-requires c κs = search needs
-
-returns : tie.Need-returns
-returns c = search needs
-
 returns-2 : tie.Need-returns-2
 unfolding lengthListed
 returns-2 c = rw (c .before .before .instance .given .1, and-assoc) (c .name .ensures)
 
 pub instance-spec : {M : Type 1} → statement M
-instance-spec = tie.close (tie.spec enum-told enum-known-instance name-requires returns returns-2)
+instance-spec = tie.close (tie.spec (λ c. search needs) (λ c. search needs) (λ c κs. search needs) (λ c. search needs) returns-2)

@@ -5,12 +5,6 @@ use Rattle.quantity.specs.Limits.{SHORTEST-NAME, LONGEST-NAME}
 use Rattle.writable.proofs.part.name.Statement.{statement}
 use Rattle.writable.proofs.part.name.Tie as tie
 
-may-hold-requires : tie.Need-may-hold-requires
-may-hold-requires c κs = search needs
-
-fits-requires : tie.Need-fits-requires
-fits-requires c κs = search needs
-
 returns : tie.Need-returns
 returns c =
     let tests = c .before .before .before in
@@ -29,4 +23,4 @@ returns-4 c = rw (← c .before .may-hold .ensures, c .if1 .left)
 
 pub name-spec : {M : Type 1} → statement M
 name-spec =
-    tie.close (tie.spec may-hold-requires fits-requires returns returns-2 returns-3 returns-4)
+    tie.close (tie.spec (λ c κs. search needs) (λ c κs. search needs) returns returns-2 returns-3 returns-4)

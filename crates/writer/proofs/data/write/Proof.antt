@@ -14,12 +14,6 @@ judged : (c : tie.After-no-room) → let start = c .before .before .before .befo
     Judged (dataAllowed (start .args .end) (start .args .message) (length (start .args .packet .now))) (dataWritten (start .args .message) (start .args .packet .now)) (start .args .out .now) (c .no-room .result)
 judged c = let allowed = c .before .before in judged-by (allowed .before .may-write .ensures) (allowed .if1 .left) (c .before .size .ensures) (c .no-room .ensures)
 
-may-write-requires : tie.Need-may-write-requires
-may-write-requires c κs = search needs
-
-refused-requires : tie.Need-refused-requires
-refused-requires c κs = search needs
-
 returns : tie.Need-returns
 returns c = outcome-refused (c .before .before .may-write .ensures) (c .before .if1 .taken) (c .refused .ensures)
 
@@ -27,12 +21,6 @@ size-requires : tie.Need-size-requires
 size-requires c κs =
     let start = c .before .before .before .before in
     data-short (start .args .end) (start .args .message) (length (start .args .packet .now)) (sym (c .before .may-write .ensures) ∙ not-false _ (c .if1 .left))
-
-no-room-requires : tie.Need-no-room-requires
-no-room-requires c κs = search needs
-
-refused-requires-2 : tie.Need-refused-requires-2
-refused-requires-2 c κs = search needs
 
 returns-2 : tie.Need-returns-2
 returns-2 c = outcome-no-room (judged (c .before .before)) (c .before .if2 .taken) (c .refused2 .ensures)
@@ -42,9 +30,6 @@ lay-requires c κs =
     let full = judged (c .before .before) in
     (data-short _ _ _ (full .yes), room-enough full (c .before .if2 .left))
 
-same-length : tie.Need-same-length
-same-length c = search needs
-
 returns-3 : tie.Need-returns-3
 returns-3 c = outcome-wrote (judged (c .before .before .before .before .before)) (c .before .before .before .before .if2 .left) (c .before .before .lay .ensures)
 
@@ -52,13 +37,13 @@ pub write-spec : {M : Type 1} → statement M
 write-spec =
     tie.close
     (tie.spec
-    may-write-requires
-    refused-requires
+    (λ c κs. search needs)
+    (λ c κs. search needs)
     returns
     size-requires
-    no-room-requires
-    refused-requires-2
+    (λ c κs. search needs)
+    (λ c κs. search needs)
     returns-2
     lay-requires
-    same-length
+    (λ c. search needs)
     returns-3)

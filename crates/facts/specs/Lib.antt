@@ -1,0 +1,2 @@
+-- What every crate may speak of.
+pub mod Tables

@@ -1,0 +1,2 @@
+-- Number 13 in plain numbers.
+pub mod FixedHeader

@@ -1,0 +1,4 @@
+pub mod Laws
+pub mod Keywords
+pub mod Tables
+pub mod Places

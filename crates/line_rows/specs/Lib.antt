@@ -1,0 +1,4 @@
+pub mod Rows
+pub mod Cursors
+pub mod Tables
+pub mod Places

@@ -1,4 +1,0 @@
-pub mod Asked
-pub mod Readings
-pub mod Echoes
-pub mod Lines

@@ -1,0 +1,5 @@
+-- The laws that the proofs of this crate share.
+pub mod Showing
+pub mod Planes
+pub mod Writing
+pub mod Lines

@@ -1,0 +1,22 @@
+-- `messages::bad_line` meets its contract: one text. Assumes nothing.
+use borrow.Author.Needs.{needs}
+use Rattle.message_words.proofs.Saying.{says-one}
+use Rattle.session_print.proofs.messages.bad_line.Statement.{statement}
+use Rattle.session_print.proofs.messages.bad_line.Tie as tie
+
+slice-aggregate-put : tie.Need-slice-aggregate-put
+slice-aggregate-put c = search needs
+
+put-requires : tie.Need-put-requires
+put-requires c κs = search needs
+
+same-length : tie.Need-same-length
+same-length c = search needs
+
+returns : tie.Need-returns
+returns c =
+    let at-put = c .before .before in
+    says-one (at-put .put .ensures)
+
+pub bad-line-spec : {M : Type 1} → statement M
+bad-line-spec = tie.close (tie.spec slice-aggregate-put put-requires same-length returns)

@@ -1,0 +1,5 @@
+pub mod Readings
+pub mod Echoes
+pub mod Messages
+pub mod Answers
+pub mod Shown

@@ -1,0 +1,18 @@
+// The answers of the session page: what a message means or is written as, the endpoint's answers, and what a channel is.
+mod answers;
+mod echo;
+mod messages;
+mod reading;
+mod shown;
+
+pub use answers::asked;
+pub use answers::emptied;
+pub use answers::heard;
+pub use answers::offered;
+pub use answers::queried;
+pub use answers::started;
+pub use messages::about_state;
+pub use messages::bad_line;
+pub use messages::message;
+pub use shown::channel;
+pub use shown::held;

@@ -1,0 +1,4 @@
+pub mod Bounds
+pub mod Starting
+pub mod Lines
+pub mod Examples

@@ -1,0 +1,47 @@
+-- A line read by the table: its numbers are within their bounds, and ask for what the line does. Assumes nothing.
+use mathlib.Core.Path.{_≡_, refl, sym, ap, _∙_, subst}
+use mathlib.Core.List.{List, []}
+use Prim.Native.Nat.{ℕ, _≤_, _<_}
+use native.Mathlib.Decide.{decLe}
+use native.Mathlib.Omega.{arith}
+use lib.ListN.{length, getD, replicate, length-replicate, getD-replicate, List·getD-eq-default}
+use Rattle.line_rows.specs.declared.table.Told.{Told}
+use Rattle.line_rows.specs.Tables.{itemsBehind, saidIn, keyIn, Reads}
+use Rattle.line_rows.specs.Places.{keyedOf, rowOfKey, writtenOut, Within}
+use Rattle.line_rows.proofs.Places.{reads-within, reads-numbers}
+use Rattle.session_read.specs.declared.asked.Asked.{Asked}
+use Rattle.session_read.specs.declared.start.StartWords.{StartWords}
+use Rattle.session_read.specs.Lines.{PLACES, COMMANDS, shortened, askedBy, startBy, numbersIn, saidBy, askedOf, startOf, Asks, Bounded}
+
+-- numbers that are all 0 before a line is read
+abbrev blank : List ℕ
+blank = replicate PLACES 0
+
+blank-at : (i : ℕ) → getD blank i 0 ≡ 0
+blank-at i = elim (decLe PLACES i) [
+  | yes h ↦ let size : length blank ≡ PLACES = length-replicate {A = ℕ} PLACES 0 in List·getD-eq-default blank 0 {n = i} (omega arith)
+  | no h ↦ getD-replicate PLACES i 0 0 (omega arith)
+]
+
+no-command : rowOfKey 0 COMMANDS ≡ []
+unfolding rowOfKey keyedOf itemsBehind
+no-command = refl
+
+module _ (line : List ℕ) {given lent : List ℕ} {told : Told} {numbers lent′ : List ℕ} (e : given ≡ shortened line) (k : Reads COMMANDS given blank lent told numbers lent′) where
+  read-as : Reads COMMANDS (shortened line) blank lent told numbers lent′
+  read-as = rw e at k
+
+  said-as : numbersIn numbers ≡ numbersIn (saidBy (length lent) line .numbers)
+  said-as = reads-numbers read-as refl blank-at
+
+  pub read-bounded : Bounded (told .key) numbers
+  read-bounded = record { within = subst (λ (n : ℕ → ℕ). Within (writtenOut 0 0 (rowOfKey (told .key) COMMANDS) n) n) (sym said-as) (reads-within read-as refl no-command) }
+
+  pub read-asks : {asked : Asked} {start : StartWords} → asked ≡ askedBy (told .key) (numbersIn numbers) → start ≡ startBy (told .key) (numbersIn numbers) → Asks lent line (record { asked = asked; bytes = told .bytes; start = start }) lent′
+  unfolding askedOf startOf
+  read-asks f g = record {
+    asked = f ∙ ap (λ (n : ℕ → ℕ). askedBy (told .key) n) said-as ∙ ap (λ (i : ℕ). askedBy i (numbersIn (saidBy (length lent) line .numbers))) (read-as .key);
+    count = read-as .count;
+    start = g ∙ ap (λ (n : ℕ → ℕ). startBy (told .key) n) said-as ∙ ap (λ (i : ℕ). startBy i (numbersIn (saidBy (length lent) line .numbers))) (read-as .key);
+    bytes = read-as .bytes;
+  }

@@ -1,0 +1,183 @@
+-- The lines of docs/SESSION.md, in its order: for each command its first word and its row, and what its numbers ask for.
+use mathlib.Core.Bool.{cond}
+use mathlib.Core.List.{List, [], _∷_, _++_}
+use mathlib.Core.Path.{_≡_}
+use Prim.Native.Nat.{ℕ, _-_, _^_}
+use lib.Dec.{eqb, ltb}
+use lib.ListN.{length, getD}
+use Rattle.line_rows.specs.Rows.{NUMBER, BYTES, LIST, OPTIONAL, keyText, Said, over}
+use Rattle.line_rows.specs.Tables.{command, saidIn, keyIn}
+use Rattle.line_rows.specs.Places.{rowOfKey, writtenOut, Within}
+use Rattle.meaning.specs.declared.message.End.{End}
+use Rattle.session_read.specs.declared.asked.Asked.{Asked}
+use Rattle.session_read.specs.declared.asked.Command.{Command}
+use Rattle.session_read.specs.declared.start.StartWords.{StartWords}
+use Rattle.session_read.specs.declared.line.Line.{Line}
+use Rattle.session_read.specs.Start.{startFrom, noStart}
+
+-- ---- the words that a line may have
+-- `ips`
+abbrev pub IPS : ℕ
+IPS = keyText (105 ∷ 112 ∷ 115 ∷ [])
+
+-- `radio`
+abbrev pub RADIO : ℕ
+RADIO = keyText (114 ∷ 97 ∷ 100 ∷ 105 ∷ 111 ∷ [])
+
+-- `plain`
+abbrev pub PLAIN : ℕ
+PLAIN = keyText (112 ∷ 108 ∷ 97 ∷ 105 ∷ 110 ∷ [])
+
+-- `flow`
+abbrev pub FLOW : ℕ
+FLOW = keyText (102 ∷ 108 ∷ 111 ∷ 119 ∷ [])
+
+-- `memory`
+abbrev pub MEMORY : ℕ
+MEMORY = keyText (109 ∷ 101 ∷ 109 ∷ 111 ∷ 114 ∷ 121 ∷ [])
+
+-- `read`
+abbrev pub READ : ℕ
+READ = keyText (114 ∷ 101 ∷ 97 ∷ 100 ∷ [])
+
+-- `echo`
+abbrev pub ECHO : ℕ
+ECHO = keyText (101 ∷ 99 ∷ 104 ∷ 111 ∷ [])
+
+-- `start`
+abbrev pub START : ℕ
+START = keyText (115 ∷ 116 ∷ 97 ∷ 114 ∷ 116 ∷ [])
+
+-- `offer`
+abbrev pub OFFER : ℕ
+OFFER = keyText (111 ∷ 102 ∷ 102 ∷ 101 ∷ 114 ∷ [])
+
+-- `next`
+abbrev pub NEXT : ℕ
+NEXT = keyText (110 ∷ 101 ∷ 120 ∷ 116 ∷ [])
+
+-- `withdraw`
+abbrev pub WITHDRAW : ℕ
+WITHDRAW = keyText (119 ∷ 105 ∷ 116 ∷ 104 ∷ 100 ∷ 114 ∷ 97 ∷ 119 ∷ [])
+
+-- `query`
+abbrev pub QUERY : ℕ
+QUERY = keyText (113 ∷ 117 ∷ 101 ∷ 114 ∷ 121 ∷ [])
+
+-- `show`
+abbrev pub SHOW : ℕ
+SHOW = keyText (115 ∷ 104 ∷ 111 ∷ 119 ∷ [])
+
+-- `store`
+abbrev pub STORE : ℕ
+STORE = keyText (115 ∷ 116 ∷ 111 ∷ 114 ∷ 101 ∷ [])
+
+-- ---- "the values"
+
+-- "`ID`, `CHANNEL`: 0 to 255"
+abbrev pub HIGHEST-ID : ℕ
+HIGHEST-ID = 255
+
+-- "`FIRST`, a sequence or a window: 0 to 4294967295"
+abbrev pub HIGHEST-SEQUENCE : ℕ
+HIGHEST-SEQUENCE = 2 ^ 32 - 1
+
+-- "`NOW`, `EXPIRY`: 0 to 18446744073709551615"
+abbrev pub LATEST-TIME : ℕ
+LATEST-TIME = 2 ^ 64 - 1
+
+-- "`ROOM`, `STORE`, `LEN`: 0 to 1048576"
+abbrev pub MOST-ROOM : ℕ
+MOST-ROOM = 1048576
+
+-- "Up to 80 channels are read"
+abbrev pub MOST-SETTINGS : ℕ
+MOST-SETTINGS = 80
+
+-- no line says more numbers: `ID COUNT`, four for each channel, and `memory LEN`
+abbrev pub PLACES : ℕ
+PLACES = 324
+
+-- "It may be 140,000 bytes long": a longer one is read as an empty line, which is no command
+abbrev pub LONGEST-LINE : ℕ
+LONGEST-LINE = 140000
+
+unfoldable pub shortened : List ℕ → List ℕ
+shortened line = cond (ltb LONGEST-LINE (length line)) [] line
+
+-- ---- the table
+-- `read END ID HEX`, `echo END ID HEX END2 ROOM`
+abbrev pub ABOUT-MESSAGES : List ℕ
+ABOUT-MESSAGES =
+    command READ (IPS ∷ RADIO ∷ NUMBER ∷ HIGHEST-ID ∷ BYTES ∷ 0 ∷ [])
+    ++ command ECHO (IPS ∷ RADIO ∷ NUMBER ∷ HIGHEST-ID ∷ BYTES ∷ 0 ∷ IPS ∷ RADIO ∷ NUMBER ∷ MOST-ROOM ∷ [])
+
+-- `start ID COUNT`, `CHANNEL KIND FIRST STORE` for each channel, and perhaps `memory LEN`; `offer CHANNEL NOW EXPIRY HEX`; `next CHANNEL NOW ROOM`;
+-- `withdraw CHANNEL`; `radio HEX`; `query ROOM`; `show CHANNEL`; `store CHANNEL`
+abbrev pub ABOUT-A-STATE : List ℕ
+ABOUT-A-STATE =
+    command START
+    (NUMBER ∷ HIGHEST-ID ∷ NUMBER ∷ MOST-SETTINGS
+    ∷ LIST ∷ 4 ∷ NUMBER ∷ HIGHEST-ID ∷ PLAIN ∷ FLOW ∷ NUMBER ∷ HIGHEST-SEQUENCE ∷ NUMBER ∷ MOST-ROOM
+    ∷ OPTIONAL ∷ MEMORY ∷ LIST ∷ 1 ∷ NUMBER ∷ MOST-ROOM ∷ [])
+    ++ command OFFER (NUMBER ∷ HIGHEST-ID ∷ NUMBER ∷ LATEST-TIME ∷ NUMBER ∷ LATEST-TIME ∷ BYTES ∷ 0 ∷ [])
+    ++ command NEXT (NUMBER ∷ HIGHEST-ID ∷ NUMBER ∷ LATEST-TIME ∷ NUMBER ∷ MOST-ROOM ∷ [])
+    ++ command WITHDRAW (NUMBER ∷ HIGHEST-ID ∷ [])
+    ++ command RADIO (BYTES ∷ 0 ∷ [])
+    ++ command QUERY (NUMBER ∷ MOST-ROOM ∷ [])
+    ++ command SHOW (NUMBER ∷ HIGHEST-ID ∷ [])
+    ++ command STORE (NUMBER ∷ HIGHEST-ID ∷ [])
+
+abbrev pub COMMANDS : List ℕ
+COMMANDS = ABOUT-MESSAGES ++ ABOUT-A-STATE
+
+-- ---- what the numbers of a command ask for, by their places; a byte string has a place too, with its length
+
+-- "`END`: `ips` or `radio`"
+unfoldable pub endOf : ℕ → End
+endOf n = cond (eqb n 0) End.Ips End.Radio
+
+unfoldable pub askedBy : ℕ → (ℕ → ℕ) → Asked
+askedBy key n =
+    cond (eqb key READ) (Asked.Read (endOf (n 0)) (n 1))
+    (cond (eqb key ECHO) (Asked.Echo (endOf (n 0)) (n 1) (endOf (n 3)) (n 4))
+    (cond (eqb key START) Asked.Start
+    (cond (eqb key OFFER) (Asked.State (Command.Offer (n 0) (n 1) (n 2)))
+    (cond (eqb key NEXT) (Asked.State (Command.Next (n 0) (n 1) (n 2)))
+    (cond (eqb key WITHDRAW) (Asked.State (Command.Withdraw (n 0)))
+    (cond (eqb key RADIO) (Asked.State Command.Radio)
+    (cond (eqb key QUERY) (Asked.State (Command.Query (n 0)))
+    (cond (eqb key SHOW) (Asked.State (Command.Show (n 0)))
+    (cond (eqb key STORE) (Asked.State (Command.Store (n 0)))
+    Asked.Bad)))))))))
+
+-- the configuration that `start` says; none for another line
+unfoldable pub startBy : ℕ → (ℕ → ℕ) → StartWords
+startBy key n = cond (eqb key START) (startFrom n) noStart
+
+abbrev pub numbersIn : List ℕ → ℕ → ℕ
+numbersIn numbers = λ i. getD numbers i 0
+
+-- ---- a line, with room for so many bytes
+abbrev pub saidBy : ℕ → List ℕ → Said
+saidBy size line = saidIn PLACES size COMMANDS (shortened line)
+
+abbrev pub keyBy : ℕ → List ℕ → ℕ
+keyBy size line = keyIn PLACES size COMMANDS (shortened line)
+
+unfoldable pub askedOf : ℕ → List ℕ → Asked
+askedOf size line = askedBy (keyBy size line) (numbersIn (saidBy size line .numbers))
+
+unfoldable pub startOf : ℕ → List ℕ → StartWords
+startOf size line = startBy (keyBy size line) (numbersIn (saidBy size line .numbers))
+
+-- what a line asks for; the bytes that it says stand at the start of the lent memory, which is as it was behind them
+pub record Asks (lent line : List ℕ) (r : Line) (lent′ : List ℕ) : Type 0 where
+  pub asked : r .asked ≡ askedOf (length lent) line
+  pub count : r .bytes ≡ length (saidBy (length lent) line .bytes)
+  pub start : r .start ≡ startOf (length lent) line
+  pub bytes : lent′ ≡ over (saidBy (length lent) line .bytes) lent
+
+-- the numbers of a command are within their bounds
+pub record Bounded (key : ℕ) (numbers : List ℕ) : Type 0 where
+  pub within : Within (writtenOut 0 0 (rowOfKey key COMMANDS) (numbersIn numbers)) (numbersIn numbers)

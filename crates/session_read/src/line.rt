@@ -1,0 +1,44 @@
+// A line, read.
+ghost use mathlib.Core.Path.{_≡_};
+ghost use Rattle.session_read.specs.Lines.{shortened, Asks};
+use crate::asked::Asked;
+use crate::asked::asks;
+use crate::start::StartWords;
+use crate::start::starts;
+use crate::table::COMMANDS;
+use crate::table::PLACES;
+
+// "It may be 140,000 bytes long."
+const LONGEST_LINE: usize = 140000;
+
+// What a line asks for, how many bytes it says, and the configuration that it says if it is a `start`.
+pub struct Line {
+    pub asked: Asked,
+    pub bytes: usize,
+    pub start: StartWords,
+}
+
+// A longer line is read as an empty one, which is no command.
+fn short(line: &[u8]) -> &[u8]
+    ensures { λ r. ⌜ now r ≡ shortened (now (line .entry)) ⌝ }
+{
+    if line.len() > LONGEST_LINE {
+        return &line[0..0];
+    }
+    line
+}
+
+// Reads a line; the bytes that it says are laid at the start of the lent memory.
+pub fn read(line: &[u8], lent: &mut [u8]) -> Line
+    ensures { λ r. ⌜ Asks (now (lent .entry)) (now (line .entry)) r (now (lent .exit)) ⌝ }
+{
+    let mut numbers = [0u64; PLACES];
+    let told = line_rows::read(short(line), &COMMANDS, &mut numbers, lent);
+    let asked = asks(told.key, &numbers);
+    let start = starts(told.key, &numbers);
+    Line {
+        asked,
+        bytes: told.bytes,
+        start,
+    }
+}

@@ -1,0 +1,39 @@
+"""Calls as lines of a session script."""
+
+import ciri
+from session import show_bytes
+
+DATALINK_ID = 7
+# An output that holds any data message, and an expiry that no time reaches.
+ROOMY = 1600
+NEVER = 100000
+
+
+def packet(length, mark=0):
+    """An IPv6 packet whose bytes tell it from another's; one under 40 bytes is cut short."""
+    payload_length = max(0, length - ciri.IPV6_HEADER_LENGTH).to_bytes(2, "big")
+    return (b"\x60\0\0\0" + payload_length + bytes((mark + place) % 256 for place in range(6, length)))[:length]
+
+
+def start(*channels, memory=None, datalink_id=DATALINK_ID):
+    """A `start` of channels as (CHANNEL, KIND, FIRST, STORE), perhaps with `memory LEN`."""
+    words = ["start", datalink_id, len(channels), *(word for channel in channels for word in channel)]
+    words += [] if memory is None else ["memory", memory]
+    return " ".join(str(word) for word in words)
+
+
+def offer(channel, time, expiry, octets):
+    """An `offer` of these bytes."""
+    return f"offer {channel} {time} {expiry} {show_bytes(octets)}"
+
+
+def radio(statuses, windows=(), context=None, link_instance=None):
+    """A radio control message of these Statuses and Flow Windows, handed in."""
+    meaning = ciri.Meaning(ciri.CONTROL, DATALINK_ID, link_instance, context, dict(statuses), windows=dict(windows))
+    return f"radio {ciri.write_message(ciri.RADIO, meaning, ciri.DATAGRAM_LIMIT).hex()}"
+
+
+def radio_options(options):
+    """A radio control message of these options in hexadecimal, read and handed in."""
+    message = f"10010001{DATALINK_ID:02x}{options}"
+    return [f"read radio {DATALINK_ID} {message}", f"radio {message}"]

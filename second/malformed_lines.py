@@ -1,0 +1,61 @@
+"""Lines with something wrong, drawn by lot."""
+
+BAD_WORDS = (
+    "-1", "+1", "01", "00", "0x7", "256", "4294967296", "18446744073709551616", "1048577", "9" * 400, "1.0", "x", "--",
+    "-", "", "\t", "\r", "\0", "\xff", "\xd9\xa0", "AB", "0g", "abc", "plain", "memory", "ips", "IPS",
+)
+ODD_LINES = (
+    "", " ", "-", "read", "echo", "start", "offer", "next", "show", "stop", "Show 0", "show 0 0", "query",
+    " query 100", "query\t100", "query 100\r", "start 7 0", "start 7 81", "start 7 1 memory 1500", "memory 1500",
+    "start 7 1 0 plain 0 1500 memory", "start 7 1 0 plain 0 1500 memory 1500 0", "start 7 1 0 Flow 0 1500",
+    "\x00", "\xff\xfe", "refused 12 0", "radio", "radio  ", "store -1", "withdraw 256", "next 0 0 1048577",
+)
+
+
+def spoil_line(dice, line):
+    """A line with one thing wrong behind its first word; seldom it is still well-formed."""
+    first, *words = line.split(" ")
+    place = dice.randrange(len(words))
+    spoil = dice.choice((spoil_word, drop_word, add_word, zero_word, raise_word, halve_word, join_words, end_line))
+    spoil(dice, words, place)
+    return " ".join([first, *words])
+
+
+def spoil_word(dice, words, place):
+    """A word becomes one that mostly doesn't belong there."""
+    words[place] = dice.choice(BAD_WORDS)
+
+
+def drop_word(_, words, place):
+    """A word is missing."""
+    words.pop(place)
+
+
+def add_word(dice, words, place):
+    """A word too many; an empty one makes two spaces."""
+    words.insert(place + dice.randrange(2), dice.choice(("", "0", "7", "-", "memory")))
+
+
+def zero_word(_, words, place):
+    """A needless leading zero."""
+    words[place] = "0" + words[place]
+
+
+def raise_word(_, words, place):
+    """Uppercase letters."""
+    words[place] = words[place].upper()
+
+
+def halve_word(_, words, place):
+    """A digit is missing."""
+    words[place] = words[place][:-1]
+
+
+def join_words(_, words, place):
+    """A tab for a space."""
+    words[place : place + 2] = ["\t".join(words[place : place + 2])]
+
+
+def end_line(dice, words, _):
+    """Something behind the last word."""
+    words[-1] += dice.choice((" ", "\r", "\t", "\0", "\xe4"))

@@ -1,0 +1,43 @@
+"""The stored script's lines that break the format."""
+
+from call_lines import offer, packet, radio
+
+# One faultless line of each command, and for each of its words what it may not be.
+NO_NUMBERS = ["", "-", "-1", "+1", "01", "00", "0x1", "1.", "x", "\t1", "1\r", "\xb2", "9" * 30]
+NO_BYTES = ["", "0", "000", "0g", "AB", "-0", "--", "0-", "0x00", "60\t"]
+NO_ID = [*NO_NUMBERS, "256"]
+NO_SEQUENCE = [*NO_NUMBERS, "4294967296"]
+NO_TIME = [*NO_NUMBERS, "18446744073709551616"]
+NO_LENGTH = [*NO_NUMBERS, "1048577"]
+FAULTLESS = {
+    "start 7 1 0 flow 5 1500 memory 1500": [
+        NO_ID, [*NO_NUMBERS, "0", "2", "81"], NO_ID, ["", "Flow", "flows", "0"], NO_SEQUENCE, NO_LENGTH,
+        ["", "Memory", "1500"], NO_LENGTH],
+    offer(0, 1, 9, packet(40)): [NO_ID, NO_TIME, NO_TIME, NO_BYTES],
+    "next 0 1 100": [NO_ID, NO_TIME, NO_LENGTH],
+    "withdraw 0": [NO_ID],
+    radio({0: 7}): [NO_BYTES],
+    "query 100": [NO_LENGTH],
+    "show 0": [NO_ID],
+    "store 0": [NO_ID],
+}
+
+
+def broken_message_lines():
+    """Lines about messages, by one word each, and three that are at the greatest length or over it."""
+    yield from ("", " ", "read", "read ips", "read ips 7", "read ips 7 ", "read  ips 7 10", "read ips 7 10 ")
+    yield from ("read ips 256 10", "read ips 07 10", "read ips -1 10", "read air 7 10", "READ ips 7 10")
+    yield from ("read ips 7 1", "read ips 7 1G", "read ips 7 1A", "read ips 7 - x", "read ips 7 -", "read ips 7 10\r")
+    yield from ("echo ips 7 10", "echo ips 7 10 ips", "echo ips 7 10 ips 1048577", "echo ips 7 10 ips 01", "\xff\0")
+    yield from ("x" * 140000, "read ips 7 " + "0" * 139989, "read ips 7 " + "00" * 70000)
+
+
+def broken_state_lines():
+    """Each command with each word wrong, with words missing and added, in other letters."""
+    for faultless, wrongs in FAULTLESS.items():
+        words = faultless.split(" ")
+        yield from (" ".join(words[:place]) for place in range(1, len(words)) if words[place] != "memory")
+        for place, wrong in enumerate(wrongs, 1):
+            yield from (" ".join([*words[:place], word, *words[place + 1 :]]) for word in wrong)
+        yield from (faultless + end for end in (" ", " 0", "\t", "\r", "\0", " memory 1500"))
+        yield from (" " + faultless, words[0].upper() + faultless[len(words[0]) :], faultless.replace(" ", "  ", 1))
