@@ -9,12 +9,16 @@ ODD_LINES = (
     " query 100", "query\t100", "query 100\r", "start 7 0", "start 7 81", "start 7 1 memory 1500", "memory 1500",
     "start 7 1 0 plain 0 1500 memory", "start 7 1 0 plain 0 1500 memory 1500 0", "start 7 1 0 Flow 0 1500",
     "\x00", "\xff\xfe", "refused 12 0", "radio", "radio  ", "store -1", "withdraw 256", "next 0 0 1048577",
+    "kept 0", "kept ", " kept", "Kept",
 )
+LINE_ENDS = (" ", "\r", "\t", "\0", "\xe4")
 
 
 def spoil_line(dice, line):
     """A line with one thing wrong behind its first word; seldom it is still well-formed."""
     first, *words = line.split(" ")
+    if not words:
+        return first + dice.choice(LINE_ENDS)
     place = dice.randrange(len(words))
     spoil = dice.choice((spoil_word, drop_word, add_word, zero_word, raise_word, halve_word, join_words, end_line))
     spoil(dice, words, place)
@@ -58,4 +62,4 @@ def join_words(_, words, place):
 
 def end_line(dice, words, _):
     """Something behind the last word."""
-    words[-1] += dice.choice((" ", "\r", "\t", "\0", "\xe4"))
+    words[-1] += dice.choice(LINE_ENDS)

@@ -13,19 +13,21 @@ from session import LENGTH_LIMIT, LINE_LIMIT, TIME_LIMIT, Session, show_bytes
 PHASES = {
     "mixed": (
         (30, "offer"), (28, "next"), (2, "withdraw"), (16, "radio"),
-        (5, "query"), (10, "show"), (3, "store"), (2, "start"),
+        (5, "query"), (10, "show"), (3, "store"), (3, "kept"), (2, "start"),
     ),
     "fill": (
         (80, "offer"), (3, "next"), (0.2, "withdraw"), (4, "radio"),
-        (1, "query"), (6, "show"), (2, "store"), (1, "start"),
+        (1, "query"), (6, "show"), (2, "store"), (1, "kept"), (1, "start"),
     ),
     "drain": (
         (6, "offer"), (62, "next"), (0.5, "withdraw"), (16, "radio"),
-        (2, "query"), (9, "show"), (3, "store"), (1, "start"),
+        (2, "query"), (9, "show"), (3, "store"), (3, "kept"), (1, "start"),
     ),
 }
 
-LINES_OF_ANY_STATE = ("query 100", "show 0", "store 0", "withdraw 0", "next 0 0 0", "radio -", "offer 0 0 1 -")
+LINES_OF_ANY_STATE = (
+    "query 100", "show 0", "store 0", "withdraw 0", "next 0 0 0", "radio -", "offer 0 0 1 -", "kept",
+)
 
 
 class StateLines:
@@ -59,6 +61,7 @@ class StateLines:
             "query": self.draw_query,
             "show": self.draw_show,
             "store": self.draw_store,
+            "kept": self.draw_kept,
             "start": self.draw_start,
         }
         return draws[word]()
@@ -167,6 +170,10 @@ class StateLines:
     def draw_store(self):
         """`store CHANNEL`"""
         return f"store {self.show_channel_id(self.draw_touched())}"
+
+    def draw_kept(self):
+        """`kept`"""
+        return "kept"
 
     def draw_query(self):
         """`query ROOM`"""

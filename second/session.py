@@ -55,13 +55,20 @@ def show_bytes(octets):
     return octets.hex() if octets else "-"
 
 
+def show_link_and_context(link_instance, context):
+    """A Link Instance and a Context as parts of a line, each where there is one."""
+    parts = []
+    if link_instance is not None:
+        parts.append(f"link {link_instance.length} {link_instance.value}")
+    if context is not None:
+        parts.append(f"context {show_bytes(context)}")
+    return parts
+
+
 def show_meaning(meaning):
     """A meaning as one line, in the writer's order."""
     parts = [f"{meaning.plane} {meaning.datalink_id}"]
-    if meaning.link_instance is not None:
-        parts.append(f"link {meaning.link_instance.length} {meaning.link_instance.value}")
-    if meaning.context is not None:
-        parts.append(f"context {show_bytes(meaning.context)}")
+    parts += show_link_and_context(meaning.link_instance, meaning.context)
     parts += [f"status {channel} {status}" for channel, status in sorted(meaning.statuses.items())]
     parts += [f"sequence {channel} {sequence}" for channel, sequence in sorted(meaning.sequences.items())]
     parts += [f"window {channel} {show_window(meaning.windows[channel])}" for channel in sorted(meaning.windows)]
@@ -194,6 +201,11 @@ def answer_store(session, channel_word):
     return f"store {show_bytes(session.memory[ciri.find_store(session.endpoint, channel)])}"
 
 
+def answer_kept(session):
+    """`kept`"""
+    return " ".join(["kept", *show_link_and_context(session.endpoint.link_instance, session.endpoint.context)])
+
+
 # ---- The session ----
 
 # For each line's first word: its answer, the least and the greatest number of words behind it.
@@ -208,6 +220,7 @@ LINES = {
     b"query": (answer_query, 1, 1),
     b"show": (answer_show, 1, 1),
     b"store": (answer_store, 1, 1),
+    b"kept": (answer_kept, 0, 0),
 }
 WITHOUT_STATE = (b"read", b"echo", b"start")
 

@@ -1,7 +1,7 @@
 """stored.py: prints the stored script of `session`, the same at each run; it fails where the script lacks something.
 
-Lines about messages, document 01's examples as calls, lines that break the format, states at their limits, the sample
-flight of docs/, and a long flight drawn by lot.
+Lines about messages, document 01's examples as calls, lines that break the format, states at their limits, two faults
+in one message, lengths and values next to those listed, the sample flight of docs/, and a long flight drawn by lot.
 """
 
 import collections
@@ -15,15 +15,18 @@ from happenings import HAPPENINGS, count_happenings
 from stored_broken import broken_message_lines, broken_state_lines
 from stored_examples import example_lines
 from stored_flight import flight_lines
+from stored_lengths import length_lines
 from stored_limits import limit_lines
 from stored_messages import message_lines
+from stored_orders import order_lines
 
 SAMPLE = pathlib.Path(__file__).resolve().parent.parent / "docs" / "samples" / "flight"
 FEWEST_OF_EACH = 5
 REFUSALS = [f"refused {number}" for number in range(1, 21)]
 ANSWERS = [
     "control", "data", "written", "started", "taken", "sent", "nothing waiting", "not operational", "window shut",
-    "withdrawn", "accepted", "accepted due", "query", "channel", "store", "bad line",
+    "withdrawn", "accepted", "accepted due", "query", "channel", "store", "kept",
+    "bad line",
 ]
 
 
@@ -35,6 +38,8 @@ def all_lines():
     yield from broken_state_lines()
     yield "show 2"
     yield from limit_lines()
+    yield from order_lines()
+    yield from length_lines()
     yield from SAMPLE.read_text().splitlines()
     yield from flight_lines()
 

@@ -20,16 +20,18 @@ FAULTLESS = {
     "query 100": [NO_LENGTH],
     "show 0": [NO_ID],
     "store 0": [NO_ID],
+    "kept": [],
 }
 
 
 def broken_message_lines():
-    """Lines about messages, by one word each, and three that are at the greatest length or over it."""
+    """Lines about messages, by one word each, and some that are at the greatest length or over it."""
     yield from ("", " ", "read", "read ips", "read ips 7", "read ips 7 ", "read  ips 7 10", "read ips 7 10 ")
     yield from ("read ips 256 10", "read ips 07 10", "read ips -1 10", "read air 7 10", "READ ips 7 10")
     yield from ("read ips 7 1", "read ips 7 1G", "read ips 7 1A", "read ips 7 - x", "read ips 7 -", "read ips 7 10\r")
     yield from ("echo ips 7 10", "echo ips 7 10 ips", "echo ips 7 10 ips 1048577", "echo ips 7 10 ips 01", "\xff\0")
     yield from ("x" * 140000, "read ips 7 " + "0" * 139989, "read ips 7 " + "00" * 70000)
+    yield from ("read ips 17 " + "00" * 69994, "read ips 7 " + "00" * 69995)
 
 
 def broken_state_lines():
@@ -40,4 +42,5 @@ def broken_state_lines():
         for place, wrong in enumerate(wrongs, 1):
             yield from (" ".join([*words[:place], word, *words[place + 1 :]]) for word in wrong)
         yield from (faultless + end for end in (" ", " 0", "\t", "\r", "\0", " memory 1500"))
-        yield from (" " + faultless, words[0].upper() + faultless[len(words[0]) :], faultless.replace(" ", "  ", 1))
+        behind_first = faultless[len(words[0]) :]
+        yield from (" " + faultless, words[0].upper() + behind_first, words[0] + " " + behind_first)

@@ -32,10 +32,10 @@ module _ {A B : Type 0} (S : Sort A B) (id : DatalinkId) (stated : Table → A) 
       → judge (rulesOf S) f place (stated τ) ≡ S .accept (stated (plus (S .plane) (S .end) τ f))
   unfolding judge
   read done τ place w = rw (plus-done (S .plane) (S .end) τ) (ends S id stated C τ place (allowed-done (S .plane) (S .end) id τ .0 w))
-  read (cut rest) τ place w = absurd (w .listed)
+  read (cut rest) τ place w = absurd (w .faultless .listed)
   read (option kind content f) τ place w =
       let k = allowed-option (S .plane) (S .end) id τ kind content f .0 w in
-      rw (forth S id stated C τ kind content (k .0), ← plus-option (S .plane) (S .end) τ kind content f (w .room))
+      rw (forth S id stated C τ kind content (k .0), ← plus-option (S .plane) (S .end) τ kind content f (w .faultless .room))
       (read f (adding (S .plane) (S .end) kind content τ) (place + (3 + length content)) (k .1))
 
   -- ---- a datagram
@@ -63,10 +63,7 @@ module _ {A B : Type 0} (S : Sort A B) (id : DatalinkId) (stated : Table → A) 
       (ap (judge (rulesOf S) f 1) (C .blank)
       ∙ read f nothing 1
       (record {
-        listed = a .listed;
-        room = λ k n. let o = a .once k n in omega arith;
-        opens = all-open f;
-        ending = a .ending;
+        faultless = record { listed = a .listed; room = λ k n. let o = a .once k n in omega arith; opens = all-open f; ending = a .ending };
         complete = record { filled = a .filled; paired = a .paired; ours = a .ours };
       }))
 
@@ -76,7 +73,7 @@ module _ {A B : Type 0} (S : Sort A B) (id : DatalinkId) (stated : Table → A) 
       reads S id stated C (λ verdict. verdict ≡ Verdict.Accepted → Accepts (S .plane) (S .end) id s (split (drop 1 s))) s
       (record {
         other = λ e. clash (cc);
-        in-header = λ number h k e. clash (cc);
+        in-header = λ number h e. clash (cc);
         in-body = λ header body d short version own. record {
           accepted = λ w e. rw d
               (record {
@@ -85,15 +82,15 @@ module _ {A B : Type 0} (S : Sort A B) (id : DatalinkId) (stated : Table → A) 
                 of-plane = own;
                 whole = rw (bytes-split body ((rw d at o) .1));
                 short = short;
-                listed = w .listed;
-                once = λ k n. let r = w .room k n in omega arith;
-                ending = w .ending;
+                listed = w .faultless .listed;
+                once = λ k n. let r = w .faultless .room k n in omega arith;
+                ending = w .faultless .ending;
                 filled = w .complete .filled;
                 paired = w .complete .paired;
                 ours = w .complete .ours;
               });
           at-option = λ number place w e. clash (cc);
-          at-end = λ number place h k p e. clash (cc);
+          at-end = λ number place w l p e. clash (cc);
         };
       })
 

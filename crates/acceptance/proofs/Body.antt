@@ -116,46 +116,56 @@ pub record Complete (plane : Plane) (end : End) (id : DatalinkId) (τ : Table) :
   pub paired : Paired plane τ
   pub ours : Ours id τ
 
--- the rest of a body may follow
-pub record Allowed (plane : Plane) (end : End) (id : DatalinkId) (τ : Table) (f : Options) : Type 0 where
+-- the rest of a body has no fault
+pub record Faultless (plane : Plane) (end : End) (τ : Table) (f : Options) : Type 0 where
   pub listed : All (Listed plane end) f
   pub room : Room plane end τ f
   pub opens : Opens plane end τ f
   pub ending : Ending plane f
+
+-- the rest of a body may follow, and nothing is missing then
+pub record Allowed (plane : Plane) (end : End) (id : DatalinkId) (τ : Table) (f : Options) : Type 0 where
+  pub faultless : Faultless plane end τ f
   pub complete : Complete plane end id (plus plane end τ f)
 
-module _ (plane : Plane) (end : End) (id : DatalinkId) where
-  pub allowed-done : (τ : Table) → Allowed plane end id τ done ↔ Complete plane end id τ
+module _ (plane : Plane) (end : End) where
+  pub faultless-done : (τ : Table) → Faultless plane end τ done
   unfolding count
-  allowed-done τ = (
-    (λ w. rw plus-done at (w .complete)),
-    λ c. record { listed = tt; room = λ k n. at-most (τ k n); opens = tt; ending = tt; complete = rw (plus-done plane end τ) c },
-  )
+  faultless-done τ = record { listed = tt; room = λ k n. at-most (τ k n); opens = tt; ending = tt }
 
-  pub allowed-option : (τ : Table) (kind : ℕ) (content : List ℕ) (f : Options)
-      → Allowed plane end id τ (option kind content f) ↔ Admitted plane end τ kind content × Allowed plane end id (adding plane end kind content τ) f
-  allowed-option τ kind content f = (forth, λ h. back (h .0) (h .1))
+  pub faultless-option : (τ : Table) (kind : ℕ) (content : List ℕ) (f : Options)
+      → Faultless plane end τ (option kind content f) ↔ Admitted plane end τ kind content × Faultless plane end (adding plane end kind content τ) f
+  faultless-option τ kind content f = (forth, λ h. back (h .0) (h .1))
     where
-      forth : Allowed plane end id τ (option kind content f) → Admitted plane end τ kind content × Allowed plane end id (adding plane end kind content τ) f
+      forth : Faultless plane end τ (option kind content f) → Admitted plane end τ kind content × Faultless plane end (adding plane end kind content τ) f
       forth w =
           let r = room-option plane end τ kind content f .0 (w .room) in (
             record { listed = w .listed .0; free = r .0; opens = w .opens },
-            record {
-              listed = w .listed .1;
-              room = r .1;
-              opens = still-open plane end τ kind content f (w .opens) (w .ending .0);
-              ending = w .ending .1;
-              complete = rw (plus-option plane end τ kind content f (w .room)) (w .complete);
-            },
+            record { listed = w .listed .1; room = r .1; opens = still-open plane end τ kind content f (w .opens) (w .ending .0); ending = w .ending .1 },
           )
 
-      back : Admitted plane end τ kind content → Allowed plane end id (adding plane end kind content τ) f → Allowed plane end id τ (option kind content f)
-      back a w =
-          let r : Room plane end τ (option kind content f) = room-option plane end τ kind content f .1 (a .free, w .room) in
-          record {
-            listed = (a .listed, w .listed);
-            room = r;
-            opens = a .opens;
-            ending = (ended plane end τ kind content f (w .listed) (w .opens), w .ending);
-            complete = rw (plus-option plane end τ kind content f r) at (w .complete);
-          }
+      back : Admitted plane end τ kind content → Faultless plane end (adding plane end kind content τ) f → Faultless plane end τ (option kind content f)
+      back a w = record {
+        listed = (a .listed, w .listed);
+        room = room-option plane end τ kind content f .1 (a .free, w .room);
+        opens = a .opens;
+        ending = (ended plane end τ kind content f (w .listed) (w .opens), w .ending);
+      }
+
+  module _ (id : DatalinkId) where
+    pub allowed-done : (τ : Table) → Allowed plane end id τ done ↔ Complete plane end id τ
+    allowed-done τ = ((λ w. rw plus-done at (w .complete)), λ c. record { faultless = faultless-done τ; complete = rw (plus-done plane end τ) c })
+
+    pub allowed-option : (τ : Table) (kind : ℕ) (content : List ℕ) (f : Options)
+        → Allowed plane end id τ (option kind content f) ↔ Admitted plane end τ kind content × Allowed plane end id (adding plane end kind content τ) f
+    allowed-option τ kind content f = (forth, λ h. back (h .0) (h .1))
+      where
+        forth : Allowed plane end id τ (option kind content f) → Admitted plane end τ kind content × Allowed plane end id (adding plane end kind content τ) f
+        forth w =
+            let both = faultless-option τ kind content f .0 (w .faultless) in
+            (both .0, record { faultless = both .1; complete = rw (plus-option plane end τ kind content f (w .faultless .room)) (w .complete) })
+
+        back : Admitted plane end τ kind content → Allowed plane end id (adding plane end kind content τ) f → Allowed plane end id τ (option kind content f)
+        back a w =
+            let whole = faultless-option τ kind content f .1 (a, w .faultless) in
+            record { faultless = whole; complete = rw (plus-option plane end τ kind content f (whole .room)) at (w .complete) }

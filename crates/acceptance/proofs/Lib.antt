@@ -1,6 +1,7 @@
 -- The account of an accepted message. The promises: in Control and Data, what is accepted, what it means, and that order, unused bits and skipped
 -- options carry no meaning; in Own, that its options are unique; in Standing, that what is looked up stands there; in Examples, the starred rows;
--- in Verdicts, by which numbers a message is refused; in Places, at which place; in OnePlace, that no other place would do.
+-- in Verdicts, by which numbers a message is refused; in Places, at which place; in OnePlace, that no other place would do; in Refused, each number
+-- exactly when; in PlainNumbers, the lists of types, lengths and values.
 pub mod Lists
 pub mod Seats
 pub mod Body
@@ -15,6 +16,9 @@ pub mod Ours
 pub mod Control
 pub mod Data
 pub mod Examples
+pub mod PlainNumbers
 pub mod Places
 pub mod Verdicts
 pub mod OnePlace
+pub mod Refused
+pub mod Stated

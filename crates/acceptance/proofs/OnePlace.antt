@@ -1,5 +1,5 @@
 -- A datagram and a number leave one place. Assumes nothing.
-use Prim.Native.Nat.{ℕ, _+_, _<_, _^_}
+use Prim.Native.Nat.{ℕ, _+_, _≤_, _<_, _^_}
 use mathlib.Core.Path.{_≡_, refl, sym, ap, _∙_}
 use mathlib.Core.List.{List, _++_, append-assoc}
 use mathlib.Core.Bool.{Bool, true, false}
@@ -15,11 +15,12 @@ use Rattle.wire.proofs.Options.{split-front}
 use Rattle.meaning.specs.declared.message.End.{End}
 use Rattle.meaning.specs.declared.message.Plane.{Plane}
 use Rattle.read_option.specs.Stated.{Table, nothing}
-use Rattle.acceptance.specs.Account.{All, Listed, Ending}
+use Rattle.acceptance.specs.Account.{All, Listed, count, Ending}
 use Rattle.acceptance.specs.Numbers.{OfReading}
 use Rattle.acceptance.specs.Places.{Fault, cut-off, other-length, meaningless, unlisted, repeated, behind-packet, AtOption, PlacedAt}
 use Rattle.acceptance.proofs.Seats.{adding, of-free}
-use Rattle.acceptance.proofs.Body.{Room, plus, Opens, plus-done, plus-option, room-option, still-open, Admitted}
+use Rattle.acceptance.proofs.Body.{plus, Opens, plus-done, plus-option, Admitted, Faultless, faultless-option}
+use Rattle.acceptance.proofs.Outcome.{not-behind}
 
 module _ (plane : Plane) (end : End) where
   -- the first option of a rest may follow
@@ -31,39 +32,30 @@ module _ (plane : Plane) (end : End) where
   -- an option at fault may not follow
   refuted : {τ : Table} {number : ℕ} {rest : Options} → Fault plane end τ number rest → Follows τ rest → ⊥
   refuted cut-off a = a
-  refuted (other-length u h) a = clash (sym h ∙ a .listed .length-listed u)
-  refuted (meaningless u h) a = clash (sym h ∙ a .listed .value-listed u)
-  refuted (unlisted u h) a = clash (sym h ∙ a .listed .kind-listed u)
-  refuted {τ} (repeated {kind} {content} u h) a = h (of-free plane end kind content u (a .listed .kind-listed u) τ (a .free))
-  refuted (behind-packet packet u h) a = h (a .opens packet u)
+  refuted {τ} (behind-packet b) a = not-behind plane τ (a .opens) b
+  refuted (unlisted o u h) a = clash (sym h ∙ a .listed .kind-listed u)
+  refuted (other-length o u m h) a = clash (sym h ∙ a .listed .length-listed u)
+  refuted (meaningless o u m l h) a = clash (sym h ∙ a .listed .value-listed u)
+  refuted {τ} (repeated {kind} {content} o u l h) a = h (of-free plane end kind content u (a .listed .kind-listed u) τ (a .free))
 
   -- options without a fault, behind what a table holds already
-  record Sound (τ : Table) (f : Options) : Type 0 where
-    whole : Whole-options f
-    listed : All (Listed plane end) f
-    room : Room plane end τ f
-    opens : Opens plane end τ f
-    ending : Ending plane f
+  pub record Sound (τ : Table) (f : Options) : Type 0 where
+    pub whole : Whole-options f
+    pub faultless : Faultless plane end τ f
 
   module _ (τ : Table) (kind : ℕ) (content : List ℕ) (f : Options) (s : Sound τ (option kind content f)) where
     fits : length content < 2 ^ 16
     unfolding Whole-options
     fits = s .whole .0
 
-    first : Admitted plane end τ kind content
-    first = record { listed = s .listed .0; free = room-option plane end τ kind content f .0 (s .room) .0; opens = s .opens }
+    pub first : Admitted plane end τ kind content
+    first = faultless-option plane end τ kind content f .0 (s .faultless) .0
 
-    later : Sound (adding plane end kind content τ) f
+    pub later : Sound (adding plane end kind content τ) f
     unfolding Whole-options
-    later = record {
-      whole = s .whole .1;
-      listed = s .listed .1;
-      room = room-option plane end τ kind content f .0 (s .room) .1;
-      opens = still-open plane end τ kind content f (s .opens) (s .ending .0);
-      ending = s .ending .1;
-    }
+    later = record { whole = s .whole .1; faultless = faultless-option plane end τ kind content f .0 (s .faultless) .1 }
 
-    found : (rest : List ℕ) → split (bytes (option kind content f) ++ rest) ≡ option kind content (split (bytes f ++ rest))
+    pub found : (rest : List ℕ) → split (bytes (option kind content f) ++ rest) ≡ option kind content (split (bytes f ++ rest))
     unfolding bytes
     found rest = ap split (append-assoc (optionBytes kind content) (bytes f) rest) ∙ split-front kind content (bytes f ++ rest) fits
 
@@ -75,12 +67,12 @@ module _ (plane : Plane) (end : End) where
       → Fault plane end (plus plane end τ f) n (split x) → Fault plane end (plus plane end τ g) m (split y)
       → split (bytes f ++ x) ≡ split (bytes g ++ y) → length (bytes f) ≡ length (bytes g)
   unfolding bytes
-  one (cut rest) g τ x y n m s t h k e = absurd (s .listed)
+  one (cut rest) g τ x y n m s t h k e = absurd (s .faultless .listed)
   one done done τ x y n m s t h k e = refl
-  one done (cut rest) τ x y n m s t h k e = absurd (t .listed)
+  one done (cut rest) τ x y n m s t h k e = absurd (t .faultless .listed)
   one done (option kind content g) τ x y n m s t h k e = absurd (passed τ kind content g t n x y h e)
   one (option kind content f) done τ x y n m s t h k e = absurd (passed τ kind content f s m y x k (sym e))
-  one (option kind content f) (cut rest) τ x y n m s t h k e = absurd (t .listed)
+  one (option kind content f) (cut rest) τ x y n m s t h k e = absurd (t .faultless .listed)
   one (option kind content f) (option kind′ content′ g) τ x y n m s t h k e =
       let both : option kind content (split (bytes f ++ x)) ≡ option kind′ content′ (split (bytes g ++ y)) = sym (found τ kind content f s x) ∙ e ∙ found τ kind′ content′ g t y in
       let kinds : kind ≡ kind′ = cc in
@@ -88,8 +80,8 @@ module _ (plane : Plane) (end : End) where
       let rests : split (bytes f ++ x) ≡ split (bytes g ++ y) = cc in
       let σ : Table = adding plane end kind content τ in
       let behind : Sound σ g = rw (← kinds, ← contents) at (later τ kind′ content′ g t) in
-      let h′ : Fault plane end (plus plane end σ f) n (split x) = rw (plus-option plane end τ kind content f (s .room)) h in
-      let k′ : Fault plane end (plus plane end (adding plane end kind′ content′ τ) g) m (split y) = rw (plus-option plane end τ kind′ content′ g (t .room)) k in
+      let h′ : Fault plane end (plus plane end σ f) n (split x) = rw (plus-option plane end τ kind content f (s .faultless .room)) h in
+      let k′ : Fault plane end (plus plane end (adding plane end kind′ content′ τ) g) m (split y) = rw (plus-option plane end τ kind′ content′ g (t .faultless .room)) k in
       let same = one f g σ x y n m (later τ kind content f s) behind h′ (rw (← kinds, ← contents) at k′) rests in
       rw (kinds, contents) (length-append (optionBytes kind′ content′) (bytes f) ∙ ap (λ (z : ℕ). length (optionBytes kind′ content′) + z) same ∙ sym (length-append (optionBytes kind′ content′) (bytes g)))
 
@@ -98,9 +90,15 @@ module _ (plane : Plane) (end : End) where
   opens-all (cut rest) = tt
   opens-all (option kind content f) = λ k q. refl
 
+  pub clean-sound : (f : Options) → Whole-options f → All (Listed plane end) f → ((kind channel : ℕ) → count plane end kind channel f ≤ 1) → Ending plane f → Sound nothing f
+  clean-sound f whole listed once ending = record {
+    whole = whole;
+    faultless = record { listed = listed; room = λ k n. let o = once k n in omega arith; opens = opens-all f; ending = ending };
+  }
+
   module _ (datagram : List ℕ) (r s : Refusal) where
     sound : {t : Refusal} (a : AtOption plane end datagram t) → Sound nothing (a .before)
-    sound a = record { whole = a .whole; listed = a .listed; room = λ k n. let o = a .once k n in omega arith; opens = opens-all (a .before); ending = a .ending }
+    sound a = clean-sound (a .before) (a .whole) (a .listed) (a .once) (a .ending)
 
     -- the first fault stands at one place
     pub option-one : AtOption plane end datagram r → AtOption plane end datagram s → r .place ≡ s .place

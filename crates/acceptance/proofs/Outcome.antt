@@ -5,7 +5,7 @@ use mathlib.Core.Path.{_≡_, refl, sym, ap, _∙_, subst}
 use mathlib.Core.List.{List, [], _∷_, _++_, append-assoc}
 use mathlib.Core.Bool.{Bool, true, false, cond}
 use native.Mathlib.Omega.{arith}
-use borrow.Author.Tests.{eqb-true, eqb-false, ltb-false}
+use borrow.Author.Tests.{eqb-true, eqb-false, ltb-true, ltb-false}
 use lib.Dec.{eqb, ltb}
 use lib.ListN.{length, getD, drop, length-append}
 use Rattle.facts.proofs.Tests.{clash}
@@ -24,21 +24,26 @@ use Rattle.read_rules.specs.declared.answer.Verdict.{Verdict}
 use Rattle.read_rules.specs.Judging.{Step, next, stop, afterStep, judge}
 use Rattle.read_rules.specs.Sorts.{Sort, faultOf, channelOf, stepOf, missing, finishOf, rulesOf}
 use Rattle.reader.specs.Header.{CURRENT-VERSION, versionOf, flagOf, flag, readWith}
-use Rattle.acceptance.specs.Account.{All, Listed, count, Ending}
-use Rattle.acceptance.specs.Places.{Fault, cut-off, other-length, meaningless, unlisted, repeated, behind-packet}
+use Rattle.acceptance.specs.Account.{Listed}
+use Rattle.acceptance.specs.Places.{Behind, Fault, cut-off, other-length, meaningless, unlisted, repeated, behind-packet}
+use Rattle.acceptance.specs.Refused.{InHeader, too-long, no-header, other-version, Lack, unfilled, unpaired, other-datalink}
 use Rattle.acceptance.proofs.Seats.{vacant, of-vacant, silent, adding, adding-silent, adding-puts, free-of}
-use Rattle.acceptance.proofs.Body.{at-most, Open, Room, plus, Opens, plus-done, plus-option, room-option, ended, Admitted, Allowed, allowed-done, allowed-option}
+use Rattle.acceptance.proofs.Body.{Open, plus, plus-done, plus-option, Admitted, Faultless, faultless-done, faultless-option, Allowed, allowed-done, allowed-option}
 use Rattle.acceptance.proofs.Cells.{Cells, listed, in-range, must}
 
 -- ---- the option at fault
 
 -- 8: something is stated that stands last
-shut-fault : (plane : Plane) (end : End) (τ : Table) (kind : ℕ) (content : List ℕ) (more : Options) → (Open plane τ → ⊥) → Fault plane end τ BEHIND-PACKET (option kind content more)
-shut-fault planes.Control end τ kind content more shut = absurd (shut (λ k q. clash q))
-shut-fault planes.Data end τ kind content more shut = behind-packet PACKET-DATA refl (λ e. shut (amongst _ (standsLast planes.Data) (e, tt)))
+behind : (plane : Plane) (τ : Table) → (Open plane τ → ⊥) → Behind plane τ
+behind planes.Control τ shut = shut (λ k q. clash q)
+behind planes.Data τ shut = λ e. shut (amongst _ (standsLast planes.Data) (e, tt))
+
+pub not-behind : (plane : Plane) (τ : Table) → Open plane τ → Behind plane τ → ⊥
+not-behind planes.Control τ o b = b
+not-behind planes.Data τ o b = b (o PACKET-DATA refl)
 
 -- 6, 4 or 5
-module _ (plane : Plane) (end : End) (τ : Table) (kind : ℕ) (content : List ℕ) (more : Options) where
+module _ (plane : Plane) (end : End) (τ : Table) (kind : ℕ) (content : List ℕ) (more : Options) (first : Behind plane τ → ⊥) where
   own-fault : (faultOf (mayHold plane end) kind content ≡ 0 → ⊥) → Fault plane end τ (faultOf (mayHold plane end) kind content) (option kind content more)
   unfolding faultOf
   own-fault = go (among kind known) refl (among kind (mayHold plane end)) refl (lengthListed kind (length content)) refl (valueListed kind content) refl
@@ -48,9 +53,9 @@ module _ (plane : Plane) (end : End) (τ : Table) (kind : ℕ) (content : List �
           → (cond u (cond v (cond w (cond x 0 VALUE) LENGTH) UNLISTED) 0 ≡ 0 → ⊥)
           → Fault plane end τ (cond u (cond v (cond w (cond x 0 VALUE) LENGTH) UNLISTED) 0) (option kind content more)
       go false p v q w r x s n = absurd (n refl)
-      go true p false q w r x s n = unlisted p q
-      go true p true q false r x s n = other-length p r
-      go true p true q true r false s n = meaningless p s
+      go true p false q w r x s n = unlisted first p q
+      go true p true q false r x s n = other-length first p q r
+      go true p true q true r false s n = meaningless first p q r s
       go true p true q true r true s n = absurd (n refl)
 
 -- the first fault of a body that begins at a place, behind what a table holds already
@@ -59,10 +64,7 @@ pub record Found (plane : Plane) (end : End) (τ : Table) (f : Options) (start n
   pub rest : Options
   pub parts : bytes f ≡ bytes before ++ bytes rest
   pub whole : length (bytes f) < 2 ^ 16 → Whole-options before
-  pub listed-all : All (Listed plane end) before
-  pub room : Room plane end τ before
-  pub opens : Opens plane end τ before
-  pub ending : Ending plane before
+  pub faultless : Faultless plane end τ before
   pub fault : Fault plane end (plus plane end τ before) number rest
   pub rest-own : split (bytes f) ≡ f → length (bytes f) < 2 ^ 16 → (split (bytes rest) ≡ rest) × (0 < length (bytes rest))
   pub place-is : place ≡ start + length (bytes before)
@@ -70,16 +72,13 @@ pub record Found (plane : Plane) (end : End) (τ : Table) (f : Options) (start n
 module _ (plane : Plane) (end : End) (τ : Table) where
   -- the first option is at fault
   found-here : (f : Options) (start number : ℕ) → (split (bytes f) ≡ f → 0 < length (bytes f)) → Fault plane end τ number f → Found plane end τ f start number start
-  unfolding bytes count Whole-options
+  unfolding bytes Whole-options
   found-here f start number filled h = record {
     before = done;
     rest = f;
     parts = refl;
     whole = λ short. tt;
-    listed-all = tt;
-    room = λ k n. at-most (τ k n);
-    opens = tt;
-    ending = tt;
+    faultless = faultless-done plane end τ;
     fault = rw (plus-done plane end τ) h;
     rest-own = λ own short. (own, filled own);
     place-is = omega arith;
@@ -91,17 +90,14 @@ module _ (plane : Plane) (end : End) (τ : Table) where
   unfolding bytes Whole-options
   found-later kind content f start number place a later =
       let size : length (optionBytes kind content ++ bytes f) ≡ 3 + length content + length (bytes f) = rw (length-append, option-length) in
-      let room-here : Room plane end τ (option kind content (later .before)) = room-option plane end τ kind content (later .before) .1 (a .free, later .room) in
+      let whole = faultless-option plane end τ kind content (later .before) .1 (a, later .faultless) in
       record {
         before = option kind content (later .before);
         rest = later .rest;
         parts = ap (λ (l : List ℕ). optionBytes kind content ++ l) (later .parts) ∙ sym (append-assoc (optionBytes kind content) (bytes (later .before)) (bytes (later .rest)));
         whole = λ short. (omega arith, later .whole (omega arith));
-        listed-all = (a .listed, later .listed-all);
-        room = room-here;
-        opens = a .opens;
-        ending = (ended plane end τ kind content (later .before) (later .listed-all) (later .opens), later .ending);
-        fault = rw (plus-option plane end τ kind content (later .before) room-here) at (later .fault);
+        faultless = whole;
+        fault = rw (plus-option plane end τ kind content (later .before) (whole .room)) at (later .fault);
         rest-own = λ own short.
             let small : length content < 2 ^ 16 = omega arith in
             let own-more : split (bytes f) ≡ f = cc (split-front kind content (bytes f) small) in
@@ -132,8 +128,8 @@ module _ {A B : Type 0} (S : Sort A B) (id : DatalinkId) (stated : Table → A) 
             (cond shut (stop BEHIND-PACKET)
             (cond sound (cond told (cond free (next (S .state kind channel content (stated τ))) (stop REPEATED)) (next (stated τ)))
             (stop (faultOf (mayHold (S .plane) (S .end)) kind content))))
-        go true p sound q told r free s = shut-fault (S .plane) (S .end) τ kind content more (λ o. clash (sym (C .opens τ .0 o) ∙ p))
-        go false p false q told r free s = own-fault (S .plane) (S .end) τ kind content more (eqb-false _ _ q)
+        go true p sound q told r free s = behind-packet (behind (S .plane) τ (λ o. clash (sym (C .opens τ .0 o) ∙ p)))
+        go false p false q told r free s = own-fault (S .plane) (S .end) τ kind content more (not-behind (S .plane) τ (C .opens τ .1 p)) (eqb-false _ _ q)
         go false p true q false r free s = (
           record {
             listed = listed (S .plane) (S .end) kind content (eqb-true _ _ q);
@@ -153,13 +149,13 @@ module _ {A B : Type 0} (S : Sort A B) (id : DatalinkId) (stated : Table → A) 
               record { listed = l; free = free-of (S .plane) (S .end) kind content r held τ (of-vacant (τ kind channel) v); opens = C .opens τ .1 p },
               C .state τ kind held content ∙ ap stated (sym (adding-puts (S .plane) (S .end) kind content r held τ)),
             )
-            seat l held false v = repeated r (λ z. clash (sym v ∙ ap vacant z))
+            seat l held false v = repeated (not-behind (S .plane) τ (C .opens τ .1 p)) r l (λ z. clash (sym v ∙ ap vacant z))
 
   -- a property holds of each verdict on the options of a body that begins at a place, behind what a table holds already
   pub record Judged (P : Verdict → Type 0) (τ : Table) (f : Options) (start : ℕ) : Type 0 where
     pub accepted : Allowed (S .plane) (S .end) id τ f → P Verdict.Accepted
     pub at-option : (number place : ℕ) → Found (S .plane) (S .end) τ f start number place → P (Verdict.Refused (record { number = number; place = place }))
-    pub at-end : (number place : ℕ) → MISSING ≤ number → number ≤ OTHER-DATALINK → place ≡ start + length (bytes f) → P (Verdict.Refused (record { number = number; place = place }))
+    pub at-end : (number place : ℕ) → Faultless (S .plane) (S .end) τ f → Lack (S .plane) (S .end) id (plus (S .plane) (S .end) τ f) number → place ≡ start + length (bytes f) → P (Verdict.Refused (record { number = number; place = place }))
 
   module _ (P : Verdict → Type 0) where
     -- 9, 10, 11
@@ -167,11 +163,14 @@ module _ {A B : Type 0} (S : Sort A B) (id : DatalinkId) (stated : Table → A) 
     unfolding finishOf bytes
     finished τ start j = go (missing S (mustHold (S .plane) (S .end)) (stated τ)) refl (S .paired (stated τ)) refl (S .ours (stated τ)) refl
       where
-        go : (lacks : Bool) → missing S (mustHold (S .plane) (S .end)) (stated τ) ≡ lacks → (pairs : Bool) → S .paired (stated τ) ≡ pairs → (own : Bool) → S .ours (stated τ) ≡ own
-            → P (C .verdict (cond lacks (S .refuse MISSING start) (cond pairs (cond own (S .accept (stated τ)) (S .refuse OTHER-DATALINK start)) (S .refuse UNPAIRED start))))
-        go true p pairs q own r = rw (C .refused) (j .at-end MISSING start (omega arith) (omega arith) (omega arith))
-        go false p false q own r = rw (C .refused) (j .at-end UNPAIRED start (omega arith) (omega arith) (omega arith))
-        go false p true q false r = rw (C .refused) (j .at-end OTHER-DATALINK start (omega arith) (omega arith) (omega arith))
+        lacks : (number : ℕ) → Lack (S .plane) (S .end) id τ number → P (C .verdict (S .refuse number start))
+        lacks number l = rw (C .refused) (j .at-end number start (faultless-done (S .plane) (S .end) τ) (rw (plus-done (S .plane) (S .end) τ) l) (omega arith))
+
+        go : (lacking : Bool) → missing S (mustHold (S .plane) (S .end)) (stated τ) ≡ lacking → (pairs : Bool) → S .paired (stated τ) ≡ pairs → (own : Bool) → S .ours (stated τ) ≡ own
+            → P (C .verdict (cond lacking (S .refuse MISSING start) (cond pairs (cond own (S .accept (stated τ)) (S .refuse OTHER-DATALINK start)) (S .refuse UNPAIRED start))))
+        go true p pairs q own r = lacks MISSING (unfilled (λ f. clash (sym (must S id stated C τ .0 f) ∙ p)))
+        go false p false q own r = lacks UNPAIRED (unpaired (must S id stated C τ .1 p) (λ x. clash (sym q ∙ C .paired τ .0 x)))
+        go false p true q false r = lacks OTHER-DATALINK (other-datalink (must S id stated C τ .1 p) (C .paired τ .1 q) (λ x. clash (sym r ∙ C .ours τ .0 x)))
         go false p true q true r =
             rw (C .accepted)
             (j .accepted (allowed-done (S .plane) (S .end) id τ .1 (record { filled = must S id stated C τ .1 p; paired = C .paired τ .1 q; ours = C .ours τ .1 r })))
@@ -197,7 +196,9 @@ module _ {A B : Type 0} (S : Sort A B) (id : DatalinkId) (stated : Table → A) 
             (record {
               accepted = λ w. j .accepted (allowed-option (S .plane) (S .end) id τ kind content more .1 (h .0, w));
               at-option = λ number place w. j .at-option number place (found-later (S .plane) (S .end) τ kind content more start number place (h .0) w);
-              at-end = λ number place a b e. j .at-end number place a b (e ∙ rw (length-append, option-length) (omega arith));
+              at-end = λ number place w l e.
+                  let whole = faultless-option (S .plane) (S .end) τ kind content more .1 (h .0, w) in
+                  j .at-end number place whole (rw (plus-option (S .plane) (S .end) τ kind content more (whole .room)) at l) (e ∙ rw (length-append, option-length) (omega arith));
             })
         go later (stop number) h =
             rw (C .refused)
@@ -212,7 +213,7 @@ module _ {A B : Type 0} (S : Sort A B) (id : DatalinkId) (stated : Table → A) 
   -- a property holds of each verdict on a datagram: of another plane; refused by its length or header; judged by its options
   pub record Reads (P : Verdict → Type 0) (s : List ℕ) : Type 0 where
     pub other : P Verdict.OtherPlane
-    pub in-header : (number : ℕ) → LONG-DATAGRAM ≤ number → number ≤ HEADER → P (Verdict.Refused (record { number = number; place = 0 }))
+    pub in-header : (number : ℕ) → InHeader s number → P (Verdict.Refused (record { number = number; place = 0 }))
     pub in-body : (header : ℕ) (body : List ℕ) → s ≡ header ∷ body → suc (length body) ≤ LONGEST-DATAGRAM → versionOf header ≡ CURRENT-VERSION → flagOf header ≡ flag (S .plane)
         → Judged P nothing (split body) 1
 
@@ -225,9 +226,10 @@ module _ {A B : Type 0} (S : Sort A B) (id : DatalinkId) (stated : Table → A) 
       go : (xs : List ℕ) → s ≡ xs → (long : Bool) → ltb LONGEST-DATAGRAM (length xs) ≡ long → (empty : Bool) → eqb (length xs) 0 ≡ empty
           → (version : Bool) → eqb (versionOf (getD xs 0 0)) CURRENT-VERSION ≡ version → (own : Bool) → eqb (flagOf (getD xs 0 0)) (flag (S .plane)) ≡ own
           → P (C .verdict (cond long (S .refuse LONG-DATAGRAM 0) (cond empty (S .refuse HEADER 0) (cond version (cond own (judge (rulesOf S) (split (drop 1 xs)) 1 (S .blank)) (S .other)) (S .refuse HEADER 0)))))
-      go xs e true p empty q version v own f = rw (C .refused) (r .in-header LONG-DATAGRAM (omega arith) (omega arith))
-      go xs e false p true q version v own f = rw (C .refused) (r .in-header HEADER (omega arith) (omega arith))
-      go xs e false p false q false v own f = rw (C .refused) (r .in-header HEADER (omega arith) (omega arith))
-      go xs e false p false q true v false f = rw (C .other) (r .other)
-      go [] e false p false q true v true f = clash (sym q)
+      go xs e true p empty q version v own f = rw (C .refused) (r .in-header LONG-DATAGRAM (too-long (rw e (ltb-true _ _ p))))
+      go [] e false p true q version v own f = rw (C .refused) (r .in-header HEADER (no-header e))
+      go [] e false p false q version v own f = clash (sym q)
+      go (header ∷ body) e false p true q version v own f = let none : suc (length body) ≡ 0 = eqb-true _ _ q in absurd (omega arith)
+      go (header ∷ body) e false p false q false v own f = rw (C .refused) (r .in-header HEADER (other-version (rw e (ltb-false _ _ p)) e (eqb-false _ _ v)))
+      go (header ∷ body) e false p false q true v false f = rw (C .other) (r .other)
       go (header ∷ body) e false p false q true v true f = judged-body P (split body) (r .in-body header body e (ltb-false _ _ p) (eqb-true _ _ v) (eqb-true _ _ f))

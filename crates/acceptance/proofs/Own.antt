@@ -13,7 +13,7 @@ use Rattle.acceptance.specs.Account.{All, Listed, Accepts}
 
 module _ (plane : Plane) (end : End) where
   -- the options of a short datagram have lengths of 16 bits
-  fits : (f : Options) → All (Listed plane end) f → length (bytes f) < 2 ^ 16 → Whole-options f
+  pub fits : (f : Options) → All (Listed plane end) f → length (bytes f) < 2 ^ 16 → Whole-options f
   unfolding Whole-options bytes
   fits done l h = tt
   fits (cut rest) l h = l

@@ -27,20 +27,33 @@ use Rattle.reader.specs.declared.answer.PlaneAnswer.{PlaneAnswer}
 use Rattle.reader.specs.Header.{CURRENT-VERSION, versionOf, flagOf, readWith}
 use Rattle.reader.specs.Readings.{readControl, readData, planeOf}
 use Rattle.acceptance.specs.Numbers.{OfReading}
-use Rattle.acceptance.specs.Places.{Fault, cut-off, other-length, meaningless, unlisted, repeated, behind-packet, PlacedAt}
+use Rattle.acceptance.specs.Places.{Fault, cut-off, other-length, meaningless, unlisted, repeated, behind-packet, AtOption, PlacedAt}
+use Rattle.acceptance.specs.Refused.{InHeader, too-long, no-header, other-version, Lack, unfilled, unpaired, other-datalink}
 use Rattle.acceptance.proofs.Cells.{Cells}
 use Rattle.acceptance.proofs.Outcome.{Found, reads}
 use Rattle.acceptance.proofs.Control.{control-cells}
 use Rattle.acceptance.proofs.Data.{gathered, data-cells}
 
+-- 1 and 2
+header-range : {datagram : List ℕ} {number : ℕ} → InHeader datagram number → (LONG-DATAGRAM ≤ number) × (number ≤ HEADER)
+header-range (too-long h) = (omega arith, omega arith)
+header-range (no-header e) = (omega arith, omega arith)
+header-range (other-version h e v) = (omega arith, omega arith)
+
 -- 3 to 8
 fault-range : {plane : Plane} {e : End} {τ : Table} {number : ℕ} {rest : Options} → Fault plane e τ number rest → (CUT ≤ number) × (number ≤ BEHIND-PACKET)
 fault-range cut-off = (omega arith, omega arith)
-fault-range (other-length u h) = (omega arith, omega arith)
-fault-range (meaningless u h) = (omega arith, omega arith)
-fault-range (unlisted u h) = (omega arith, omega arith)
-fault-range (repeated u h) = (omega arith, omega arith)
-fault-range (behind-packet packet u h) = (omega arith, omega arith)
+fault-range (behind-packet b) = (omega arith, omega arith)
+fault-range (unlisted o u h) = (omega arith, omega arith)
+fault-range (other-length o u m h) = (omega arith, omega arith)
+fault-range (meaningless o u m l h) = (omega arith, omega arith)
+fault-range (repeated o u l h) = (omega arith, omega arith)
+
+-- 9 to 11
+lack-range : {plane : Plane} {e : End} {id : DatalinkId} {τ : Table} {number : ℕ} → Lack plane e id τ number → (MISSING ≤ number) × (number ≤ OTHER-DATALINK)
+lack-range (unfilled f) = (omega arith, omega arith)
+lack-range (unpaired f p) = (omega arith, omega arith)
+lack-range (other-datalink f p o) = (omega arith, omega arith)
 
 -- what a refusal says: one of a reader's numbers, and of bytes the place that document 01 asks for
 abbrev pub Said : Plane → End → List ℕ → Refusal → Type 0
@@ -55,36 +68,39 @@ module _ (plane : Plane) (end : End) (s : List ℕ) where
     back : Octets s → bytes (split body) ≡ body
     back o = bytes-split body ((rw d at o) .1)
 
+    pub option-placed : (number place : ℕ) → Found plane end nothing (split body) 1 number place → Octets s → AtOption plane end s (record { number = number; place = place })
+    option-placed number place w o =
+        let same = back o in
+        let size : length (bytes (split body)) ≡ length body = ap length same in
+        let parts : body ≡ bytes (w .before) ++ bytes (w .rest) = sym same ∙ w .parts in
+        let lengths : length body ≡ length (bytes (w .before)) + length (bytes (w .rest)) = ap length parts ∙ length-append (bytes (w .before)) (bytes (w .rest)) in
+        let long : length s ≡ suc (length body) = ap length d in
+        let own = w .rest-own (ap split same) (omega arith) in
+        let some-left = own .1 in
+        let place-is = w .place-is in
+        record {
+          header = header;
+          before = w .before;
+          rest = bytes (w .rest);
+          parts = d ∙ ap (λ (xs : List ℕ). header ∷ xs) parts;
+          whole = w .whole (omega arith);
+          listed = w .faultless .listed;
+          once = λ kind channel. let room = w .faultless .room kind channel in omega arith;
+          ending = w .faultless .ending;
+          fault = rw (own .0) (w .fault);
+          first-byte = place-is;
+          inside = omega arith;
+        }
+
     said-option : (number place : ℕ) → Found plane end nothing (split body) 1 number place → Said plane end s (record { number = number; place = place })
     said-option number place w =
         let range = fault-range (w .fault) in (
           (omega (arith, range .0), omega (arith, range .1)),
-          λ o.
-              let same = back o in
-              let size : length (bytes (split body)) ≡ length body = ap length same in
-              let parts : body ≡ bytes (w .before) ++ bytes (w .rest) = sym same ∙ w .parts in
-              let lengths : length body ≡ length (bytes (w .before)) + length (bytes (w .rest)) = ap length parts ∙ length-append (bytes (w .before)) (bytes (w .rest)) in
-              let long : length s ≡ suc (length body) = ap length d in
-              let own = w .rest-own (ap split same) (omega arith) in
-              let some-left = own .1 in
-              let place-is = w .place-is in
-              record {
-                in-header = λ k. absurd (omega (arith, range .0));
-                in-option = λ k l. record {
-                  header = header;
-                  before = w .before;
-                  rest = bytes (w .rest);
-                  parts = d ∙ ap (λ (xs : List ℕ). header ∷ xs) parts;
-                  whole = w .whole (omega arith);
-                  listed = w .listed-all;
-                  once = λ kind channel. let room = w .room kind channel in omega arith;
-                  ending = w .ending;
-                  fault = rw (own .0) (w .fault);
-                  first-byte = place-is;
-                  inside = omega arith;
-                };
-                in-whole = λ k l. absurd (omega (arith, range .1));
-              },
+          λ o. record {
+            in-header = λ k. absurd (omega (arith, range .0));
+            in-option = λ k l. option-placed number place w o;
+            in-whole = λ k l. absurd (omega (arith, range .1));
+          },
         )
 
     said-end : (number place : ℕ) → MISSING ≤ number → number ≤ OTHER-DATALINK → place ≡ 1 + length (bytes (split body)) → Said plane end s (record { number = number; place = place })
@@ -107,11 +123,11 @@ said S id stated C s =
     reads S id stated C (λ verdict. (refusal : Refusal) → verdict ≡ Verdict.Refused refusal → Said (S .plane) (S .end) s refusal) s
     (record {
       other = λ refusal e. clash (cc);
-      in-header = λ number h k. exact (in-front (S .plane) (S .end) s number h k);
+      in-header = λ number h. let range = header-range h in exact (in-front (S .plane) (S .end) s number (range .0) (range .1));
       in-body = λ header body d short version own. record {
         accepted = λ w refusal e. clash (cc);
         at-option = λ number place w. exact (said-option (S .plane) (S .end) s header body d short number place w);
-        at-end = λ number place h k p. exact (said-end (S .plane) (S .end) s header body d short number place h k p);
+        at-end = λ number place w l p. let range = lack-range l in exact (said-end (S .plane) (S .end) s header body d short number place (range .0) (range .1) p);
       };
     })
 

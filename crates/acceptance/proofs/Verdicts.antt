@@ -41,7 +41,7 @@ plane-numbers datagram refusal e = plane-said datagram refusal e .0
 own : {A B : Type 0} (S : Sort A B) (id : DatalinkId) (stated : Table → A) (C : Cells S id stated) (f : Options) → C .verdict (judge (rulesOf S) f 1 (S .blank)) ≡ Verdict.OtherPlane → ⊥
 own S id stated C f =
     judged-body S id stated C (λ verdict. verdict ≡ Verdict.OtherPlane → ⊥) f
-    (record { accepted = λ w e. clash (cc); at-option = λ number place w e. clash (cc); at-end = λ number place h k p e. clash (cc) })
+    (record { accepted = λ w e. clash (cc); at-option = λ number place w e. clash (cc); at-end = λ number place w l p e. clash (cc) })
 
 module _ (end : End) (id : DatalinkId) (datagram : List ℕ) where
   pub control-own : planeOf datagram ≡ PlaneAnswer.Control → readControl end id datagram .verdict ≡ Verdict.OtherPlane → ⊥

@@ -1,9 +1,10 @@
--- Document 01, "Examples": the starred ones, as rows of one table. Those on messages are options of a radio's control message.
+-- Document 01, "Examples": the starred ones, as rows of a single table. Those on messages are options of a radio's control message.
 use Prim.Native.Nat.{ℕ}
 use mathlib.Core.Path.{_≡_}
-use mathlib.Core.List.{List, [], _∷_, _++_, map}
+use mathlib.Core.List.{List, [], _∷_}
 use mathlib.Core.Bool.{Bool, true, false}
-use Rattle.quantity.specs.Examples as counts
+use lib.IntN.{ℤ, pos, negsuc}
+use Rattle.quantity.specs.Distance.{distanceOf, fitsOf, advanceOf}
 use Rattle.meaning.specs.declared.message.End.the-variants.{Radio}
 use Rattle.meaning.specs.declared.message.Plane.the-variants as planes
 use Rattle.meaning.specs.declared.message.Status.{Status}
@@ -15,13 +16,18 @@ use Rattle.read_option.specs.declared.answer.OptionAnswer.{OptionAnswer}
 use Rattle.read_option.specs.declared.answer.OptionAnswer.the-variants.{Took, Refused}
 use Rattle.read_option.specs.Items.{answerOf}
 
+-- negsuc n is -(n + 1)
 pub data Row : Type 0 where
-  counting : counts.Row → Row
+  distance : (sequence window : ℕ) → ℤ → Row
+  fits : (sequence window bytes : ℕ) → Bool → Row
+  becomes : (sequence bytes after : ℕ) → Row
   status : (content : List ℕ) (channel number : ℕ) (isUnknown isOperational : Bool) → Row
   window : (content : List ℕ) → OptionAnswer → Row
 
 abbrev pub Right : Row → Type 0
-Right (counting row) = counts.Right row
+Right (distance s w d) = distanceOf (record { 0 = s }) (record { 0 = w }) ≡ d
+Right (fits s w n answer) = fitsOf (record { 0 = s }) (record { 0 = w }) (record { 0 = n }) ≡ answer
+Right (becomes s n after) = advanceOf (record { 0 = s }) (record { 0 = n }) ≡ record { 0 = after }
 Right (status content channel number isUnknown isOperational) =
     (answerOf planes.Control Radio CHANNEL-STATUS content ≡ Took (Item.Status channel number))
     × (unknown (Status.Given number) ≡ isUnknown)
@@ -34,10 +40,18 @@ AllRight (row ∷ rows) = Right row × AllRight rows
 
 abbrev pub table : List Row
 table =
-    map counting counts.table
-    ++ (status (0x00 ∷ (0xF7 ∷ [])) 0 7 false true
+    distance 4294967000 500 (pos 796)
+    ∷ fits 4294967000 500 796 true
+    ∷ becomes 4294967000 796 500
+    ∷ fits 4294967000 500 797 false
+    ∷ distance 100 100 (pos 0)
+    ∷ fits 100 100 40 false
+    ∷ distance 100 99 (negsuc 0)
+    ∷ distance 100 2147483748 (negsuc 2147483647)
+    ∷ distance 100 2147483747 (pos 2147483647)
+    ∷ status (0x00 ∷ (0xF7 ∷ [])) 0 7 false true
     ∷ status (0x03 ∷ (0x08 ∷ [])) 3 8 true false
     ∷ window (0x02 ∷ []) (Took (Item.Window 2 Window.Empty))
     ∷ window (0x02 ∷ (0x00 ∷ (0x00 ∷ (0x00 ∷ (0x00 ∷ []))))) (Took (Item.Window 2 (Window.Given (record { 0 = 0 }))))
     ∷ window (0xFF ∷ []) (Refused 5)
-    ∷ [])
+    ∷ []

@@ -7,7 +7,7 @@ use Rattle.ips_channel_calls.specs.declared.asking.NextAnswer.{NextAnswer}
 use Rattle.ips_radio.specs.declared.RadioAnswer.{RadioAnswer}
 use Rattle.writer.specs.declared.answer.WriteAnswer.{WriteAnswer}
 
--- a message of so many bytes was written: 21 is no number of refusal
+-- a message of n bytes was written: 21 is no number of refusal
 abbrev pub writtenPart : ℕ → ℕ
 writtenPart length = mixed 21 length
 

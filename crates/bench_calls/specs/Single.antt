@@ -35,7 +35,7 @@ pub record Stand : Type 0 where
 abbrev pub standOf : Single → (store out : List ℕ) → Stand
 standOf s store out = record { channel = s .channel; store = store; out = out; time = s .time; sum = s .sum }
 
--- so many milliseconds later, as 64 bits have it
+-- n milliseconds later, as 64 bits have it
 abbrev pub later : ℕ → ℕ → ℕ
 later time milliseconds = (time + milliseconds) % 2 ^ 64
 

@@ -32,7 +32,7 @@ pub record Course : Type 0 where
 abbrev pub courseOf : Whole → (memory out : List ℕ) → Course
 courseOf w memory out = record { state = w .state; memory = memory; out = out; time = w .time; sum = w .sum }
 
--- ---- a fresh start of so many flow-controlled channels with IDs from 0 on, each with a store of 3,000 bytes
+-- ---- a fresh start of n flow-controlled channels with IDs from 0 on, each with a store of 3,000 bytes
 abbrev pub startOf : ℕ → ℕ → ChannelStart
 startOf first id = record { setting = record { id = id; controlled = true; size = record { 0 = 3000 } }; first = record { 0 = first } }
 

@@ -26,7 +26,7 @@ pub extern "C" fn nespovarda_channel_turns(
     carried.sum
 }
 
-// The endpoint, afresh: so many flow-controlled channels, the same first sequence for each. Each radio message takes `length` bytes more of the datagrams.
+// The endpoint, afresh: n flow-controlled channels, the same first sequence for each. Each radio message takes `length` bytes more of the datagrams.
 #[no_mangle]
 pub extern "C" fn nespovarda_endpoint_turns(
     channels: u8,

@@ -28,6 +28,7 @@ const HIGH: u64 = 131072;
 
 const LOW: u64 = 140737488355328;
 
+// The end that a flag stands for.
 pub fn end_of(radio: bool) -> End
     ensures { λ r. ⌜ r ≡ endOf radio ⌝ }
 {
@@ -179,6 +180,7 @@ pub fn control_sum(message: Control, channel: u8) -> u64
     )
 }
 
+// What a data message states, as one number.
 pub fn data_sum(message: Data) -> u64
     ensures { λ r. ⌜ r ≡ dataSum message ⌝ }
 {
@@ -204,6 +206,7 @@ pub fn packet_sum(sum: u64, packet: &[u8]) -> u64
     mix(mix(sum, n as u64), packet[n - 1] as u64)
 }
 
+// Whether a reader accepted the message.
 pub fn is_accepted(verdict: Verdict) -> bool
     ensures { λ r. ⌜ r ≡ isAccepted verdict ⌝ }
 {
@@ -232,6 +235,7 @@ pub fn fault(verdict: Verdict) -> u64
     }
 }
 
+// The answer about the plane, as one number.
 pub fn plane(answer: PlaneAnswer) -> u64
     ensures { λ r. ⌜ r ≡ planeDigest answer ⌝ }
 {

@@ -11,7 +11,7 @@ use Rattle.ips_channel_calls.specs.declared.asking.NextAnswer.{NextAnswer}
 use Rattle.ips_state.specs.declared.state.State.{State}
 use Rattle.ips_state.specs.Table.{channelAt}
 
--- Next: the count that was answered, and in so many bytes that packet, that channel and that Flow Sequence
+-- Next: the count that was answered, and in that many bytes the packet, that channel and that Flow Sequence
 pub record ReadBack (k : Terms) (id : ℕ) (packet : List ℕ) (sequence : Sequence) (answer : NextAnswer) (out : List ℕ) : Type 0 where
   pub named : k .id ≡ id
   pub size : ℕ

@@ -4,3 +4,4 @@ pub mod Starting
 pub mod Places
 pub mod Walking
 pub mod WithinLimits
+pub mod Fresh

@@ -1,10 +1,9 @@
--- Number 19 without an order of tests: the facts that hold of a state within the limits.
+-- Number 19 without an order of tests, in literal numbers: the facts that hold of a state within the limits.
 use Prim.Native.Nat.{ℕ, _^_, _≤_, _<_}
 use mathlib.Core.Bool.{false}
 use mathlib.Core.Path.{_≡_}
 use lib.ListN.{length, getD}
 use Rattle.quantity.specs.declared.count.LinkInstanceId.{LinkInstanceId}
-use Rattle.quantity.specs.Limits.{FEWEST-CHANNELS, MOST-CHANNELS, SHORTEST-PACKET, LONGEST-PACKET, MOST-WAITING, SMALLEST-STORE, LARGEST-STORE, RESERVED-CHANNEL, HIGHEST-STATUS, SHORTEST-NAME, LONGEST-NAME}
 use Rattle.meaning.specs.declared.message.Instance.{Instance}
 use Rattle.meaning.specs.declared.message.ContextBytes.{ContextBytes}
 use Rattle.meaning.specs.declared.message.Context.{Context}
@@ -18,29 +17,29 @@ use Rattle.ips_state.specs.Table.{channelAt}
 
 -- "more than 32 waiting, a waiting length outside 40 to 1,500, waiting bytes over the store"
 pub record QueueWithin (queue : Queue) (size : ℕ) : Type 0 where
-  pub few : queue .count ≤ MOST-WAITING
-  pub lengths : (k : ℕ) → k < length (waiting queue) → (SHORTEST-PACKET ≤ getD (waiting queue) k noEntry .length .0) × (getD (waiting queue) k noEntry .length .0 ≤ LONGEST-PACKET)
+  pub few : queue .count ≤ 32
+  pub lengths : (k : ℕ) → k < length (waiting queue) → (40 ≤ getD (waiting queue) k noEntry .length .0) × (getD (waiting queue) k noEntry .length .0 ≤ 1500)
   pub room : total (waiting queue) ≤ size
 
 -- "ID 255", "store length", "a status above 15", "a plain channel not free"
 pub record ChannelWithin (c : Channel) : Type 0 where
-  pub unreserved : c .setting .id < RESERVED-CHANNEL
-  pub smallest : SMALLEST-STORE ≤ c .setting .size .0
-  pub largest : c .setting .size .0 ≤ LARGEST-STORE
-  pub highest : (value : ℕ) → c .status ≡ Status.Given value → value ≤ HIGHEST-STATUS
+  pub unreserved : c .setting .id < 255
+  pub smallest : 1500 ≤ c .setting .size .0
+  pub largest : c .setting .size .0 ≤ 65536
+  pub highest : (value : ℕ) → c .status ≡ Status.Given value → value ≤ 15
   pub plain : c .setting .controlled ≡ false → c .flow ≡ Flow.Free
   pub queue-within : QueueWithin (c .queue) (c .setting .size .0)
 
 -- "a kept Link Instance or Context outside its lengths": a number too big for its length is
 pub record NameWithin (value size : ℕ) : Type 0 where
-  pub shortest : SHORTEST-NAME ≤ size
-  pub longest : size ≤ LONGEST-NAME
+  pub shortest : 1 ≤ size
+  pub longest : size ≤ 8
   pub fits : value < 256 ^ size
 
 -- "channel count", "an ID twice", "no channel 0"
 pub record WithinLimits (s : State) : Type 0 where
-  pub some : FEWEST-CHANNELS ≤ s .count
-  pub few : s .count ≤ MOST-CHANNELS
+  pub some : 1 ≤ s .count
+  pub few : s .count ≤ 16
   pub each : (index : ℕ) → index < s .count → ChannelWithin (channelAt s index)
   pub apart : (i j : ℕ) → i < s .count → j < s .count → channelAt s i .setting .id ≡ channelAt s j .setting .id → i ≡ j
   pub primary : ℕ

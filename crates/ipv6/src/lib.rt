@@ -12,6 +12,7 @@ const PAYLOAD_LENGTH_AT: usize = 4;
 
 const PAYLOAD_LENGTH_END: usize = 6;
 
+// Whether number 13 lets a packet pass: 40 bytes, version 6, and the Payload Length is the rest.
 pub fn is_ipv6(packet: &[u8]) -> bool
     ensures { λ r. ⌜ r ≡ isIpv6 (now (packet .entry)) ⌝ }
 {

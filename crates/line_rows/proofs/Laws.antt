@@ -450,7 +450,7 @@ module _ {line row : List ℕ} {s : Cursor} {numbers bytes : List ℕ} {i : ℕ}
   pub items-end : length row - i ≤ 1 → Advances line s numbers bytes (itemsOf (length numbers) (length bytes) row (saidAt line s numbers bytes)) r numbers′ bytes′
   items-end h = advance-as (k .goes) (sym (items-few (length numbers) (length bytes) (drop i row) (saidAt line r numbers′ bytes′) (simp length-drop (omega arith))) ∙ k .same)
 
--- ---- so many times
+-- ---- a list: n times
 pub record ListSoFar (line : List ℕ) (count : ℕ) (row : List ℕ) (s : Cursor) (numbers bytes : List ℕ) (i : ℕ) (r : Cursor) (numbers′ bytes′ : List ℕ) : Type 0 where
   pub within : i ≤ count
   pub goes : Advances line s numbers bytes (saidAt line r numbers′ bytes′) r numbers′ bytes′

@@ -22,7 +22,7 @@ abbrev pub before : (ℕ → ℕ) → ℕ → ℕ
 before n zero = 0
 before n (suc place) = n place
 
--- items so many times
+-- items n times
 unfoldable pub repeated : ℕ → List ℕ → List ℕ
 repeated zero items = []
 repeated (suc count) items = items ++ repeated count items

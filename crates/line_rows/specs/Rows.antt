@@ -51,7 +51,7 @@ abbrev pub lengthSaid : Hexed → Number
 lengthSaid Hexed.Bad = Number.Bad
 lengthSaid (Hexed.Long n) = Number.Value n
 
--- the number that a word says as an item `a b`, with room for so many bytes
+-- the number that a word says as an item `a b`, with room for n bytes
 unfoldable pub valueOf : ℕ → ℕ → ℕ → List ℕ → Number
 valueOf a b room word =
     cond (eqb a NUMBER) (parseOf b word)
@@ -85,7 +85,7 @@ abbrev pub saidMore : ℕ → Said → ℕ → Said
 saidMore a s v =
     record { good = true; rest = behindOf a v (s .rest); numbers = s .numbers ++ (v ∷ []); bytes = s .bytes ++ bytesOf a (wordOf (s .rest)) }
 
--- one item more, with room for so many numbers and bytes in all
+-- one item more, with room for `places` numbers and `size` bytes in all
 unfoldable pub itemOf : ℕ → ℕ → ℕ → ℕ → Said → Said
 itemOf places size a b s =
     cond (s .good)

@@ -13,7 +13,7 @@ use Rattle.line_rows.specs.Rows.{spellsOf, Said, readBy, goodBy, over}
 abbrev pub command : ℕ → List ℕ → List ℕ
 command key row = key ∷ (length row / 2 ∷ row)
 
--- a command stands here, behind so many items of the one before, and a word names it
+-- a command stands here, behind the last n items of the one before, and a word names it
 unfoldable pub namedOf : ℕ → List ℕ → ℕ → Bool
 namedOf skip name key = cond (ltb 0 skip) false (spellsOf name key)
 
@@ -39,7 +39,7 @@ abbrev pub rowFor : List ℕ → List ℕ → List ℕ
 rowFor table line = itemsBehind (commandOf 0 (headOf line) table)
 
 module _ (places size : ℕ) (table line : List ℕ) where
-  -- what a line says by a table, with room for so many numbers and bytes
+  -- what a line says by a table, with room for n numbers and for bytes
   unfoldable pub saidIn : Said
   saidIn = readBy places size (rowFor table line) (tailOf line)
 

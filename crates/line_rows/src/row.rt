@@ -113,7 +113,7 @@ fn items(line: &[u8], row: &[u64], s: Cursor, numbers: &mut [u64], bytes: &mut [
     r
 }
 
-// ReadsRow them so many times.
+// Reads a list: its items as often as was said.
 fn list(
     line: &[u8],
     count: u64,
@@ -134,7 +134,7 @@ fn list(
     r
 }
 
-// The first items of a row, so many or all.
+// The first n items of a row, or all of fewer.
 pub(crate) fn first_items(row: &[u64], count: u64) -> &[u64]
     ensures { λ r. ⌜ now r ≡ take (count * 2) (now (row .entry)) ⌝ }
 {
@@ -145,7 +145,7 @@ pub(crate) fn first_items(row: &[u64], count: u64) -> &[u64]
     &row[0..end]
 }
 
-// The last of so many numbers.
+// The last of the first n numbers.
 fn last_number(numbers: &[u64], count: usize) -> u64
     requires { ⌜ count ≤ length (now numbers) ⌝ }
     ensures { λ r. ⌜ r ≡ lastNumber (take count (now (numbers .entry))) ⌝ }

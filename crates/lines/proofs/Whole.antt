@@ -67,7 +67,7 @@ record Sane (buffer : List ℕ) (input : Input) (coming : List ℕ) : Type 0 whe
 abbrev Right : List ℕ → Input → List ℕ → List Report → Type 0
 Right buffer input coming reports = reports ≡ meant (length buffer) (input .over) (unread buffer input ++ coming)
 
--- a turn to another input keeps that, where it makes so many reports itself
+-- a turn to another input keeps that, where it makes n reports itself
 record Turn (buffer : List ℕ) (input : Input) (coming buffer′ : List ℕ) (input′ : Input) (coming′ : List ℕ) (own : List Report) : Type 0 where
   sane : Sane buffer′ input′ coming′
   right : (reports : List Report) → Right buffer′ input′ coming′ reports → Right buffer input coming (own ++ reports)

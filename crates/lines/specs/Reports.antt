@@ -25,7 +25,7 @@ pub data Report : Type 0 where
   whole : List ℕ → Report
   dropped : Report
 
--- a line is dropped that has no room with its newline in a buffer of so many bytes
+-- a line is dropped that has no room with its newline in a buffer of n bytes
 abbrev pub reportOf : ℕ → List ℕ → Report
 reportOf size line = cond (ltb (length line) size) (whole line) dropped
 

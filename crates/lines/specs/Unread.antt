@@ -14,7 +14,7 @@ use Rattle.lines.specs.declared.Found.the-variants.{More, End, Line, Ove
 abbrev pub startOf : Input
 startOf = record { at = 0; have = 0; over = false; ended = false }
 
--- whether what is unread lies within a buffer of so many bytes
+-- whether what is unread lies within a buffer of n bytes
 unfoldable pub tidyOf : ℕ → Input → Bool
 tidyOf size input = leb (input .at) (input .have) && leb (input .have) size
 

@@ -39,6 +39,7 @@ pub fn paired(out: &mut [u8], at: usize, label: &[u8], first: u64, second: u64) 
     labelled(out, behind, b" ", second)
 }
 
+// The Datalink ID, first of a message's words.
 pub fn datalink(out: &mut [u8], at: usize, stated: Datalink) -> usize
     ensures { λ r. ⌜ Says (now (out .entry)) at (datalinkTexts stated) r (now (out .exit)) ⌝ }
 {
@@ -48,6 +49,7 @@ pub fn datalink(out: &mut [u8], at: usize, stated: Datalink) -> usize
     labelled(out, at, b" ", id.0 as u64)
 }
 
+// ` link LENGTH NUMBER`.
 pub fn instance(out: &mut [u8], at: usize, stated: Instance) -> usize
     ensures { λ r. ⌜ Says (now (out .entry)) at (instanceTexts stated) r (now (out .exit)) ⌝ }
 {
@@ -76,6 +78,7 @@ fn spelt(out: &mut [u8], at: usize, value: u64, bytes: &mut [u8]) -> usize
     put_bytes(out, at, bytes)
 }
 
+// ` context BYTES`.
 pub fn context(out: &mut [u8], at: usize, stated: Context) -> usize
     ensures { λ r. ⌜ Says (now (out .entry)) at (contextTexts stated) r (now (out .exit)) ⌝ }
 {
@@ -88,6 +91,7 @@ pub fn context(out: &mut [u8], at: usize, stated: Context) -> usize
     spelt(out, behind, value.0, &mut bytes[0..n])
 }
 
+// ` status CHANNEL VALUE`.
 pub fn status(out: &mut [u8], at: usize, channel: u8, stated: Status) -> usize
     ensures { λ r. ⌜ Says (now (out .entry)) at (statusTexts channel stated) r (now (out .exit)) ⌝ }
 {
@@ -97,6 +101,7 @@ pub fn status(out: &mut [u8], at: usize, channel: u8, stated: Status) -> usize
     paired(out, at, b" status ", channel as u64, value as u64)
 }
 
+// ` sequence CHANNEL VALUE`.
 pub fn sequence(out: &mut [u8], at: usize, channel: u8, stated: Sequence) -> usize
     ensures { λ r. ⌜ Says (now (out .entry)) at (sequenceTexts channel stated) r (now (out .exit)) ⌝ }
 {
@@ -106,6 +111,7 @@ pub fn sequence(out: &mut [u8], at: usize, channel: u8, stated: Sequence) -> usi
     paired(out, at, b" sequence ", channel as u64, value.0 as u64)
 }
 
+// ` window CHANNEL VALUE`, or `none` for one without the field.
 pub fn window(out: &mut [u8], at: usize, channel: u8, stated: Window) -> usize
     ensures { λ r. ⌜ Says (now (out .entry)) at (windowTexts channel stated) r (now (out .exit)) ⌝ }
 {
@@ -119,6 +125,7 @@ pub fn window(out: &mut [u8], at: usize, channel: u8, stated: Window) -> usize
     }
 }
 
+// A data message's Flow Sequence, with its channel.
 pub fn counted(out: &mut [u8], at: usize, stated: Counted) -> usize
     ensures { λ r. ⌜ Says (now (out .entry)) at (countedTexts stated) r (now (out .exit)) ⌝ }
 {
@@ -128,6 +135,7 @@ pub fn counted(out: &mut [u8], at: usize, stated: Counted) -> usize
     paired(out, at, b" sequence ", channel as u64, value.0 as u64)
 }
 
+// ` channel CHANNEL`.
 pub fn channel(out: &mut [u8], at: usize, stated: Channel) -> usize
     ensures { λ r. ⌜ Says (now (out .entry)) at (channelTexts stated) r (now (out .exit)) ⌝ }
 {
@@ -137,6 +145,7 @@ pub fn channel(out: &mut [u8], at: usize, stated: Channel) -> usize
     labelled(out, at, b" channel ", id as u64)
 }
 
+// ` expiration TIME`.
 pub fn expiration(out: &mut [u8], at: usize, stated: Expiration) -> usize
     ensures { λ r. ⌜ Says (now (out .entry)) at (expirationTexts stated) r (now (out .exit)) ⌝ }
 {

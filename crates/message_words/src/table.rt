@@ -9,6 +9,7 @@ use meaning::message::StatusCell;
 use meaning::message::WindowCell;
 use quantity::limit::CHANNEL_IDS;
 
+// Each table's words, by rising Channel ID.
 pub fn statuses(out: &mut [u8], at: usize, cells: [StatusCell; CHANNEL_IDS]) -> usize
     ensures { λ r. ⌜ Says (now (out .entry)) at (tableTexts (λ n cell. statusTexts n (cell .status)) 0 cells) r (now (out .exit)) ⌝ }
 {
@@ -21,6 +22,7 @@ pub fn statuses(out: &mut [u8], at: usize, cells: [StatusCell; CHANNEL_IDS]) -> 
     behind
 }
 
+// The Flow Sequences, by rising Channel ID.
 pub fn sequences(out: &mut [u8], at: usize, cells: [SequenceCell; CHANNEL_IDS]) -> usize
     ensures { λ r. ⌜ Says (now (out .entry)) at (tableTexts (λ n cell. sequenceTexts n (cell .sequence)) 0 cells) r (now (out .exit)) ⌝ }
 {
@@ -33,6 +35,7 @@ pub fn sequences(out: &mut [u8], at: usize, cells: [SequenceCell; CHANNEL_IDS]) 
     behind
 }
 
+// The Flow Windows, by rising Channel ID.
 pub fn windows(out: &mut [u8], at: usize, cells: [WindowCell; CHANNEL_IDS]) -> usize
     ensures { λ r. ⌜ Says (now (out .entry)) at (tableTexts (λ n cell. windowTexts n (cell .window)) 0 cells) r (now (out .exit)) ⌝ }
 {

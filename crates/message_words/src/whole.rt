@@ -29,6 +29,7 @@ fn tables(out: &mut [u8], at: usize, message: Control) -> usize
     windows(out, further, grants)
 }
 
+// A control message's meaning in words.
 pub fn control(out: &mut [u8], at: usize, message: Control) -> usize
     ensures { λ r. ⌜ Says (now (out .entry)) at (controlTexts message) r (now (out .exit)) ⌝ }
 {
@@ -42,6 +43,7 @@ pub fn control(out: &mut [u8], at: usize, message: Control) -> usize
     tables(out, placed, message)
 }
 
+// A data message's meaning in words, and its packet.
 pub fn data(out: &mut [u8], at: usize, message: Data, packet: &[u8]) -> usize
     ensures { λ r. ⌜ Says (now (out .entry)) at (dataTexts message (now (packet .entry))) r (now (out .exit)) ⌝ }
 {
@@ -58,6 +60,7 @@ pub fn data(out: &mut [u8], at: usize, message: Data, packet: &[u8]) -> usize
     put_bytes(out, label, packet)
 }
 
+// `refused NUMBER PLACE`.
 pub fn refused(out: &mut [u8], at: usize, refusal: Refusal) -> usize
     ensures { λ r. ⌜ Says (now (out .entry)) at (refusedTexts refusal) r (now (out .exit)) ⌝ }
 {

@@ -2,4 +2,3 @@
 pub mod Tests
 pub mod Distance
 pub mod Window
-pub mod Examples

@@ -2,4 +2,3 @@ pub mod Limits
 pub mod Refusals
 pub mod Distance
 pub mod Window
-pub mod Examples

@@ -194,6 +194,7 @@ pub fn of_data(end: End, kind: u8, content: &[u8]) -> OptionAnswer
     }
 }
 
+// The number that an option is refused by; 0 where it was taken.
 pub fn number_of(answer: OptionAnswer) -> u8
     ensures { λ r. ⌜ r ≡ numberOf answer ⌝ }
 {

@@ -1,2 +1,3 @@
 pub mod Header
 pub mod Readings
+pub mod PlaneRows

@@ -265,6 +265,11 @@ module _ (end : End) (id : DatalinkId) (m : Control) (value : ControlValue m) (a
       go End.Ips p = rw (d, eq-eqb (id .0) (id .0) refl)
       go End.Radio p = rw (d, standing (getD (m .statuses) 0 noStatus .status) p, eq-eqb (id .0) (id .0) refl)
 
+-- every option that is written is whole
+pub control-whole : (end : End) (m : Control) → ControlValue m → controlAllowed end m ≡ true → Whole-options (controlOptions m)
+unfolding controlOptions Whole-options
+control-whole end m value allowed = adds-control end (record { 0 = 0 }) m value allowed .whole done tt
+
 -- so that number 18 is given for a control message exactly where the output is shorter
 pub control-short : (end : End) (m : Control) → ControlValue m → controlAllowed end m ≡ true → length (controlWritten m) ≤ LONGEST-DATAGRAM
 unfolding controlWritten controlOptions bytes

@@ -164,6 +164,11 @@ packet-whole : (end : End) (m : Data) (packet : List ℕ) → dataAllowed end m 
 unfolding Whole-options
 packet-whole end m packet allowed = (parts-allowed end m (length packet) allowed .packet, tt)
 
+-- every option that is written is whole
+pub data-whole : (end : End) (m : Data) (packet : List ℕ) → DataValue m → dataAllowed end m (length packet) ≡ true → Whole-options (dataOptions m packet)
+unfolding dataOptions
+data-whole end m packet value allowed = adds-data end (record { 0 = 0 }) m packet value allowed .whole (option PACKET-DATA packet done) (packet-whole end m packet allowed)
+
 pub data-round : (end : End) (id : DatalinkId) (m : Data) (packet : List ℕ) → DataValue m → dataAllowed end m (length packet) ≡ true → m .datalink ≡ Datalink.Given id
     → length (dataWritten m packet) ≤ LONGEST-DATAGRAM → readData end id (dataWritten m packet) ≡ record { verdict = Verdict.Accepted; message = m }
 unfolding readData dataWritten dataOptions dataAccepted

@@ -5,6 +5,7 @@ pub mod Control
 pub mod Data
 pub mod Answers
 pub mod Returned
+pub mod Canonical
 pub mod Held
 pub mod Shorter
 pub mod HeldControl

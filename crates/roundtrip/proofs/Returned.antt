@@ -31,7 +31,7 @@ use Rattle.roundtrip.proofs.Control.{control-short, control-round}
 use Rattle.roundtrip.proofs.Data.{data-round, packet-round}
 
 -- the bytes that the answer counts are the message
-counted : {allowed : Bool} {message out : List ℕ} {count : ByteCount} {out′ : List ℕ} → Sent allowed message out count out′ → take (count .0) out′ ≡ message
+pub counted : {allowed : Bool} {message out : List ℕ} {count : ByteCount} {out′ : List ℕ} → Sent allowed message out count out′ → take (count .0) out′ ≡ message
 counted {message} {out} s = rw (s .count-is, s .bytes-are) (take-at message (drop (length message) out) (length message) refl)
 
 module _ (end : End) (m : Control) (value : ControlValue m) (out : List ℕ) (answer : WriteAnswer) (out′ : List ℕ)

@@ -195,6 +195,14 @@ fn show_line(held: Held, memory: &[u8], id: u8, whole: bool, out: &mut [u8]) -> 
     kept(held, session_print::channel(out, 0, channel))
 }
 
+// `kept`
+fn kept_line(held: Held, out: &mut [u8]) -> Turn {
+    let state = held.state;
+    let link = state.instance;
+    let place = state.context;
+    kept(held, session_print::kept(out, 0, link, place))
+}
+
 // A line about a state that was started, on the memory that is lent with it.
 fn command_line(
     held: Held,
@@ -212,6 +220,7 @@ fn command_line(
         Command::Query(room) => query_line(held, room, output, out),
         Command::Show(id) => show_line(held, memory, id, false, out),
         Command::Store(id) => show_line(held, memory, id, true, out),
+        Command::Kept => kept_line(held, out),
     }
 }
 

@@ -27,7 +27,7 @@ abbrev pub writtenTexts : WriteAnswer → List ℕ → List (List ℕ)
 writtenTexts (WriteAnswer.Wrote count) message = WRITTEN ∷ (bytesText message ∷ [])
 writtenTexts (WriteAnswer.Refused refusal) message = refusedTexts refusal
 
--- a message that is allowed or not, written into an output of so many bytes
+-- a message that is allowed or not, written into an output of n bytes
 abbrev pub outcomeTexts : Bool → List ℕ → ℕ → List (List ℕ)
 outcomeTexts allowed message room = writtenTexts (answerTo allowed message room) message
 

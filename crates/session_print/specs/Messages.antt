@@ -11,7 +11,7 @@ use Rattle.session_print.specs.Echoes.{echoingTexts}
 abbrev pub BAD-LINE : List ℕ
 BAD-LINE = 98 ∷ 97 ∷ 100 ∷ 32 ∷ 108 ∷ 105 ∷ 110 ∷ 101 ∷ []
 
--- what is answered to a line that asks for this with these bytes, with so many bytes for the output; `bad line` but for `read` and `echo`
+-- what is answered to a line that asks for this with these bytes, with n bytes for the output; `bad line` but for `read` and `echo`
 abbrev pub messageTexts : ℕ → List ℕ → Asked → List (List ℕ)
 messageTexts most datagram (Asked.Read end id) = readingTexts end (record { 0 = id }) datagram
 messageTexts most datagram (Asked.Echo end id other room) = echoingTexts end (record { 0 = id }) datagram other (min room most)
@@ -27,6 +27,6 @@ aboutState (Asked.Echo end id other room) = false
 aboutState Asked.Start = true
 aboutState (Asked.State command) = true
 
--- a line that isn't about a state, with memories of so many bytes for what it says and for the output
+-- a line that isn't about a state, with memories of n and m bytes for what it says and for the output
 unfoldable pub answerTexts : ℕ → ℕ → List ℕ → List (List ℕ)
 answerTexts size most line = messageTexts most (saidBy size line .bytes) (askedOf size line)

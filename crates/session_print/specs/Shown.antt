@@ -1,15 +1,18 @@
 -- docs/SESSION.md: "`show CHANNEL`: `channel CHANNEL STATUS FLOW SEQUENCE LATEST WAITING` and then `LEN EXPIRY` for each waiting packet. `STATUS` is `-` while not
 -- reported; `FLOW` is `free`, `none` or the window's number." "`store CHANNEL`: `store HEX`, every byte of that channel's store".
+-- "`kept`: `kept`, and `link LEN VALUE` and `context HEX`, each where there is one".
 use Prim.Native.Nat.{ℕ}
 use mathlib.Core.List.{List, [], _∷_, _++_}
 use Rattle.text.specs.Strings.{bytesText}
+use Rattle.meaning.specs.declared.message.Instance.{Instance}
+use Rattle.meaning.specs.declared.message.Context.{Context}
 use Rattle.meaning.specs.declared.message.Status.{Status}
 use Rattle.store.specs.declared.queue.Entry.{Entry}
 use Rattle.store.specs.declared.queue.Queue.{Queue}
 use Rattle.store.specs.Waiting.{waiting}
 use Rattle.flow.specs.declared.Flow.{Flow}
 use Rattle.ips_channel.specs.declared.state.Channel.{Channel}
-use Rattle.message_words.specs.Phrases.{SPACE, oneNumber, twoNumbers}
+use Rattle.message_words.specs.Phrases.{SPACE, oneNumber, twoNumbers, instanceTexts, contextTexts}
 
 -- ` -`
 abbrev pub NOT-REPORTED : List ℕ
@@ -30,6 +33,10 @@ CHANNEL = 99 ∷ 104 ∷ 97 ∷ 110 ∷ 110 ∷ 101 ∷ 108 ∷ 32 ∷ []
 -- `store `
 abbrev pub STORE : List ℕ
 STORE = 115 ∷ 116 ∷ 111 ∷ 114 ∷ 101 ∷ 32 ∷ []
+
+-- `kept`
+abbrev pub KEPT : List ℕ
+KEPT = 107 ∷ 101 ∷ 112 ∷ 116 ∷ []
 
 abbrev pub statusTexts : Status → List (List ℕ)
 statusTexts Status.Absent = NOT-REPORTED ∷ []
@@ -53,3 +60,7 @@ channelTexts c =
 
 abbrev pub storeTexts : List ℕ → List (List ℕ)
 storeTexts store = STORE ∷ (bytesText store ∷ [])
+
+-- the Link Instance and the Context of a state, as `read` says those of a message
+unfoldable pub keptTexts : Instance → Context → List (List ℕ)
+keptTexts link context = KEPT ∷ (instanceTexts link ++ contextTexts context)

@@ -14,6 +14,7 @@ use text::put;
 use text::put_bytes;
 use writer::answer::WriteAnswer;
 
+// The answer to `start`.
 pub fn started(out: &mut [u8], at: usize, answer: StartAnswer) -> usize
     ensures { λ r. ⌜ Says (now (out .entry)) at (startTexts answer) r (now (out .exit)) ⌝ }
 {
@@ -23,6 +24,7 @@ pub fn started(out: &mut [u8], at: usize, answer: StartAnswer) -> usize
     }
 }
 
+// The answer to `offer`.
 pub fn offered(out: &mut [u8], at: usize, answer: OfferAnswer) -> usize
     ensures { λ r. ⌜ Says (now (out .entry)) at (offerTexts answer) r (now (out .exit)) ⌝ }
 {
@@ -45,7 +47,7 @@ pub fn asked(out: &mut [u8], at: usize, answer: NextAnswer, lent: &[u8]) -> usiz
     }
 }
 
-// A label and so many bytes of a lent output.
+// A label and n bytes of a lent output.
 fn message(out: &mut [u8], at: usize, label: &[u8], count: usize, lent: &[u8]) -> usize
     ensures { λ r. ⌜ Says (now (out .entry)) at (now (label .entry) ∷ (bytesText (take count (now (lent .entry))) ∷ [])) r (now (out .exit)) ⌝ }
 {
@@ -56,6 +58,7 @@ fn message(out: &mut [u8], at: usize, label: &[u8], count: usize, lent: &[u8]) -
     put_bytes(out, behind, lent)
 }
 
+// The answer to `withdraw`.
 pub fn emptied(out: &mut [u8], at: usize, answer: WithdrawAnswer) -> usize
     ensures { λ r. ⌜ Says (now (out .entry)) at (withdrawTexts answer) r (now (out .exit)) ⌝ }
 {
@@ -65,6 +68,7 @@ pub fn emptied(out: &mut [u8], at: usize, answer: WithdrawAnswer) -> usize
     }
 }
 
+// The answer to `radio`.
 pub fn heard(out: &mut [u8], at: usize, answer: RadioAnswer) -> usize
     ensures { λ r. ⌜ Says (now (out .entry)) at (radioTexts answer) r (now (out .exit)) ⌝ }
 {
@@ -75,6 +79,7 @@ pub fn heard(out: &mut [u8], at: usize, answer: RadioAnswer) -> usize
     }
 }
 
+// The answer to `query`, with the message that was written.
 pub fn queried(out: &mut [u8], at: usize, answer: WriteAnswer, lent: &[u8]) -> usize
     ensures { λ r. ⌜ Says (now (out .entry)) at (queryTexts answer (now (lent .entry))) r (now (out .exit)) ⌝ }
 {

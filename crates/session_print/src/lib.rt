@@ -1,4 +1,4 @@
-// The answers of the session page: what a message means or is written as, the endpoint's answers, and what a channel is.
+// The answers of the session page: what a message means or is written as, the endpoint's answers, what a channel is, and what a state keeps.
 mod answers;
 mod echo;
 mod messages;
@@ -16,3 +16,4 @@ pub use messages::bad_line;
 pub use messages::message;
 pub use shown::channel;
 pub use shown::held;
+pub use shown::kept;

@@ -26,6 +26,7 @@ pub fn about_state(asked: Asked) -> bool
     }
 }
 
+// The answer to a line that breaks the page.
 pub fn bad_line(out: &mut [u8]) -> usize
     ensures { λ r. ⌜ Says (now (out .entry)) 0 (BAD-LINE ∷ []) r (now (out .exit)) ⌝ }
 {

@@ -1,9 +1,13 @@
-// What a channel is, and what its store holds.
+// What a channel is, what its store holds, and what a state keeps beside its channels.
 ghost use Rattle.message_words.specs.Saying.{Says};
-ghost use Rattle.session_print.specs.Shown.{statusTexts, flowTexts, waitingTexts, channelTexts, storeTexts};
+ghost use Rattle.session_print.specs.Shown.{statusTexts, flowTexts, waitingTexts, channelTexts, storeTexts, keptTexts};
 use flow::Flow;
 use ips_channel::state::Channel;
+use meaning::message::Context;
+use meaning::message::Instance;
 use meaning::message::Status;
+use message_words::part::context;
+use message_words::part::instance;
 use message_words::part::labelled;
 use message_words::part::paired;
 use quantity::limit::MOST_WAITING;
@@ -46,6 +50,7 @@ fn waiting(out: &mut [u8], at: usize, queue: Queue) -> usize
     behind
 }
 
+// The answer to `show`.
 pub fn channel(out: &mut [u8], at: usize, channel: Channel) -> usize
     ensures { λ r. ⌜ Says (now (out .entry)) at (channelTexts channel) r (now (out .exit)) ⌝ }
 {
@@ -61,9 +66,19 @@ pub fn channel(out: &mut [u8], at: usize, channel: Channel) -> usize
     waiting(out, timed, queue)
 }
 
+// The answer to `store`: every byte of it.
 pub fn held(out: &mut [u8], at: usize, store: &[u8]) -> usize
     ensures { λ r. ⌜ Says (now (out .entry)) at (storeTexts (now (store .entry))) r (now (out .exit)) ⌝ }
 {
     let behind = put(out, at, b"store ");
     put_bytes(out, behind, store)
+}
+
+// The Link Instance and the Context, each where there is one.
+pub fn kept(out: &mut [u8], at: usize, link: Instance, place: Context) -> usize
+    ensures { λ r. ⌜ Says (now (out .entry)) at (keptTexts link place) r (now (out .exit)) ⌝ }
+{
+    let label = put(out, at, b"kept");
+    let linked = instance(out, label, link);
+    context(out, linked, place)
 }

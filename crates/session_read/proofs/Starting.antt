@@ -66,7 +66,7 @@ finishing-end : (index : ℕ) (g : Gathered) → finishing index g [] ≡ g
 unfolding finishing placed storesOf
 finishing-end index g = let z : g .total + 0 ≡ g .total = omega arith in rw z
 
--- ---- the loop: so many channels have joined, and what is left gives the whole
+-- ---- the loop: the first n channels have joined, and what is left gives the whole
 pub record Gathering (n : ℕ → ℕ) (index : ℕ) (g : Gathered) : Type 0 where
   pub few : index ≤ n 1
   pub bound : g .total ≤ index * MOST-ROOM

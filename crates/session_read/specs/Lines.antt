@@ -72,6 +72,10 @@ SHOW = keyText (115 ∷ 104 ∷ 111 ∷ 119 ∷ [])
 abbrev pub STORE : ℕ
 STORE = keyText (115 ∷ 116 ∷ 111 ∷ 114 ∷ 101 ∷ [])
 
+-- `kept`
+abbrev pub KEPT : ℕ
+KEPT = keyText (107 ∷ 101 ∷ 112 ∷ 116 ∷ [])
+
 -- ---- "the values"
 
 -- "`ID`, `CHANNEL`: 0 to 255"
@@ -113,7 +117,7 @@ ABOUT-MESSAGES =
     ++ command ECHO (IPS ∷ RADIO ∷ NUMBER ∷ HIGHEST-ID ∷ BYTES ∷ 0 ∷ IPS ∷ RADIO ∷ NUMBER ∷ MOST-ROOM ∷ [])
 
 -- `start ID COUNT`, `CHANNEL KIND FIRST STORE` for each channel, and perhaps `memory LEN`; `offer CHANNEL NOW EXPIRY HEX`; `next CHANNEL NOW ROOM`;
--- `withdraw CHANNEL`; `radio HEX`; `query ROOM`; `show CHANNEL`; `store CHANNEL`
+-- `withdraw CHANNEL`; `radio HEX`; `query ROOM`; `show CHANNEL`; `store CHANNEL`; `kept`
 abbrev pub ABOUT-A-STATE : List ℕ
 ABOUT-A-STATE =
     command START
@@ -127,6 +131,7 @@ ABOUT-A-STATE =
     ++ command QUERY (NUMBER ∷ MOST-ROOM ∷ [])
     ++ command SHOW (NUMBER ∷ HIGHEST-ID ∷ [])
     ++ command STORE (NUMBER ∷ HIGHEST-ID ∷ [])
+    ++ command KEPT []
 
 abbrev pub COMMANDS : List ℕ
 COMMANDS = ABOUT-MESSAGES ++ ABOUT-A-STATE
@@ -149,7 +154,8 @@ askedBy key n =
     (cond (eqb key QUERY) (Asked.State (Command.Query (n 0)))
     (cond (eqb key SHOW) (Asked.State (Command.Show (n 0)))
     (cond (eqb key STORE) (Asked.State (Command.Store (n 0)))
-    Asked.Bad)))))))))
+    (cond (eqb key KEPT) (Asked.State Command.Kept)
+    Asked.Bad))))))))))
 
 -- the configuration that `start` says; none for another line
 unfoldable pub startBy : ℕ → (ℕ → ℕ) → StartWords
@@ -158,7 +164,7 @@ startBy key n = cond (eqb key START) (startFrom n) noStart
 abbrev pub numbersIn : List ℕ → ℕ → ℕ
 numbersIn numbers = λ i. getD numbers i 0
 
--- ---- a line, with room for so many bytes
+-- ---- a line, with room for n bytes
 abbrev pub saidBy : ℕ → List ℕ → Said
 saidBy size line = saidIn PLACES size COMMANDS (shortened line)
 

@@ -14,7 +14,7 @@ use Rattle.session_read.specs.declared.start.StartWords.{StartWords}
 abbrev pub channelStart : (ℕ → ℕ) → ℕ → ChannelStart
 channelStart n at = record { setting = record { id = n at; controlled = eqb (n (at + 1)) 1; size = record { 0 = n (at + 3) } }; first = record { 0 = n (at + 2) } }
 
--- so many channels, one behind another
+-- n channels, one behind another
 unfoldable pub channelStarts : ℕ → ℕ → (ℕ → ℕ) → List ChannelStart
 channelStarts zero at n = []
 channelStarts (suc count) at n = channelStart n at ∷ channelStarts count (at + 4) n
@@ -27,7 +27,7 @@ storesOf (channel ∷ starts) = channel .setting .size .0 + storesOf starts
 abbrev pub noChannelStart : ChannelStart
 noChannelStart = record { setting = record { id = 0; controlled = false; size = record { 0 = 0 } }; first = record { 0 = 0 } }
 
--- the first of them in so many places, blank ones behind
+-- the first n of them in n places, blank ones behind
 unfoldable pub tabled : ℕ → List ChannelStart → List ChannelStart
 tabled zero starts = []
 tabled (suc places) [] = noChannelStart ∷ tabled places []

@@ -6,6 +6,7 @@ ghost use Rattle.session_read.specs.Lines.{endOf, askedBy, numbersIn, Bo
 ghost use Rattle.session_read.specs.declared.asked.Asked.{Asked};
 ghost use Rattle.session_read.specs.declared.asked.Command.{Command};
 use crate::table::ECHO;
+use crate::table::KEPT;
 use crate::table::NEXT;
 use crate::table::OFFER;
 use crate::table::PLACES;
@@ -36,6 +37,7 @@ pub enum Command {
     Query(usize),
     Show(u8),
     Store(u8),
+    Kept,
 }
 
 fn end_of(n: u64) -> End
@@ -106,6 +108,7 @@ pub(crate) fn asks(key: u64, n: &[u64; PLACES]) -> Asked
         QUERY => Asked::State(Command::Query(room(n))),
         SHOW => Asked::State(Command::Show(channel(n))),
         STORE => Asked::State(Command::Store(channel(n))),
+        KEPT => Asked::State(Command::Kept),
         _ => Asked::Bad,
     }
 }

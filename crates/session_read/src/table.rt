@@ -46,6 +46,9 @@ pub(crate) const SHOW: u64 = 0x776f6873;
 // store
 pub(crate) const STORE: u64 = 0x65726f7473;
 
+// kept
+pub(crate) const KEPT: u64 = 0x7470656b;
+
 const HIGHEST_ID: u64 = 255;
 
 const HIGHEST_SEQUENCE: u64 = 4294967295;
@@ -57,7 +60,7 @@ const MOST_SETTINGS: u64 = 80;
 // No line says more numbers.
 pub(crate) const PLACES: usize = 324;
 
-pub(crate) const COMMANDS: [u64; 80] = [
+pub(crate) const COMMANDS: [u64; 82] = [
     // read END ID HEX
     READ,
     3,
@@ -148,4 +151,7 @@ pub(crate) const COMMANDS: [u64; 80] = [
     1,
     NUMBER,
     HIGHEST_ID,
+    // kept
+    KEPT,
+    0,
 ];

@@ -30,7 +30,7 @@ pub pair-is : (word : List ℕ) (i : ℕ) (r : Number) → r ≡ byteOf (take (i
 unfolding pairAt
 pair-is word i r e = let two : i * 2 + 2 - i * 2 ≡ 2 = omega arith in rw two at e
 
--- so many pairs, from the start, stand for a byte
+-- the first n pairs, stand for a byte
 pub record Paired (word : List ℕ) (i : ℕ) : Type 0 where
   pub within : i ≤ length word / 2
   pub count : i ≤ length (pairsOf word)
@@ -202,7 +202,7 @@ pairs-last bytes i h =
     let last = append-nil (digits 16 2 (getD bytes i 0)) in
     sym (rw (add-one i, take-suc bytes i 0 h, pairs-append) (ap (λ (l : List ℕ). pairsText (take i bytes) ++ l) last))
 
--- so many bytes are laid
+-- the first n bytes are laid
 pub record Pairs (out : List ℕ) (at : ℕ) (bytes : List ℕ) (i r : ℕ) (out′ : List ℕ) : Type 0 where
   pub within : i ≤ length bytes
   pub laid : Lays out at (pairsText (take i bytes)) r out′

@@ -13,7 +13,7 @@ use Rattle.io.specs.Digits.{glyph}
 unfoldable pub laid : List ℕ → ℕ → List ℕ → List ℕ
 laid out at text = cond (leb (at + length text) (length out)) (take at out ++ text ++ drop (at + length text) out) out
 
--- the cursor behind a text of so many bytes, where it has room in an output of so many
+-- the cursor behind a text of n bytes, where it has room in an output of m
 unfoldable pub behind : ℕ → ℕ → ℕ → ℕ
 behind size at n = cond (leb (at + n) size) (at + n) at
 
@@ -28,7 +28,7 @@ pub record Wrote (out : List ℕ) (text : List ℕ) (r : ℕ) (out′ : List ℕ
   pub count : r ≡ length text
   pub bytes : out′ ≡ text ++ drop (length text) out
 
--- the last decimal digits of a number, at most so many and no needless leading zero
+-- the last decimal digits of a number, at most n and no needless leading zero
 unfoldable pub lastDigits : ℕ → ℕ → List ℕ
 lastDigits zero n = []
 lastDigits (suc k) n = cond (ltb n 10) [] (lastDigits k (n / 10)) ++ (glyph (n % 10) ∷ [])

@@ -35,7 +35,7 @@ pairsOf (a ∷ (b ∷ word)) = before (byteOf (a ∷ (b ∷ []))) (pairsOf word)
 unfoldable pub readableOf : List ℕ → Bool
 readableOf word = bySize false (λ a. eqb a 45) (eqb (length (pairsOf word) * 2) (length word)) word
 
--- the answer: how many bytes, where the word stands for some that have room in an output of so many
+-- the answer: how many bytes, where the word stands for some that have room in an output of n
 unfoldable pub hexedOf : ℕ → List ℕ → Hexed
 hexedOf size word =
     cond (readableOf word) (cond (leb (length word / 2) size) (hexed.Long (length word / 2)) hexed.Bad) hexed.Bad

@@ -21,7 +21,7 @@ pub enum Number {
     Value(u64),
 }
 
-// What a word stands for as a byte string: so many bytes.
+// What a word stands for as a byte string: n bytes.
 pub enum Hexed {
     Bad,
     Long(usize),

@@ -14,6 +14,7 @@ pub enum Frame {
     Whole(u8, usize),
 }
 
+// The option that stands first in the rest of a body, if it is whole.
 pub fn first(rest: &[u8]) -> Frame
     ensures { λ r. ⌜ r ≡ frameOf (now (rest .entry)) ⌝ }
 {

@@ -55,6 +55,7 @@ fn primary(end: End, statuses: [StatusCell; CHANNEL_IDS]) -> bool
     }
 }
 
+// Number 20 for a control message: whether its meaning may be written by this end.
 pub fn may_write(end: End, message: Control) -> bool
     ensures { λ r. ⌜ r ≡ controlAllowed end message ⌝ }
 {

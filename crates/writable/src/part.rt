@@ -43,6 +43,7 @@ fn name(end: End, kind: u8, number: u64, size: usize) -> bool
         && (SHORTEST_NAME <= size && (size <= LONGEST_NAME && fits(number, size)))
 }
 
+// A Datalink Identifier has to be stated.
 pub fn datalink(datalink: Datalink) -> bool
     ensures { λ r. ⌜ r ≡ datalinkAllowed datalink ⌝ }
 {
@@ -52,6 +53,7 @@ pub fn datalink(datalink: Datalink) -> bool
     }
 }
 
+// A Link Instance has a listed length, and its number fits it.
 pub fn instance(end: End, instance: Instance) -> bool
     ensures { λ r. ⌜ r ≡ instanceAllowed end instance ⌝ }
 {
@@ -61,6 +63,7 @@ pub fn instance(end: End, instance: Instance) -> bool
     }
 }
 
+// A Context likewise.
 pub fn context(end: End, context: Context) -> bool
     ensures { λ r. ⌜ r ≡ contextAllowed end context ⌝ }
 {
@@ -70,6 +73,7 @@ pub fn context(end: End, context: Context) -> bool
     }
 }
 
+// A status of at most 15.
 pub fn status(end: End, status: Status) -> bool
     ensures { λ r. ⌜ r ≡ statusAllowed end status ⌝ }
 {
@@ -80,6 +84,7 @@ pub fn status(end: End, status: Status) -> bool
     }
 }
 
+// A Flow Sequence, where this end may state one.
 pub fn sequence(end: End, sequence: Sequence) -> bool
     ensures { λ r. ⌜ r ≡ sequenceAllowed end sequence ⌝ }
 {
@@ -89,6 +94,7 @@ pub fn sequence(end: End, sequence: Sequence) -> bool
     }
 }
 
+// A Flow Window, where this end may state one.
 pub fn window(end: End, window: Window) -> bool
     ensures { λ r. ⌜ r ≡ windowAllowed end window ⌝ }
 {
@@ -113,6 +119,7 @@ pub fn counted(end: End, counted: Counted, channel: Channel) -> bool
     }
 }
 
+// A Channel Identifier other than 255.
 pub fn channel(end: End, channel: Channel) -> bool
     ensures { λ r. ⌜ r ≡ channelAllowed end channel ⌝ }
 {
@@ -123,6 +130,7 @@ pub fn channel(end: End, channel: Channel) -> bool
     }
 }
 
+// An Expiration Time other than 0.
 pub fn expiration(end: End, expiration: Expiration) -> bool
     ensures { λ r. ⌜ r ≡ expirationAllowed end expiration ⌝ }
 {

@@ -45,6 +45,7 @@ fn lay_flow(out: &mut [u8], kind: u8, channel: u8, number: u32) -> usize
     wire::option::lay(out, kind, &content)
 }
 
+// Each option's writer lays it at the start of the rest of an output, if it is stated, and gives its length.
 pub fn lay_datalink(out: &mut [u8], datalink: Datalink) -> usize
     requires { ⌜ sizeOf (datalinkThen datalink) ≤ length (now out) ⌝ }
     ensures { λ r. ⌜ Laid (alone (datalinkThen datalink)) (now (out .entry)) (now (out .exit)) r ⌝ }
@@ -55,6 +56,7 @@ pub fn lay_datalink(out: &mut [u8], datalink: Datalink) -> usize
     }
 }
 
+// Its number in as many bytes as its length says.
 pub fn lay_instance(out: &mut [u8], instance: Instance) -> usize
     requires { ⌜ ShortInstance instance ⌝ }
     requires { ⌜ sizeOf (instanceThen instance) ≤ length (now out) ⌝ }
@@ -66,6 +68,7 @@ pub fn lay_instance(out: &mut [u8], instance: Instance) -> usize
     }
 }
 
+// Its bytes, as the number that they spell.
 pub fn lay_context(out: &mut [u8], context: Context) -> usize
     requires { ⌜ ShortContext context ⌝ }
     requires { ⌜ sizeOf (contextThen context) ≤ length (now out) ⌝ }
@@ -77,6 +80,7 @@ pub fn lay_context(out: &mut [u8], context: Context) -> usize
     }
 }
 
+// Channel ID, then the Status below four unused bits of 0.
 pub fn lay_status(out: &mut [u8], channel: u8, status: Status) -> usize
     requires { ⌜ sizeOf (statusThen channel status) ≤ length (now out) ⌝ }
     ensures { λ r. ⌜ Laid (alone (statusThen channel status)) (now (out .entry)) (now (out .exit)) r ⌝ }
@@ -87,6 +91,7 @@ pub fn lay_status(out: &mut [u8], channel: u8, status: Status) -> usize
     }
 }
 
+// Channel ID, then 32 bits.
 pub fn lay_sequence(out: &mut [u8], channel: u8, sequence: Sequence) -> usize
     requires { ⌜ sizeOf (sequenceThen channel sequence) ≤ length (now out) ⌝ }
     ensures { λ r. ⌜ Laid (alone (sequenceThen channel sequence)) (now (out .entry)) (now (out .exit)) r ⌝ }
@@ -97,6 +102,7 @@ pub fn lay_sequence(out: &mut [u8], channel: u8, sequence: Sequence) -> usize
     }
 }
 
+// Channel ID alone, or with the 32 bits of a window.
 pub fn lay_window(out: &mut [u8], channel: u8, window: Window) -> usize
     requires { ⌜ sizeOf (windowThen channel window) ≤ length (now out) ⌝ }
     ensures { λ r. ⌜ Laid (alone (windowThen channel window)) (now (out .entry)) (now (out .exit)) r ⌝ }
@@ -108,6 +114,7 @@ pub fn lay_window(out: &mut [u8], channel: u8, window: Window) -> usize
     }
 }
 
+// A data message's Flow Sequence names its channel.
 pub fn lay_counted(out: &mut [u8], counted: Counted) -> usize
     requires { ⌜ sizeOf (countedThen counted) ≤ length (now out) ⌝ }
     ensures { λ r. ⌜ Laid (alone (countedThen counted)) (now (out .entry)) (now (out .exit)) r ⌝ }
@@ -118,6 +125,7 @@ pub fn lay_counted(out: &mut [u8], counted: Counted) -> usize
     }
 }
 
+// One byte.
 pub fn lay_channel(out: &mut [u8], channel: Channel) -> usize
     requires { ⌜ sizeOf (channelThen channel) ≤ length (now out) ⌝ }
     ensures { λ r. ⌜ Laid (alone (channelThen channel)) (now (out .entry)) (now (out .exit)) r ⌝ }
@@ -128,6 +136,7 @@ pub fn lay_channel(out: &mut [u8], channel: Channel) -> usize
     }
 }
 
+// 32 bits.
 pub fn lay_expiration(out: &mut [u8], expiration: Expiration) -> usize
     requires { ⌜ sizeOf (expirationThen expiration) ≤ length (now out) ⌝ }
     ensures { λ r. ⌜ Laid (alone (expirationThen expiration)) (now (out .entry)) (now (out .exit)) r ⌝ }
@@ -138,6 +147,7 @@ pub fn lay_expiration(out: &mut [u8], expiration: Expiration) -> usize
     }
 }
 
+// The packet's bytes, last of a message.
 pub fn lay_packet(out: &mut [u8], packet: &[u8]) -> usize
     requires { ⌜ length (now packet) < 2 ^ 16 ⌝ }
     requires { ⌜ sizeOf (option PACKET-DATA (now packet)) ≤ length (now out) ⌝ }

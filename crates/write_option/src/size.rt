@@ -20,6 +20,7 @@ use meaning::message::WindowCell;
 use quantity::limit::CHANNEL_IDS;
 use wire::option::FRAME_SIZE;
 
+// How long each option is, frame and content; 0 where nothing is stated.
 pub fn datalink(datalink: Datalink) -> usize
     ensures { λ r. ⌜ (r ≡ datalinkSize datalink) × (r ≤ LONGEST-OPTION) ⌝ }
 {
@@ -29,6 +30,7 @@ pub fn datalink(datalink: Datalink) -> usize
     }
 }
 
+// By its own length.
 pub fn instance(instance: Instance) -> usize
     requires { ⌜ ShortInstance instance ⌝ }
     ensures { λ r. ⌜ (r ≡ instanceSize instance) × (r ≤ LONGEST-OPTION) ⌝ }
@@ -39,6 +41,7 @@ pub fn instance(instance: Instance) -> usize
     }
 }
 
+// By its own length.
 pub fn context(context: Context) -> usize
     requires { ⌜ ShortContext context ⌝ }
     ensures { λ r. ⌜ (r ≡ contextSize context) × (r ≤ LONGEST-OPTION) ⌝ }
@@ -77,6 +80,7 @@ fn window(window: Window) -> usize
     }
 }
 
+// A Channel ID and 32 bits.
 pub fn counted(counted: Counted) -> usize
     ensures { λ r. ⌜ (r ≡ countedSize counted) × (r ≤ LONGEST-OPTION) ⌝ }
 {
@@ -86,6 +90,7 @@ pub fn counted(counted: Counted) -> usize
     }
 }
 
+// One byte.
 pub fn channel(channel: Channel) -> usize
     ensures { λ r. ⌜ (r ≡ channelSize channel) × (r ≤ LONGEST-OPTION) ⌝ }
 {
@@ -95,6 +100,7 @@ pub fn channel(channel: Channel) -> usize
     }
 }
 
+// 32 bits.
 pub fn expiration(expiration: Expiration) -> usize
     ensures { λ r. ⌜ (r ≡ expirationSize expiration) × (r ≤ LONGEST-OPTION) ⌝ }
 {
@@ -114,6 +120,7 @@ fn cells(status: StatusCell, sequence: SequenceCell, window: WindowCell) -> usiz
     size::status(given_status) + size::sequence(given_sequence) + size::window(given_window)
 }
 
+// The options of a control message's three tables together.
 pub fn tables(
     statuses: [StatusCell; CHANNEL_IDS],
     sequences: [SequenceCell; CHANNEL_IDS],

@@ -24,6 +24,7 @@ pub fn lay_statuses(out: &mut [u8], cells: [StatusCell; CHANNEL_IDS]) -> usize
     at
 }
 
+// The Flow Sequences, likewise.
 pub fn lay_sequences(out: &mut [u8], cells: [SequenceCell; CHANNEL_IDS]) -> usize
     requires { ⌜ sizeOf (sequencesThen cells) ≤ length (now out) ⌝ }
     ensures { λ r. ⌜ Laid (alone (sequencesThen cells)) (now (out .entry)) (now (out .exit)) r ⌝ }
@@ -37,6 +38,7 @@ pub fn lay_sequences(out: &mut [u8], cells: [SequenceCell; CHANNEL_IDS]) -> usiz
     at
 }
 
+// The Flow Windows, likewise.
 pub fn lay_windows(out: &mut [u8], cells: [WindowCell; CHANNEL_IDS]) -> usize
     requires { ⌜ sizeOf (windowsThen cells) ≤ length (now out) ⌝ }
     ensures { λ r. ⌜ Laid (alone (windowsThen cells)) (now (out .entry)) (now (out .exit)) r ⌝ }

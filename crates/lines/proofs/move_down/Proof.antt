@@ -1,4 +1,4 @@
--- `move_down` meets its contract: at each turn so many bytes are moved. Assumes nothing.
+-- `move_down` meets its contract: at each turn the first n bytes are moved. Assumes nothing.
 use native.Mathlib.Omega.{arith}
 use Prim.Native.Nat.{_-_}
 use Rattle.lines.proofs.Laws.{Moves, move-none, move-on, move-end}

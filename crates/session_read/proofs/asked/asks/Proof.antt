@@ -5,7 +5,7 @@ use native.Mathlib.Omega.{arith}
 use borrow.Author.Tests.{ne-eqb}
 use Rattle.line_rows.specs.Tables.{itemsBehind}
 use Rattle.line_rows.specs.Places.{keyedOf, rowOfKey}
-use Rattle.session_read.specs.Lines.{HIGHEST-ID, READ, ECHO, START, OFFER, NEXT, WITHDRAW, RADIO, QUERY, SHOW, STORE, askedBy}
+use Rattle.session_read.specs.Lines.{HIGHEST-ID, READ, ECHO, START, OFFER, NEXT, WITHDRAW, RADIO, QUERY, SHOW, STORE, KEPT, askedBy}
 use Rattle.session_read.proofs.Bounds.{below}
 use Rattle.session_read.proofs.asked.asks.Statement.{statement}
 use Rattle.session_read.proofs.asked.asks.Tie as tie
@@ -83,7 +83,11 @@ returns-10 c = rw (c .before .match .keys10, c .channel3 .ensures)
 
 returns-11 : tie.Need-returns-11
 unfolding askedBy
-returns-11 c = simp (ne-eqb _ READ (c .match .rest .0 .0 .0 .0 .0 .0 .0 .0 .0 .1), ne-eqb _ ECHO (c .match .rest .0 .0 .0 .0 .0 .0 .0 .0 .1), ne-eqb _ START (c .match .rest .0 .0 .0 .0 .0 .0 .0 .1), ne-eqb _ OFFER (c .match .rest .0 .0 .0 .0 .0 .0 .1), ne-eqb _ NEXT (c .match .rest .0 .0 .0 .0 .0 .1), ne-eqb _ WITHDRAW (c .match .rest .0 .0 .0 .0 .1), ne-eqb _ RADIO (c .match .rest .0 .0 .0 .1), ne-eqb _ QUERY (c .match .rest .0 .0 .1), ne-eqb _ SHOW (c .match .rest .0 .1), ne-eqb _ STORE (c .match .rest .1))
+returns-11 c = rw (c .match .keys11)
+
+returns-12 : tie.Need-returns-12
+unfolding askedBy
+returns-12 c = simp (ne-eqb _ READ (c .match .rest .0 .0 .0 .0 .0 .0 .0 .0 .0 .0 .1), ne-eqb _ ECHO (c .match .rest .0 .0 .0 .0 .0 .0 .0 .0 .0 .1), ne-eqb _ START (c .match .rest .0 .0 .0 .0 .0 .0 .0 .0 .1), ne-eqb _ OFFER (c .match .rest .0 .0 .0 .0 .0 .0 .0 .1), ne-eqb _ NEXT (c .match .rest .0 .0 .0 .0 .0 .0 .1), ne-eqb _ WITHDRAW (c .match .rest .0 .0 .0 .0 .0 .1), ne-eqb _ RADIO (c .match .rest .0 .0 .0 .0 .1), ne-eqb _ QUERY (c .match .rest .0 .0 .0 .1), ne-eqb _ SHOW (c .match .rest .0 .0 .1), ne-eqb _ STORE (c .match .rest .0 .1), ne-eqb _ KEPT (c .match .rest .1))
 
 pub asks-spec : {M : Type 1} → statement M
 asks-spec =
@@ -107,4 +111,5 @@ asks-spec =
     returns-8
     returns-9
     returns-10
-    returns-11)
+    returns-11
+    returns-12)

@@ -1,4 +1,4 @@
--- `strings::pairs` meets its contract: at each turn so many pairs, from the start, stand for a byte. Assumes nothing.
+-- `strings::pairs` meets its contract: at each turn the first n pairs, from the start, stand for a byte. Assumes nothing.
 use native.Mathlib.Omega.{arith}
 use borrow.Author.Needs.{needs}
 use mathlib.Core.Path.{sym, _∙_}

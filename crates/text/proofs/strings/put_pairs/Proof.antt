@@ -1,4 +1,4 @@
--- `strings::put_pairs` meets its contract: at each turn so many bytes are laid. Assumes nothing.
+-- `strings::put_pairs` meets its contract: at each turn the first n bytes are laid. Assumes nothing.
 use native.Mathlib.Omega.{arith}
 use borrow.Author.Needs.{needs}
 use Prim.Native.Nat.{_-_}

@@ -1,4 +1,4 @@
--- `strings::unpair` meets its contract: at each turn the bytes of so many pairs are laid. Assumes nothing.
+-- `strings::unpair` meets its contract: at each turn the bytes of the first n pairs are laid. Assumes nothing.
 use native.Mathlib.Omega.{arith}
 use borrow.Author.Needs.{needs}
 use mathlib.Core.Path.{sym, _∙_}

@@ -1,0 +1,5 @@
+pub mod Transcript
+pub mod Given
+pub mod Handed
+pub mod Lasting
+pub mod Stores

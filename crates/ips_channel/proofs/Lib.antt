@@ -1,0 +1,2 @@
+-- What a fresh channel is, written out.
+pub mod Fresh

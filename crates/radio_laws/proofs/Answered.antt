@@ -1,0 +1,89 @@
+-- Promise: each answer to an accepted radio control message, and what the endpoint keeps of it: of the endpoint's own outcome. Assumes nothing.
+use Prim.Native.Nat.{ℕ}
+use mathlib.Core.Bool.{Bool, true, false, cond, not, _&&_}
+use mathlib.Core.List.{List, []}
+use mathlib.Core.Option.{some}
+use mathlib.Core.Path.{_≡_, refl, sym, ap, _∙_}
+use borrow.Author.Tests.{eq-eqb, eqb-true}
+use lib.Dec.{eqb}
+use lib.ListN.{length}
+use Rattle.quantity.specs.Limits.{MOST-CHANNELS}
+use Rattle.wire.specs.Numbers.{Octets, bigEndian}
+use Rattle.wire.specs.Options.{Options}
+use Rattle.meaning.specs.declared.message.End.the-variants as ends
+use Rattle.meaning.specs.declared.message.Plane.the-variants as planes
+use Rattle.meaning.specs.declared.message.ContextBytes.{ContextBytes}
+use Rattle.read_option.specs.Stated.{Table, instanceFrom, contextFrom, controlStated}
+use Rattle.acceptance.specs.Account.{tableOf, Accepts, controlMeaning}
+use Rattle.ips_state.specs.declared.state.State.{State}
+use Rattle.ips_state.specs.Limits.{stateFits}
+use Rattle.ips_radio.specs.declared.RadioAnswer.{RadioAnswer}
+use Rattle.ips_radio.specs.Heard.{keptInstance, keptContext, heardBy, dueOf}
+use Rattle.ips_run.specs.Run.{radio}
+use Rattle.endpoint.specs.declared.radio.AfterRadio.{AfterRadio}
+use Rattle.endpoint.specs.Radio.{handedIn}
+use Rattle.endpoint.specs.Replies.{ofRadio}
+use Rattle.endpoint.specs.Calls.{PerformedWithAny}
+use Rattle.endpoint.proofs.Exactly.{radio-heard}
+use Rattle.radio_laws.specs.OptionByOption.{Holds}
+use Rattle.radio_laws.specs.Answered.{Answers}
+use Rattle.radio_laws.proofs.Holding.{ForMessage, says-once, said-once}
+use Rattle.radio_laws.proofs.OptionByOption.{brings, left}
+
+link-instance : ForMessage 3
+link-instance = record { is-known = refl; listed = refl; once = refl }
+
+datalink-context : ForMessage 4
+datalink-context = record { is-known = refl; listed = refl; once = refl }
+
+abbrev told : Bool → RadioAnswer
+told due = cond due RadioAnswer.Due RadioAnswer.Accepted
+
+-- a Context that isn't the last one
+differs : (last : ContextBytes) (size : ℕ) (content : List ℕ) → (last .0 ≡ bigEndian content → size ≡ length content → ⊥)
+    → not (eqb (bigEndian content) (last .0) && eqb (length content) size) ≡ true
+differs last size content other = go (eqb (bigEndian content) (last .0)) refl (eqb (length content) size) refl
+  where
+    go : (a : Bool) → eqb (bigEndian content) (last .0) ≡ a → (b : Bool) → eqb (length content) size ≡ b → not (a && b) ≡ true
+    go true p true q = absurd (other (sym (eqb-true _ _ p)) (sym (eqb-true _ _ q)))
+    go true p false q = refl
+    go false p b q = refl
+
+module _ (s : State) (fits : stateFits s ≡ true) (datagram : List ℕ) (octets : Octets datagram)
+    (f : Options) (a : Accepts planes.Control ends.Radio (s .datalink) datagram f)
+    {answer : RadioAnswer} {s′ : State} (full : length (s .channels) ≡ MOST-CHANNELS) (h : PerformedWithAny (radio datagram) s (ofRadio answer) s′) where
+  abbrev table : Table
+  table = tableOf planes.Control ends.Radio f
+
+  given : answer ≡ told (dueOf (s .context) (contextFrom (table 4 0)))
+  unfolding controlStated
+  given =
+      let is : answer ≡ handedIn s datagram .answer = cc (h [] .reply-is) in
+      is ∙ ap (λ (r : AfterRadio). r .answer) (radio-heard s datagram fits (controlMeaning ends.Radio f) (brings (s .datalink) datagram f a octets))
+
+  context-left : s′ .context ≡ keptContext (s .context) (contextFrom (table 4 0))
+  unfolding heardBy controlStated
+  context-left = ap (λ (t : State). t .context) (left s full fits datagram octets f a h)
+
+  instance-left : s′ .instance ≡ keptInstance (s .instance) (instanceFrom (table 3 0))
+  unfolding heardBy controlStated
+  instance-left = ap (λ (t : State). t .instance) (left s full fits datagram octets f a h)
+
+  context-is : (content : List ℕ) → Holds 4 content f → table 4 0 ≡ some content
+  context-is = says-once 4 datalink-context (s .datalink) datagram f a
+
+  instance-is : (content : List ℕ) → Holds 3 content f → table 3 0 ≡ some content
+  instance-is = says-once 3 link-instance (s .datalink) datagram f a
+
+  -- THE PROMISE
+  pub answered : Answers f s answer s′
+  answered = record {
+    no-context = λ never. let e = said-once 4 datalink-context (s .datalink) datagram f a never in (given ∙ rw e, context-left ∙ rw e);
+    first-context = λ content holds first. given ∙ rw (context-is content holds, first);
+    other-context = λ content holds last size before other. given ∙ rw (context-is content holds, before, differs last size content other);
+    same-context = λ content holds before.
+        given ∙ rw (context-is content holds, before, eq-eqb (bigEndian content) (bigEndian content) refl, eq-eqb (length content) (length content) refl);
+    context-kept = λ content holds. context-left ∙ rw (context-is content holds);
+    instance-kept = λ content holds. instance-left ∙ rw (instance-is content holds);
+    instance-stays = λ never. instance-left ∙ rw (said-once 3 link-instance (s .datalink) datagram f a never);
+  }

@@ -1,0 +1,4 @@
+-- The promises of this crate.
+pub mod Holding
+pub mod OptionByOption
+pub mod Answered

@@ -1,0 +1,27 @@
+-- Document 01, "A channel's life": each case of the answer to an accepted radio control message with what makes it so, and what the endpoint keeps of it, by the options
+-- that stand in it.
+use Prim.Native.Nat.{ℕ}
+use mathlib.Core.List.{List}
+use mathlib.Core.Path.{_≡_}
+use lib.ListN.{length}
+use Rattle.wire.specs.Numbers.{bigEndian}
+use Rattle.wire.specs.Options.{Options}
+use Rattle.meaning.specs.declared.message.ContextBytes.{ContextBytes}
+use Rattle.meaning.specs.declared.message.Context.{Context}
+use Rattle.meaning.specs.declared.message.Instance.{Instance}
+use Rattle.ips_radio.specs.declared.RadioAnswer.{RadioAnswer}
+use Rattle.ips_state.specs.declared.state.State.{State}
+use Rattle.radio_laws.specs.OptionByOption.{Holds}
+
+-- Link Instance is type 3, Datalink Context type 4.
+pub record Answers (options : Options) (s : State) (answer : RadioAnswer) (s′ : State) : Type 0 where
+  -- "A mobility message is reported due when a Context comes that differs from the last Context received (in length or bytes), or is the first."
+  pub no-context : ((content : List ℕ) → Holds 4 content options → ⊥) → (answer ≡ RadioAnswer.Accepted) × (s′ .context ≡ s .context)
+  pub first-context : (content : List ℕ) → Holds 4 content options → s .context ≡ Context.Absent → answer ≡ RadioAnswer.Due
+  pub other-context : (content : List ℕ) → Holds 4 content options → (last : ContextBytes) (size : ℕ) → s .context ≡ Context.Given last size
+      → (last .0 ≡ bigEndian content → size ≡ length content → ⊥) → answer ≡ RadioAnswer.Due
+  pub same-context : (content : List ℕ) → Holds 4 content options → s .context ≡ Context.Given (record { 0 = bigEndian content }) (length content) → answer ≡ RadioAnswer.Accepted
+  pub context-kept : (content : List ℕ) → Holds 4 content options → s′ .context ≡ Context.Given (record { 0 = bigEndian content }) (length content)
+  -- "Link Instance is kept when given."
+  pub instance-kept : (content : List ℕ) → Holds 3 content options → s′ .instance ≡ Instance.Given (record { 0 = bigEndian content }) (length content)
+  pub instance-stays : ((content : List ℕ) → Holds 3 content options → ⊥) → s′ .instance ≡ s .instance

@@ -1,0 +1,2 @@
+pub mod OptionByOption
+pub mod Answered

@@ -1,0 +1,40 @@
+"""Ways to break `ciri.py` that no line of a session can notice, each with why."""
+
+from broken_messages import of_ciri
+
+UNSEEN_WAYS = of_ciri(
+    # `echo` never writes longer than it read, and it read at most 65,507 bytes.
+    ("messages over the datagram's limit written", "if len(message) > room or len(message) > DATAGRAM_LIMIT:",
+     "if len(message) > room:"),
+    # `echo` writes what was read: its lengths, values and misplaced sequences were refused there already.
+    ("unlisted lengths written", "        and are_lengths_allowed(meaning)\n", ""),
+    ("reserved values written", "        and are_values_allowed(meaning)\n", ""),
+    ("a misplaced Flow Sequence written", "        and not is_sequence_misplaced(meaning)\n", ""),
+    ("a Link Instance too big for its length", " and fits_bits(link_instance.value, 8 * link_instance.length)", ""),
+    # A line's state comes of accepted calls alone, so that it is within the limits.
+    ("a kept Link Instance of any length in a state",
+     "    if endpoint.link_instance is not None and not is_link_instance_allowed(endpoint.link_instance):",
+     "    if False:"),
+    ("a kept Context of any length in a state",
+     "    if endpoint.context is not None and len(endpoint.context) not in LENGTHS[DATALINK_CONTEXT]:",
+     "    if False:"),
+    ("any channel in a state", "    if not all(is_channel_allowed(channel) for channel in endpoint.channels):",
+     "    if False:"),
+    ("any status in a state", "        (channel.status is None or fits_bits(channel.status, 4))\n", "        True\n"),
+    ("more than 32 waiting in a state", "        and len(lengths) <= WAITING_LIMIT\n", ""),
+    ("any waiting length in a state",
+     "        and all(IPV6_HEADER_LENGTH <= length <= PACKET_LIMIT for length in lengths)\n", ""),
+    ("waiting bytes over the store in a state", "        and sum(lengths) <= channel.configuration.store_length\n", ""),
+    # The lent memory is the one of the start, and new there: its bytes are zeros before.
+    ("a start leaves the memory's bytes", "    memory[:] = bytes(len(memory))\n", ""),
+    # `store` shows a channel's store wherever it stands; no line shows the whole memory.
+    ("stores by rising Channel ID",
+     "    for other in endpoint.channels:\n" "        if other is channel:",
+     "    for other in sorted(endpoint.channels, key=lambda one: one.configuration.channel_id):\n"
+     "        if other is channel:"),
+    # Number 19 is given then too, since there is no channel 0.
+    ("no channel configured", "CHANNEL_COUNTS = range(1, 17)", "CHANNEL_COUNTS = range(0, 17)"),
+    # A Datalink ID is one byte's number: the session reads no other.
+    ("a Datalink ID over 255 configured",
+     "        fits_bits(datalink_id, 8)\n" "        and len(channel_ids)", "        len(channel_ids)"),
+)
