@@ -2,19 +2,43 @@
 
     compare.py stored                       make each stored output and each made file anew, and compare
     compare.py random PROGRAM SEED COUNT    one random script of COUNT lines, run by both; reports the first difference
+    compare.py captures SEED COUNT RECORDS  COUNT random captures of up to RECORDS records, likewise
+    compare.py pieces SEED COUNT RECORDS    the same, handed over in pieces of 1 byte, of 15, of 16, of 17 and so on
+    compare.py capture FILE WORD..          one capture, with the program's words
 """
 
 import os
 import pathlib
+import random
 import subprocess
 import sys
+import time
+from dataclasses import astuple
+from itertools import chain, cycle, repeat
+
+from captures import Dice, draw_capture, draw_setting
 
 SECOND = pathlib.Path(__file__).resolve().parent
 ROOT = SECOND.parent
-# Each proved program, with the number of lines that it writes before the answers.
+# Each proved program that answers line by line, with the number of lines that it writes before the answers.
 PROGRAMS = {"distance": 1, "session": 0}
+# Programs whose stored output is compared line by line.
+STORED = PROGRAMS | {"report": 0}
 # Each made file, with the script that prints it.
-MADE = {"crates/session/stdin": "stored.py", "docs/FLIGHT.md": "flight_page.py"}
+MADE = {
+    "crates/session/stdin": "stored.py",
+    "crates/report/stdin": "stored_capture.py",
+    "docs/FLIGHT.md": "flight_page.py",
+    "docs/samples/report": "sample_capture.py",
+    "docs/REPORT.md": "report_page.py",
+}
+# Words for `report`: none, the program's own, others, and such that are refused.
+WORDS = ([], [], [], ["8580", "8581", "7"], ["8581", "8580", "7"], ["8580", "0", "255"], ["1", "1", "1"], ["08580", "8581", "7"], ["8580", "8581"], ["8580", "65536", "7"])
+
+# The pieces that an input is handed over in: about the length of a record's head, of a file's, and more than a buffer holds.
+PIECES = (1, 15, 16, 17, 1, 23, 24, 25, 4096, 65536, 140000)
+# Seconds between two pieces, so that the program reads one before the next is there.
+PAUSE = 0.002
 
 
 def run_script(name, *words, text=b""):
@@ -23,28 +47,53 @@ def run_script(name, *words, text=b""):
     return subprocess.run(command, input=text, stdout=subprocess.PIPE, check=True).stdout
 
 
-def run_second(program, text):
+def run_second(program, text, words=()):
     """What the second implementation writes."""
-    return run_script(f"{program}.py", text=text)
+    return run_script(f"{program}.py", *words, text=text)
 
 
-def run_proved(program, text):
-    """What the proved program writes; the run script builds it, with the `rt` of the PATH."""
+def run_proved(program, text, words=(), sizes=None):
+    """What the proved program writes, and its lines on standard error; the run script builds it, with the `rt` of the PATH.
+
+    With sizes, the input is handed over in pieces of these sizes, over and over, once the program has written its first byte: before that
+    the pieces would gather in the pipe.
+    """
     environment = os.environ | {"PROGRAM": program}
-    return subprocess.run([ROOT / "run", "-"], input=text, stdout=subprocess.PIPE, check=True, env=environment).stdout
+    process = subprocess.Popen([ROOT / "run", "-", *words], stdin=subprocess.PIPE, stdout=subprocess.PIPE, stderr=subprocess.PIPE, bufsize=0, env=environment)
+    opening = b""
+    if sizes:
+        opening = process.stdout.read(1)
+        text = feed(process.stdin, text, sizes)
+    written, complaints = process.communicate(text)
+    if process.returncode:
+        sys.exit(complaints.decode())
+    return opening + written, [line for line in complaints.splitlines() if not line.startswith(b"run: ")]
+
+
+def feed(pipe, text, sizes):
+    """Hands a text over piece by piece; gives what nobody took."""
+    place = 0
+    for size in cycle(sizes):
+        if place >= len(text):
+            return b""
+        try:
+            pipe.write(text[place : place + size])
+        except BrokenPipeError:
+            return b""
+        place += size
+        time.sleep(PAUSE)
 
 
 def first_difference(program, text, proved, second):
     """The first line on which two outputs differ, with what was asked; none where they agree."""
-    asked = [b""] * PROGRAMS[program] + text.split(b"\n") + [b""]
+    asked = [b""] * STORED[program] + text.split(b"\n")
     left, right = proved.split(b"\n"), second.split(b"\n")
     if len(left) != len(right):
         return f"the proved program wrote {len(left)} lines, the second {len(right)}"
-    for question, one, other in zip(asked, left, right):
+    for question, one, other in zip(chain(asked, repeat(b"")), left, right):
         if one != other:
             return f"asked {question[:300]!r}, proved {one[:300]!r}, second {other[:300]!r}"
     return None
-
 
 def compare_stored():
     """Each program's stored output is what the second implementation makes of the stored input; made files likewise."""
@@ -53,7 +102,7 @@ def compare_stored():
         is_same = run_script(script) == (ROOT / path).read_bytes()
         print(f"{path}: {'as made' if is_same else f'not what {script} prints'}")
         differing += not is_same
-    for program in PROGRAMS:
+    for program in STORED:
         crate = ROOT / "crates" / program
         text = (crate / "stdin").read_bytes()
         difference = first_difference(program, text, (crate / "stdout").read_bytes(), run_second(program, text))
@@ -65,9 +114,32 @@ def compare_stored():
 def compare_random(program, seed, count):
     """Both implementations on one random script."""
     text = run_script(f"random_{program}.py", seed, count)
-    difference = first_difference(program, text, run_proved(program, text), run_second(program, text))
+    difference = first_difference(program, text, run_proved(program, text)[0], run_second(program, text))
     print(f"{program}, seed {seed}, {count} lines: {difference or 'no difference'}")
     return difference is not None
+
+
+def compare_capture(capture, words, name, sizes=None):
+    """Both implementations on one capture: what they print, and what they complain of."""
+    proved, complaints = run_proved("report", capture, words, sizes)
+    second = subprocess.run([sys.executable, SECOND / "report.py", *words], input=capture, capture_output=True, check=True)
+    difference = first_difference("report", b"", proved, second.stdout)
+    if complaints != second.stderr.splitlines():
+        difference = f"on standard error, proved {complaints!r}, second {second.stderr!r}"
+    print(f"report, {name}, {len(capture)} bytes: {difference or 'no difference'}")
+    return difference is not None
+
+
+def compare_captures(seed, count, records, sizes=None):
+    """Both implementations on random captures, each under words that are its own setting, or others."""
+    differing = 0
+    for number in range(int(count)):
+        dice = Dice(f"{seed} {number}", draw_setting(random.Random(f"{seed} {number} setting")))
+        size = dice.choice((0, 1, dice.randrange(int(records) + 1), int(records)))
+        own = [str(word) for word in astuple(dice.setting)]
+        words = dice.choice((own, own, own, own, dice.choice(WORDS)))
+        differing += compare_capture(draw_capture(dice, size), words, f"seed {seed} {number}, words {words}", sizes)
+    return differing
 
 
 def main():
@@ -76,6 +148,12 @@ def main():
         return compare_stored()
     if len(sys.argv) == 5 and sys.argv[1] == "random" and sys.argv[2] in PROGRAMS:
         return compare_random(*sys.argv[2:])
+    if len(sys.argv) == 5 and sys.argv[1] == "captures":
+        return compare_captures(*sys.argv[2:])
+    if len(sys.argv) == 5 and sys.argv[1] == "pieces":
+        return compare_captures(*sys.argv[2:], PIECES)
+    if len(sys.argv) >= 3 and sys.argv[1] == "capture":
+        return compare_capture(pathlib.Path(sys.argv[2]).read_bytes(), sys.argv[3:], sys.argv[2])
     print(__doc__, file=sys.stderr)
     return 2
 

@@ -80,3 +80,11 @@ OUTSIDE-LIMITS = 19
 -- a meaning to be written that the lists, or section 3's lengths and values, don't allow (a number too big for its length too)
 abbrev pub NOT-WRITABLE : ℕ
 NOT-WRITABLE = 20
+
+-- document 02, §9: bad file header or another link type
+abbrev pub FILE-HEAD : ℕ
+FILE-HEAD = 25
+
+-- document 02, §9: record cut off or over 65,536 bytes
+abbrev pub RECORD : ℕ
+RECORD = 26

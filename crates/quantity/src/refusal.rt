@@ -39,6 +39,10 @@ pub const OUTSIDE_LIMITS: u8 = 19;
 
 pub const NOT_WRITABLE: u8 = 20;
 
+pub const FILE_HEAD: u8 = 25;
+
+pub const RECORD: u8 = 26;
+
 // A refusal: its number and its place.
 pub struct Refusal {
     pub number: u8,

@@ -1,0 +1,4 @@
+pub mod Adding
+pub mod Outcomes
+pub mod Places
+pub mod Counts

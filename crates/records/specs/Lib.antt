@@ -1,0 +1,4 @@
+pub mod Heads
+pub mod Unread
+pub mod Files
+pub mod Endings

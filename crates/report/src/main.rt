@@ -1,0 +1,227 @@
+// Document 02, "A report over captures": counts what a capture holds of CIRI, and prints every count.
+use census::BYTES;
+use census::IPS;
+use census::PACKETS;
+use census::PLACES;
+use census::RADIO;
+use census::RECORDS;
+use census::REFUSALS;
+use census::SKIPPED;
+use ethernet::Ports;
+use libc::STDERR_FILENO;
+use libc::STDOUT_FILENO;
+use quantity::count::DatalinkId;
+use quantity::refusal::FILE_HEAD;
+use records::Found;
+use text::Number;
+
+// "ports and Datalink ID are set in the program"
+const RADIO_PORT: usize = 8580;
+
+const IPS_PORT: usize = 8581;
+
+const DATALINK: u8 = 7;
+
+const HIGHEST_PORT: u64 = 65535;
+
+const HIGHEST_DATALINK: u64 = 255;
+
+// How many bytes of the capture are held at once.
+const ROOM: usize = 2 * records::ROOM;
+
+// A longer word is no number that is asked for.
+const WORD: usize = 8;
+
+// The longest line has 42 bytes.
+const LINE: usize = 64;
+
+// What the words say: the ports and the Datalink ID, unless they say something else.
+struct Setting {
+    good: bool,
+    ports: Ports,
+    id: DatalinkId,
+}
+
+fn setting_of(radio: usize, ips: usize, datalink: u8) -> Setting {
+    let ports = Ports { radio, ips };
+    let id = DatalinkId(datalink);
+    Setting {
+        good: radio != ips,
+        ports,
+        id,
+    }
+}
+
+fn bad() -> Setting {
+    setting_of(0, 0, 0)
+}
+
+// The number up to a bound that a word of the command line stands for.
+fn word(i: usize, most: u64) -> Number {
+    let mut buffer = [0u8; WORD];
+    let n = os::arg(i, &mut buffer);
+    if os::errno() != 0 {
+        return Number::Bad;
+    }
+    text::parse(&buffer[..n], most)
+}
+
+fn said() -> Setting {
+    let Number::Value(radio) = word(1, HIGHEST_PORT) else {
+        return bad();
+    };
+    let Number::Value(ips) = word(2, HIGHEST_PORT) else {
+        return bad();
+    };
+    let Number::Value(datalink) = word(3, HIGHEST_DATALINK) else {
+        return bad();
+    };
+    setting_of(radio as usize, ips as usize, (datalink % 256) as u8)
+}
+
+// Three words, all or none; the program's own name stands before them.
+fn asked() -> Setting {
+    let words = os::arg_count();
+    if words <= 1 {
+        return setting_of(RADIO_PORT, IPS_PORT, DATALINK);
+    }
+    if words == 4 {
+        return said();
+    }
+    bad()
+}
+
+// Lays what stands before a channel's count.
+fn put_channel(out: &mut [u8], place: usize) -> usize {
+    if place < PACKETS {
+        return 0;
+    }
+    let at = text::put(out, 0, b"channel ");
+    let end = text::put_number(out, at, ((place - PACKETS) / 3) as u64);
+    if place % 3 == PACKETS % 3 {
+        return text::put(out, end, b" packets ");
+    }
+    if place % 3 == BYTES % 3 {
+        return text::put(out, end, b" bytes ");
+    }
+    text::put(out, end, b" windows ")
+}
+
+// Lays a count's name and the space behind it.
+fn put_name(out: &mut [u8], place: usize) -> usize {
+    if place == RECORDS {
+        return text::put(out, 0, b"records ");
+    }
+    if place == SKIPPED {
+        return text::put(out, 0, b"skipped ");
+    }
+    if place == IPS {
+        return text::put(out, 0, b"ips ");
+    }
+    if place == RADIO {
+        return text::put(out, 0, b"radio ");
+    }
+    if place < PACKETS {
+        let at = text::put(out, 0, b"refusal ");
+        let end = text::put_number(out, at, (place - REFUSALS) as u64);
+        return text::put(out, end, b" ");
+    }
+    put_channel(out, place)
+}
+
+// Prints a number behind what was laid before it.
+fn say_number(out: &mut [u8], at: usize, value: u64) {
+    let end = text::put_number(out, at, value);
+    let behind = text::put(out, end, b"\n");
+    if behind <= out.len() {
+        io::write_all(STDOUT_FILENO, &out[0..behind]);
+    }
+}
+
+fn say_count(out: &mut [u8], place: usize, value: u64) {
+    let at = put_name(out, place);
+    say_number(out, at, value);
+}
+
+fn say_counts(out: &mut [u8], counts: &[u64]) {
+    let mut place = 0;
+    while place < counts.len() {
+        say_count(out, place, counts[place]);
+        place += 1;
+    }
+}
+
+// The last line, where the capture is refused by a number; 0 is none.
+fn say_refusal(out: &mut [u8], number: u8) {
+    if number == 0 {
+        return;
+    }
+    let at = text::put(out, 0, b"refused ");
+    say_number(out, at, number as u64);
+}
+
+// Counts record after record. Gives the number by which the capture is refused, or 0. Nothing says that an input ends,
+// so the turns are counted.
+fn serve(buffer: &mut [u8], counts: &mut [u64], ports: Ports, id: DatalinkId) -> u8 {
+    let mut input = records::start();
+    let mut turns = u64::MAX;
+    while turns > 0 {
+        turns -= 1;
+        match records::next(buffer, input) {
+            Found::More => input = records::fill(buffer, input),
+            Found::End => return 0,
+            Found::Head(rest) => input = rest,
+            Found::Record {
+                from,
+                to,
+                original,
+                rest,
+            } => {
+                census::count(counts, &buffer[from..to], original, ports, id);
+                input = rest;
+            }
+            Found::Refused(number) => return number,
+        }
+    }
+    0
+}
+
+// "at 25 only the header, at 26 the report so far is printed, with a last line that says so"
+fn report(buffer: &mut [u8], counts: &mut [u64], out: &mut [u8], ports: Ports, id: DatalinkId) {
+    let number = serve(buffer, counts, ports, id);
+    if number == FILE_HEAD {
+        say_refusal(out, number);
+        return;
+    }
+    say_counts(out, counts);
+    say_refusal(out, number);
+}
+
+// An array that is lent as an array asks no proof of its length.
+fn hold(
+    buffer: &mut [u8; ROOM],
+    counts: &mut [u64; PLACES],
+    out: &mut [u8; LINE],
+    ports: Ports,
+    id: DatalinkId,
+) {
+    report(buffer, counts, out, ports, id);
+}
+
+fn main() {
+    let setting = asked();
+    if !setting.good {
+        io::write_all(
+            STDERR_FILENO,
+            b"three words or none: RADIO-PORT IPS-PORT DATALINK (ports 0 to 65535 and not equal, DATALINK 0 to 255)\n",
+        );
+        return;
+    }
+    io::write_all(STDOUT_FILENO, b"count value\n");
+    let ports = setting.ports;
+    let id = setting.id;
+    let mut buffer = [0u8; ROOM];
+    let mut counts = [0u64; PLACES];
+    let mut out = [0u8; LINE];
+    hold(&mut buffer, &mut counts, &mut out, ports, id);
+}
