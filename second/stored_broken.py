@@ -10,7 +10,7 @@ NO_SEQUENCE = [*NO_NUMBERS, "4294967296"]
 NO_TIME = [*NO_NUMBERS, "18446744073709551616"]
 NO_LENGTH = [*NO_NUMBERS, "1048577"]
 FAULTLESS = {
-    "start 7 1 0 flow 5 1500 memory 1500": [
+    "start 7 1 0 flow 4294967295 1500 memory 1500": [
         NO_ID, [*NO_NUMBERS, "0", "2", "81"], NO_ID, ["", "Flow", "flows", "0"], NO_SEQUENCE, NO_LENGTH,
         ["", "Memory", "1500"], NO_LENGTH],
     offer(0, 1, 9, packet(40)): [NO_ID, NO_TIME, NO_TIME, NO_BYTES],

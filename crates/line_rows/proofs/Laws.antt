@@ -450,6 +450,23 @@ module _ {line row : List ℕ} {s : Cursor} {numbers bytes : List ℕ} {i : ℕ}
   pub items-end : length row - i ≤ 1 → Advances line s numbers bytes (itemsOf (length numbers) (length bytes) row (saidAt line s numbers bytes)) r numbers′ bytes′
   items-end h = advance-as (k .goes) (sym (items-few (length numbers) (length bytes) (drop i row) (saidAt line r numbers′ bytes′) (simp length-drop (omega arith))) ∙ k .same)
 
+-- ---- behind a bad word nothing is read
+module _ (places size : ℕ) where
+  items-idle : (row : List ℕ) (s : Said) → s .good ≡ false → itemsOf places size row s ≡ s
+  unfolding itemsOf
+  items-idle [] s e = refl
+  items-idle (a ∷ []) s e = refl
+  items-idle (a ∷ (b ∷ row)) s e = rw (item-idle places size a b s e) (items-idle row s e)
+
+  list-idle : (n : ℕ) (row : List ℕ) (s : Said) → s .good ≡ false → listOf places size n row s ≡ s
+  unfolding listOf
+  list-idle zero row s e = refl
+  list-idle (suc n) row s e = rw (items-idle row s e) (list-idle n row s e)
+
+pub list-stopped : (line row numbers bytes : List ℕ) (count : ℕ) {s : Cursor} → Inside line s numbers bytes → s .good ≡ false
+    → Advances line s numbers bytes (listOf (length numbers) (length bytes) count row (saidAt line s numbers bytes)) s numbers bytes
+list-stopped line row numbers bytes count {s} k e = advance-as (advance-none k) (sym (list-idle (length numbers) (length bytes) count row (saidAt line s numbers bytes) e))
+
 -- ---- a list: n times
 pub record ListSoFar (line : List ℕ) (count : ℕ) (row : List ℕ) (s : Cursor) (numbers bytes : List ℕ) (i : ℕ) (r : Cursor) (numbers′ bytes′ : List ℕ) : Type 0 where
   pub within : i ≤ count

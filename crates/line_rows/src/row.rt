@@ -99,7 +99,7 @@ fn item(line: &[u8], a: u64, b: u64, s: Cursor, numbers: &mut [u64], bytes: &mut
     }
 }
 
-// ReadsRow the words of a row without LIST.
+// Reads the words of a row without LIST.
 fn items(line: &[u8], row: &[u64], s: Cursor, numbers: &mut [u64], bytes: &mut [u8]) -> Cursor
     requires { ⌜ Inside (now line) s (now numbers) (now bytes) ⌝ }
     ensures { λ r. ⌜ Advances (now (line .entry)) s (now (numbers .entry)) (now (bytes .entry)) (itemsOf (length (now (numbers .entry))) (length (now (bytes .entry))) (now (row .entry)) (saidAt (now (line .entry)) s (now (numbers .entry)) (now (bytes .entry)))) r (now (numbers .exit)) (now (bytes .exit)) ⌝ }
@@ -113,8 +113,8 @@ fn items(line: &[u8], row: &[u64], s: Cursor, numbers: &mut [u64], bytes: &mut [
     r
 }
 
-// Reads a list: its items as often as was said.
-fn list(
+// The items of a list, n times.
+fn list_turns(
     line: &[u8],
     count: u64,
     row: &[u64],
@@ -132,6 +132,24 @@ fn list(
         i += 1;
     }
     r
+}
+
+// Reads a list: its items as often as was said last. Behind a bad word nothing is read: the number said last may be any.
+fn list(
+    line: &[u8],
+    count: u64,
+    row: &[u64],
+    s: Cursor,
+    numbers: &mut [u64],
+    bytes: &mut [u8],
+) -> Cursor
+    requires { ⌜ Inside (now line) s (now numbers) (now bytes) ⌝ }
+    ensures { λ r. ⌜ Advances (now (line .entry)) s (now (numbers .entry)) (now (bytes .entry)) (listOf (length (now (numbers .entry))) (length (now (bytes .entry))) count (now (row .entry)) (saidAt (now (line .entry)) s (now (numbers .entry)) (now (bytes .entry)))) r (now (numbers .exit)) (now (bytes .exit)) ⌝ }
+{
+    if !s.good {
+        return s;
+    }
+    list_turns(line, count, row, s, numbers, bytes)
 }
 
 // The first n items of a row, or all of fewer.
@@ -156,7 +174,7 @@ fn last_number(numbers: &[u64], count: usize) -> u64
     numbers[count - 1]
 }
 
-// ReadsRow one item; `row` is what stands behind it.
+// Reads one item; `row` is what stands behind it.
 fn item_or_list(
     line: &[u8],
     skip: u64,
@@ -204,7 +222,7 @@ fn all_said(s: Cursor, size: usize) -> bool
     s.good
 }
 
-// ReadsRow a line behind its first word by a row.
+// Reads a line behind its first word by a row.
 pub(crate) fn read_row(line: &[u8], row: &[u64], numbers: &mut [u64], bytes: &mut [u8]) -> RowRead
     ensures { λ r. ⌜ ReadsRow (now (row .entry)) (now (line .entry)) (now (numbers .entry)) (now (bytes .entry)) r (now (numbers .exit)) (now (bytes .exit)) ⌝ }
 {
