@@ -72,7 +72,7 @@ fn stop(s: Cursor) -> Cursor
     }
 }
 
-// ReadsRow one word.
+// Reads one word.
 fn item(line: &[u8], a: u64, b: u64, s: Cursor, numbers: &mut [u64], bytes: &mut [u8]) -> Cursor
     requires { ⌜ Inside (now line) s (now numbers) (now bytes) ⌝ }
     ensures { λ r. ⌜ Advances (now (line .entry)) s (now (numbers .entry)) (now (bytes .entry)) (itemOf (length (now (numbers .entry))) (length (now (bytes .entry))) a b (saidAt (now (line .entry)) s (now (numbers .entry)) (now (bytes .entry)))) r (now (numbers .exit)) (now (bytes .exit)) ⌝ }
