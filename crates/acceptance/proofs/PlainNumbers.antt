@@ -26,8 +26,8 @@ one : {kind n k : ℕ} → LengthOf kind k → eqb n k ≡ true → LengthOf kin
 one {kind} {n} {k} h e = rw (eqb-true n k e) h
 
 -- "1 to 8"
-name : {kind : ℕ} {n : ℕ} → (1 ≤ n → n ≤ 8 → LengthOf kind n) → leb 1 n && leb n 8 ≡ true → LengthOf kind n
-name {kind} {n} h e = let both = and-eq-true-iff (leb 1 n) (leb n 8) .0 e in h (leb-true 1 n (both .0)) (leb-true n 8 (both .1))
+one-to-eight : {kind : ℕ} {n : ℕ} → (1 ≤ n → n ≤ 8 → LengthOf kind n) → leb 1 n && leb n 8 ≡ true → LengthOf kind n
+one-to-eight {kind} {n} h e = let both = and-eq-true-iff (leb 1 n) (leb n 8) .0 e in h (leb-true 1 n (both .0)) (leb-true n 8 (both .1))
 
 -- "1 or 5"
 either : (n : ℕ) → among n (1 ∷ 5 ∷ []) ≡ true → LengthOf 6 n
@@ -41,7 +41,7 @@ lengths-exactly kind n = ((λ h. only kind (h .0) n (h .1)), then kind n)
     only : (kind : ℕ) → among kind known ≡ true → (n : ℕ) → lengthListed kind n ≡ true → LengthOf kind n
     only =
         amongst (λ k. (n : ℕ) → lengthListed k n ≡ true → LengthOf k n) known
-        ((λ n. one datalink-identifier), ((λ n. name link-instance), ((λ n. name datalink-context), ((λ n. one channel-status), (either, ((λ n e. packet-data), ((λ n. one channel-identifier), ((λ n. one expiration-time), ((λ n. one flow-sequence), tt)))))))))
+        ((λ n. one datalink-identifier), ((λ n. one-to-eight link-instance), ((λ n. one-to-eight datalink-context), ((λ n. one channel-status), (either, ((λ n e. packet-data), ((λ n. one channel-identifier), ((λ n. one expiration-time), ((λ n. one flow-sequence), tt)))))))))
 
     then : (kind n : ℕ) → LengthOf kind n → (among kind known ≡ true) × (lengthListed kind n ≡ true)
     then _ _ datalink-identifier = (refl, refl)

@@ -179,5 +179,5 @@ module _ (ports : Ports) (id : DatalinkId) where
   first-never (kept original frame ∷ reports) k = rw (never-long ports id original frame (k .0), first-never reports (k .1))
   first-never (files.refused number ∷ reports) k = first-never reports k
 
-  pub refusal-one : (file : List ℕ) → totalOf (amountOf (refusals 1)) (outcomesOf ports id (reportsOf file)) ≡ 0
-  refusal-one file = first-never (reportsOf file) (file-short file)
+  pub number-one-never : (file : List ℕ) → totalOf (amountOf (refusals 1)) (outcomesOf ports id (reportsOf file)) ≡ 0
+  number-one-never file = first-never (reportsOf file) (file-short file)

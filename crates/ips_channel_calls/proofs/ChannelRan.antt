@@ -38,11 +38,11 @@ module _ (datalink : DatalinkId) where
 
   module _ {c d : Channel} {store last : List ℕ} {es : List Event} {replies : List Reply} (ready : Ready c store) (run : ChannelRan datalink c store es replies d last) where
     -- what the caller got is what the rules reply, on the same channel throughout
-    pub ran-replies : replies ≡ repliesTo (termsOf datalink (c .setting)) (history machine (termsOf datalink (c .setting)) es (conditionOf c store))
-    ran-replies = runs ready run .replies-are
+    pub channel-replies : replies ≡ repliesTo (termsOf datalink (c .setting)) (history machine (termsOf datalink (c .setting)) es (conditionOf c store))
+    channel-replies = runs ready run .replies-are
 
-    pub ran-final : conditionOf d last ≡ final machine (termsOf datalink (c .setting)) es (conditionOf c store)
-    ran-final = runs ready run .final-is
+    pub channel-final : conditionOf d last ≡ final machine (termsOf datalink (c .setting)) es (conditionOf c store)
+    channel-final = runs ready run .final-is
 
-    pub ran-ready : Ready d last
-    ran-ready = runs ready run .ready
+    pub channel-ready : Ready d last
+    channel-ready = runs ready run .ready

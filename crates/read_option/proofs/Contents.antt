@@ -20,9 +20,9 @@ use Rattle.read_option.specs.declared.answer.OptionAnswer.the-variants.{
 use Rattle.read_option.specs.Items.{itemOf, statedOf, answerOf, InTable, Placed}
 
 -- "1 to 8"
-pub name-fits : (n : ℕ) → lengthListed LINK-INSTANCE n ≡ true → n ≤ LONGEST-NAME
+pub instance-fits : (n : ℕ) → lengthListed LINK-INSTANCE n ≡ true → n ≤ LONGEST-NAME
 unfolding lengthListed
-name-fits n e = leb-true n LONGEST-NAME (and-eq-true-iff (leb SHORTEST-NAME n) (leb n LONGEST-NAME) .0 e .1)
+instance-fits n e = leb-true n LONGEST-NAME (and-eq-true-iff (leb SHORTEST-NAME n) (leb n LONGEST-NAME) .0 e .1)
 
 -- "1 or 5"
 pub window-there : (n : ℕ) → lengthListed FLOW-WINDOW n ≡ true → 1 ≤ n

@@ -32,8 +32,8 @@ fn datalink(content: &[u8]) -> OptionAnswer
     OptionAnswer::Took(Item::Datalink(DatalinkId(content[0])))
 }
 
-// Link Instance and Datalink Context have the same lengths.
-fn is_name_length(n: usize) -> bool
+// The lengths of a Link Instance; those of a Context are the same.
+fn is_instance_length(n: usize) -> bool
     ensures { λ r. ⌜ r ≡ lengthListed LINK-INSTANCE n ⌝ }
 {
     if n < SHORTEST_NAME {
@@ -46,7 +46,7 @@ fn instance(content: &[u8]) -> OptionAnswer
     ensures { λ r. ⌜ r ≡ statedOf LINK-INSTANCE (now (content .entry)) ⌝ }
 {
     let n = content.len();
-    if !is_name_length(n) {
+    if !is_instance_length(n) {
         return OptionAnswer::Refused(LENGTH);
     }
     OptionAnswer::Took(Item::Instance(LinkInstanceId(number::read(content)), n))
@@ -56,7 +56,7 @@ fn context(content: &[u8]) -> OptionAnswer
     ensures { λ r. ⌜ r ≡ statedOf DATALINK-CONTEXT (now (content .entry)) ⌝ }
 {
     let n = content.len();
-    if !is_name_length(n) {
+    if !is_instance_length(n) {
         return OptionAnswer::Refused(LENGTH);
     }
     OptionAnswer::Took(Item::Context(ContextBytes(number::read(content)), n))

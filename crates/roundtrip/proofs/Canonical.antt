@@ -1,4 +1,4 @@
--- What is written has the one form that document 01 orders. Assumes nothing.
+-- What is written lies in the order that document 01 gives, unused bits being 0. Assumes nothing.
 use Prim.Native.Nat.{ℕ, suc, _≤_, _<_}
 use mathlib.Core.Path.{_≡_, refl, sym, subst}
 use mathlib.Core.List.{List, [], _∷_}

@@ -63,12 +63,12 @@ withWindows m cells = record { datalink = m .datalink; instance = m .instance; c
 -- ---- Link Instance and Context: a number of n bytes
 
 module _ (end : End) (id : DatalinkId) where
-  adds-name : (kind value n : ℕ) (m m′ : Control) → among kind known ≡ true → eqb kind PACKET-DATA ≡ false
+  adds-spelled : (kind value n : ℕ) (m m′ : Control) → among kind known ≡ true → eqb kind PACKET-DATA ≡ false
       → lengthListed kind n ≡ leb SHORTEST-NAME n && leb n LONGEST-NAME → ((content : List ℕ) → valueListed kind content ≡ true)
       → ((content : List ℕ) → controlUnstated kind (channelOf planes.Control kind content) m ≡ true)
       → ((content : List ℕ) → bigEndian content ≡ value → length content ≡ n → controlState kind (channelOf planes.Control kind content) content m ≡ m′)
       → may planes.Control end kind && fitsLength kind value n ≡ true → Adds (controlSort end id) 1 (option kind (bytesOf n value)) m m′
-  adds-name kind value n m m′ k p l v f s e =
+  adds-spelled kind value n m m′ k p l v f s e =
       let parts = and-eq-true-iff (may planes.Control end kind) (fitsLength kind value n) .0 e in
       let fits = and-eq-true-iff (lengthListed kind n) (ltb value (256 ^ n)) .0 (parts .1) in
       let bounds = and-eq-true-iff (leb SHORTEST-NAME n) (leb n LONGEST-NAME) .0 (sym l ∙ fits .0) in
@@ -89,14 +89,14 @@ module _ (end : End) (id : DatalinkId) where
   unfolding lengthListed valueListed controlUnstated controlState
   adds-instance m Instance.Absent e = adds-none (controlSort end id) 1 (withInstance m Instance.Absent)
   adds-instance m (Instance.Given v n) e =
-      adds-name LINK-INSTANCE (v .0) n (withInstance m Instance.Absent) (withInstance m (Instance.Given v n)) refl refl refl (λ content. refl) (λ content. refl)
+      adds-spelled LINK-INSTANCE (v .0) n (withInstance m Instance.Absent) (withInstance m (Instance.Given v n)) refl refl refl (λ content. refl) (λ content. refl)
       (λ content b l. rw (b, l)) e
 
   adds-context : (m : Control) (x : Context) → contextAllowed end x ≡ true → Adds (controlSort end id) 1 (contextThen x) (withContext m Context.Absent) (withContext m x)
   unfolding lengthListed valueListed controlUnstated controlState
   adds-context m Context.Absent e = adds-none (controlSort end id) 1 (withContext m Context.Absent)
   adds-context m (Context.Given v n) e =
-      adds-name DATALINK-CONTEXT (v .0) n (withContext m Context.Absent) (withContext m (Context.Given v n)) refl refl refl (λ content. refl) (λ content. refl)
+      adds-spelled DATALINK-CONTEXT (v .0) n (withContext m Context.Absent) (withContext m (Context.Given v n)) refl refl refl (λ content. refl) (λ content. refl)
       (λ content b l. rw (b, l)) e
 
 -- ---- the three tables, each with what a content makes of a place

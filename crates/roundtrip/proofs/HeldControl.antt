@@ -31,17 +31,17 @@ use Rattle.roundtrip.proofs.Held.{Held, Holds, word-behind, table-holds
 -- ---- the parts of a control message, each from what an option holds
 
 module _ (end : End) where
-  name-allowed : (kind : ℕ) (content : List ℕ) → Held planes.Control end kind content
+  spelled-allowed : (kind : ℕ) (content : List ℕ) → Held planes.Control end kind content
       → may planes.Control end kind && fitsLength kind (bigEndian content) (length content) ≡ true
-  name-allowed kind content h = rw (h .may-stand, h .length-listed) (lt-ltb (bigEndian content) (256 ^ length content) (big-endian-below content (h .octets)))
+  spelled-allowed kind content h = rw (h .may-stand, h .length-listed) (lt-ltb (bigEndian content) (256 ^ length content) (big-endian-below content (h .octets)))
 
   instance-allowed : (x : Option (List ℕ)) → Holds planes.Control end LINK-INSTANCE x → instanceAllowed end (instanceFrom x) ≡ true
   instance-allowed none h = refl
-  instance-allowed (some content) h = name-allowed LINK-INSTANCE content h
+  instance-allowed (some content) h = spelled-allowed LINK-INSTANCE content h
 
   context-allowed : (x : Option (List ℕ)) → Holds planes.Control end DATALINK-CONTEXT x → contextAllowed end (contextFrom x) ≡ true
   context-allowed none h = refl
-  context-allowed (some content) h = name-allowed DATALINK-CONTEXT content h
+  context-allowed (some content) h = spelled-allowed DATALINK-CONTEXT content h
 
   status-allowed : (x : Option (List ℕ)) → Holds planes.Control end CHANNEL-STATUS x → statusAllowed end (statusFrom x) ≡ true
   status-allowed none h = refl

@@ -1,4 +1,5 @@
--- The one form in which a message is written, in plain numbers. "The writer's order: Datalink Identifier, Link Instance, Context, Channel Status,
+-- How a written message lies, in plain numbers: its header, and its options in order, by rising Channel ID, with unused bits 0. What else their contents
+-- are is left open here; that they hold the meaning is the round trip's to say. "The writer's order: Datalink Identifier, Link Instance, Context, Channel Status,
 -- Flow Sequence or Flow Window, each by rising Channel ID, then Channel Identifier, Expiration Time, Packet Data." "Unused bits are written as 0".
 use Prim.Native.Nat.{ℕ, suc, _≤_, _<_}
 use mathlib.Core.Path.{_≡_}

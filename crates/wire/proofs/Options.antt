@@ -200,21 +200,22 @@ laid-same text entry exit n h k = ap length (k .bytes-are) ∙ simp (length-appe
 pub laid-one : {text entry exit exit′ : List ℕ} {n n′ : ℕ} → Laid text entry exit n → Laid text entry exit′ n′ → (exit ≡ exit′) × (n ≡ n′)
 laid-one k l = (k .bytes-are ∙ sym (l .bytes-are), k .count-is ∙ sym (l .count-is))
 
--- the frame at the first three places, and the content copied into the rest behind them
-abbrev framed : List ℕ → ℕ → ℕ → List ℕ
-framed out kind size = set (set (set out 0 kind) 1 (size / 256)) 2 (size % 256)
+-- the type, and behind it the length's bytes
+abbrev pub framed : List ℕ → ℕ → List ℕ → List ℕ
+framed out kind size = take 1 (set out 0 kind) ++ (size ++ drop 2 (drop 1 (set out 0 kind)))
 
-pub lay-all : (out content p : List ℕ) (kind : ℕ) → length content < 2 ^ 16 → 3 + length content ≤ length out
-    → p ≡ take (length content) content ++ drop (length content) (take (length (framed out kind (length content)) - 3) (drop 3 (framed out kind (length content))))
+-- the length over the two places behind the type, and the content copied into the rest behind them
+pub lay-all : (out content size p : List ℕ) (kind : ℕ) → 3 + length content ≤ length out
+    → size ≡ bytesOf (length (take 2 (drop 1 (set out 0 kind)))) (length content)
+    → p ≡ take (length content) content ++ drop (length content) (take (length (framed out kind size) - 3) (drop 3 (framed out kind size)))
     → Laid (optionBytes kind content) out
-    (take 3 (framed out kind (length content)) ++ (p ++ drop (length (framed out kind (length content)) - 3) (drop 3 (framed out kind (length content)))))
+    (take 3 (framed out kind size) ++ (p ++ drop (length (framed out kind size) - 3) (drop 3 (framed out kind size))))
     (3 + length content)
 unfolding optionBytes bytesOf
-lay-all [] content p kind h k e = absurd (omega arith)
-lay-all (a ∷ []) content p kind h k e = absurd (omega arith)
-lay-all (a ∷ (b ∷ [])) content p kind h k e = absurd (omega arith)
-lay-all (a ∷ (b ∷ (c ∷ out))) content p kind h k e =
+lay-all [] content size p kind k l e = absurd (omega arith)
+lay-all (a ∷ []) content size p kind k l e = absurd (omega arith)
+lay-all (a ∷ (b ∷ [])) content size p kind k l e = absurd (omega arith)
+lay-all (a ∷ (b ∷ (c ∷ out))) content size p kind k l e =
     let n : suc (suc (suc (length out))) - 3 ≡ length out = omega arith in
-    let q : p ≡ content ++ drop (length content) out = e ∙ rw (n, take-length, take-length) in
-    let high : length content / 256 ≡ length content / 256 % 256 = omega arith in
-    record { count-is = omega arith; bytes-are = rw (n, drop-length, append-nil, q) (ap (λ (x : ℕ). kind ∷ (x ∷ (length content % 256 ∷ (content ++ drop (length content) out)))) high) }
+    let q : p ≡ content ++ drop (length content) out = e ∙ rw (l, n, take-length, take-length) in
+    record { count-is = omega arith; bytes-are = rw (l, n, drop-length, append-nil, q) }

@@ -5,6 +5,9 @@ ghost use lib.ListN.{length};
 ghost use Rattle.wire.specs.Options.{frameOf, optionBytes, Laid};
 use crate::number;
 
+// The type is one byte.
+const LENGTH_AT: usize = 1;
+
 // Type and length.
 pub const FRAME_SIZE: usize = 3;
 
@@ -21,7 +24,7 @@ pub fn first(rest: &[u8]) -> Frame
     if rest.len() < FRAME_SIZE {
         return Frame::Cut;
     }
-    let size = rest[1] as usize * 256 + rest[2] as usize;
+    let size = number::read(&rest[LENGTH_AT..FRAME_SIZE]) as usize;
     if rest.len() - FRAME_SIZE < size {
         return Frame::Cut;
     }
@@ -36,8 +39,7 @@ pub fn lay(out: &mut [u8], kind: u8, content: &[u8]) -> usize
 {
     let size = content.len();
     out[0] = kind;
-    out[1] = (size / 256) as u8;
-    out[2] = (size % 256) as u8;
+    number::write(&mut out[LENGTH_AT..FRAME_SIZE], size as u64);
     bytes::copy(content, &mut out[FRAME_SIZE..]);
     FRAME_SIZE + size
 }

@@ -103,7 +103,8 @@ abbrev pub expirationAllowed : End → Expiration → Bool
 expirationAllowed end Expiration.Absent = true
 expirationAllowed end (Expiration.Given t) = may planes.Data end EXPIRATION-TIME && not (eqb t 0)
 
--- a data message that may be written with a packet of n bytes: section 3.3.7, "1 to 2^16 - 1: length of packet data"
+-- a data message that may be written with a packet of n bytes: section 3.3.7, Length "0: No packet data", "1 to 2^16 - 1: length of packet data";
+-- 0 is written like any other (docs/DECISIONS.md, point 7)
 unfoldable pub dataAllowed : End → Data → ℕ → Bool
 dataAllowed end m n =
     datalinkAllowed (m .datalink)

@@ -36,7 +36,7 @@ fn fits(number: u64, size: usize) -> bool
 }
 
 // Link Instance and Datalink Context, as the number that their bytes spell.
-fn name(end: End, kind: u8, number: u64, size: usize) -> bool
+fn instance_or_context(end: End, kind: u8, number: u64, size: usize) -> bool
     ensures { λ r. ⌜ r ≡ (may Plane.Control end kind && (leb SHORTEST-NAME size && (leb size LONGEST-NAME && ltb number (256 ^ size)))) ⌝ }
 {
     kind::may_hold(Plane::Control, end, kind)
@@ -59,7 +59,7 @@ pub fn instance(end: End, instance: Instance) -> bool
 {
     match instance {
         Instance::Absent => true,
-        Instance::Given(id, size) => name(end, kind::LINK_INSTANCE, id.0, size),
+        Instance::Given(id, size) => instance_or_context(end, kind::LINK_INSTANCE, id.0, size),
     }
 }
 
@@ -69,7 +69,12 @@ pub fn context(end: End, context: Context) -> bool
 {
     match context {
         Context::Absent => true,
-        Context::Given(string, size) => name(end, kind::DATALINK_CONTEXT, string.0, size),
+        Context::Given(string, size) => instance_or_context(
+            end,
+            kind::DATALINK_CONTEXT,
+            string.0,
+            size,
+        ),
     }
 }
 

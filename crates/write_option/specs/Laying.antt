@@ -15,7 +15,7 @@ alone f = bytes (f done)
 abbrev pub sizeOf : (Options → Options) → ℕ
 sizeOf f = length (alone f)
 
--- a name's length is not passed
+-- the longest Link Instance or Context is not passed
 abbrev pub ShortInstance : Instance → Type 0
 ShortInstance Instance.Absent = Unit {0}
 ShortInstance (Instance.Given v n) = n ≤ LONGEST-NAME

@@ -15,7 +15,7 @@ use Rattle.meaning.specs.declared.message.StatusCell.{StatusCell}
 use Rattle.meaning.specs.declared.message.SequenceCell.{SequenceCell}
 use Rattle.meaning.specs.declared.message.WindowCell.{WindowCell}
 
--- the longest content but a packet's is a name's
+-- the longest content but a packet's is a Link Instance's or a Context's
 abbrev pub LONGEST-OPTION : ℕ
 LONGEST-OPTION = 3 + LONGEST-NAME
 

@@ -4,20 +4,20 @@ use borrow.Author.Needs.{needs}
 use borrow.Author.Tests.{not-true, not-false}
 use Rattle.meaning.specs.Kinds.{lengthListed, valueListed}
 use Rattle.read_option.specs.Items.{itemOf, statedOf}
-use Rattle.read_option.proofs.Contents.{name-fits}
+use Rattle.read_option.proofs.Contents.{instance-fits}
 use Rattle.read_option.proofs.option.context.Statement.{statement}
 use Rattle.read_option.proofs.option.context.Tie as tie
 
 returns : tie.Need-returns
 unfolding statedOf lengthListed
-returns c = rw (sym (c .before .is-name-length .ensures) ∙ not-true _ (c .if1 .taken))
+returns c = rw (sym (c .before .is-instance-length .ensures) ∙ not-true _ (c .if1 .taken))
 
 read-requires : tie.Need-read-requires
-read-requires c κs = name-fits _ (sym (c .before .is-name-length .ensures) ∙ not-false _ (c .if1 .left))
+read-requires c κs = instance-fits _ (sym (c .before .is-instance-length .ensures) ∙ not-false _ (c .if1 .left))
 
 returns-2 : tie.Need-returns-2
 unfolding statedOf lengthListed valueListed itemOf
-returns-2 c = rw (sym (c .before .before .is-name-length .ensures) ∙ not-false _ (c .before .if1 .left), c .read .ensures .0)
+returns-2 c = rw (sym (c .before .before .is-instance-length .ensures) ∙ not-false _ (c .before .if1 .left), c .read .ensures .0)
 
 pub context-spec : {M : Type 1} → statement M
 context-spec = tie.close (tie.spec (λ c κs. search needs) returns read-requires returns-2)

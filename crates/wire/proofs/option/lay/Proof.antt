@@ -8,32 +8,29 @@ use Rattle.wire.proofs.Options.{option-length, lay-all, laid-same}
 use Rattle.wire.proofs.option.lay.Statement.{statement}
 use Rattle.wire.proofs.option.lay.Tie as tie
 
-slice-write-out-2 : tie.Need-slice-write-out-2
-slice-write-out-2 c = simp length-set (omega arith)
-
-slice-write-out-3 : tie.Need-slice-write-out-3
-slice-write-out-3 c = simp length-set (omega arith)
+part-write-end : tie.Need-part-write-end
+part-write-end c = simp length-set (omega arith)
 
 sub-copy : tie.Need-sub-copy
-sub-copy c = simp length-set (omega arith)
+sub-copy c = rw (c .before .out .given .1, length-set) (omega arith)
 
 part-copy-start : tie.Need-part-copy-start
-part-copy-start c = simp length-set (omega arith)
+part-copy-start c = rw (c .before .out .given .1, length-set) (omega arith)
 
 copy-requires : tie.Need-copy-requires
-copy-requires c κs = simp (length-take, length-drop, length-set) (omega arith)
+copy-requires c κs = rw (length-take, length-drop, c .before .before .out .given .1, length-set) (omega arith)
 
 same-length : tie.Need-same-length
 same-length c =
-    let start = c .before .before .before .before .before .before in
+    let start = c .before .before .before .before .before .before .before .before .before .before in
     let n = option-length (start .args .kind) (now (start .args .content)) in
     laid-same (optionBytes (start .args .kind) (now (start .args .content))) (now (start .args .out)) _ _ (omega (arith, start .pre .1))
-    (lay-all _ _ _ _ (start .pre .0) (start .pre .1) (c .before .before .copy .ensures .1))
+    (lay-all _ _ _ _ _ (start .pre .1) (c .before .before .before .before .before .before .write .ensures) (c .before .before .copy .ensures .1))
 
 returns : tie.Need-returns
 returns c =
-    let start = c .before .before .before .before .before .before in
-    lay-all _ _ _ _ (start .pre .0) (start .pre .1) (c .before .before .copy .ensures .1)
+    let start = c .before .before .before .before .before .before .before .before .before .before in
+    lay-all _ _ _ _ _ (start .pre .1) (c .before .before .before .before .before .before .write .ensures) (c .before .before .copy .ensures .1)
 
 pub lay-spec : {M : Type 1} → statement M
 lay-spec =
@@ -41,9 +38,9 @@ lay-spec =
     (tie.spec
     (λ c. search needs)
     (λ c. search needs)
-    slice-write-out-2
     (λ c. search needs)
-    slice-write-out-3
+    part-write-end
+    (λ c κs. search needs)
     sub-copy
     part-copy-start
     (λ c. search needs)

@@ -1,9 +1,9 @@
--- `option::is_name_length` meets its contract. Assumes nothing.
+-- `option::is_instance_length` meets its contract. Assumes nothing.
 use borrow.Author.Tests.{le-leb, lt-leb}
 use Rattle.quantity.specs.Limits.{SHORTEST-NAME}
 use Rattle.meaning.specs.Kinds.{lengthListed}
-use Rattle.read_option.proofs.option.is_name_length.Statement.{statement}
-use Rattle.read_option.proofs.option.is_name_length.Tie as tie
+use Rattle.read_option.proofs.option.is_instance_length.Statement.{statement}
+use Rattle.read_option.proofs.option.is_instance_length.Tie as tie
 
 returns : tie.Need-returns
 unfolding lengthListed
@@ -13,5 +13,5 @@ returns-2 : tie.Need-returns-2
 unfolding lengthListed
 returns-2 c = simp (le-leb SHORTEST-NAME _ (c .if1 .left))
 
-pub is-name-length-spec : {M : Type 1} → statement M
-is-name-length-spec = tie.close (tie.spec returns returns-2)
+pub is-instance-length-spec : {M : Type 1} → statement M
+is-instance-length-spec = tie.close (tie.spec returns returns-2)

@@ -1,9 +1,9 @@
--- `part::name` meets its contract. Assumes nothing.
+-- `part::instance_or_context` meets its contract. Assumes nothing.
 use borrow.Author.Needs.{needs}
 use borrow.Author.Tests.{le-leb, lt-leb}
 use Rattle.quantity.specs.Limits.{SHORTEST-NAME, LONGEST-NAME}
-use Rattle.writable.proofs.part.name.Statement.{statement}
-use Rattle.writable.proofs.part.name.Tie as tie
+use Rattle.writable.proofs.part.instance_or_context.Statement.{statement}
+use Rattle.writable.proofs.part.instance_or_context.Tie as tie
 
 returns : tie.Need-returns
 returns c =
@@ -21,6 +21,6 @@ returns-3 c = rw (← c .before .before .may-hold .ensures, c .before .if1 .take
 returns-4 : tie.Need-returns-4
 returns-4 c = rw (← c .before .may-hold .ensures, c .if1 .left)
 
-pub name-spec : {M : Type 1} → statement M
-name-spec =
+pub instance-or-context-spec : {M : Type 1} → statement M
+instance-or-context-spec =
     tie.close (tie.spec (λ c κs. search needs) (λ c κs. search needs) returns returns-2 returns-3 returns-4)
