@@ -1,79 +1,38 @@
-// A plain Rust channel beside the proved one (the crate `bench_calls`): both must agree on random scripts of calls, then both are timed on the same scripts.
-use std::hint::black_box;
-
+// An endpoint of one channel, proved (the crate `nespovarda`) and in plain Rust: both must agree on random scripts of calls, then both are timed on the same scripts.
 #[path = "common/channel.rs"]
 mod channel;
+#[path = "common/endpoint.rs"]
+mod endpoint;
+#[path = "common/library.rs"]
+mod library;
 #[path = "common/message.rs"]
 mod message;
+#[path = "common/script.rs"]
+mod script;
 #[path = "common/timing.rs"]
 mod timing;
 
-use channel::*;
-use message::*;
-use timing::*;
+use channel::packet;
+use message::Window;
+use script::*;
+use timing::Dice;
 
-extern "C" {
-    fn nespovarda_channel_turns(
-        script: *const u8,
-        words: usize,
-        store: *mut u8,
-        size: usize,
-        packet: *const u8,
-        length: usize,
-        out: *mut u8,
-        room: usize,
-    ) -> u64;
+// A plain channel, and the datagram that reports it operational.
+fn setup(size: usize) -> Setup {
+    Setup { datalink: DATALINK, starts: vec![Start { id: 0, controlled: false, first: 0, size }] }
 }
 
-#[inline(never)]
-fn proved(script: &[u8], store: &mut [u8], packet: &[u8], out: &mut [u8]) -> u64 {
-    unsafe { nespovarda_channel_turns(script.as_ptr(), script.len(), store.as_mut_ptr(), store.len(), packet.as_ptr(), packet.len(), out.as_mut_ptr(), out.len()) }
+fn operational() -> Vec<u8> {
+    radio_control(&[0], &|_| Some(7), &|_| Window::Absent, &[])
 }
 
-// ---- a byte of a script: a call in the two higher bits, how long a packet lasts (or the time) in the others
-
-const DATALINK: u8 = 7;
-const OFFER: u8 = 0;
-const NEXT: u8 = 64;
-const WITHDRAW: u8 = 128;
-const TIME: u8 = 192;
-
-fn run(script: &[u8], store: &mut [u8], packet: &[u8], out: &mut [u8], mut see: impl FnMut(u8, u64)) -> u64 {
-    let mut channel = Channel::new(0, false, store.len(), 0);
-    channel.hear(Some(7), Window::Absent);
-    let (mut time, mut sum) = (0u64, 0);
-    for word in script {
-        let milliseconds = (word % 64) as u64;
-        match word & 192 {
-            OFFER => {
-                let part = offer_part(channel.offer(store, packet, time.wrapping_add(milliseconds), time));
-                see(OFFER, part);
-                sum = mixed(sum, part);
-            }
-            NEXT => {
-                let part = next_part(channel.next(store, DATALINK, time, out));
-                see(NEXT, part);
-                sum = mixed(sum, part);
-            }
-            WITHDRAW => channel.withdraw(store),
-            _ => time = milliseconds,
-        }
-    }
-    sum
-}
-
-#[inline(never)]
-fn plain(script: &[u8], store: &mut [u8], packet: &[u8], out: &mut [u8]) -> u64 {
-    run(script, store, packet, out, |_, _| {})
+fn run(turns: impl IntoIterator<Item = Call>, packet: Vec<u8>) -> Run {
+    Run { script: [Call::Start, Call::Radio].into_iter().chain(turns).collect(), packet, datagrams: vec![operational()] }
 }
 
 // ---- agreement
 
-const SCRIPTS: usize = 40_000;
-
-fn random_bytes(dice: &mut Dice, length: usize) -> Vec<u8> {
-    (0..length).map(|_| dice.roll(256) as u8).collect()
-}
+const SCRIPTS: usize = 20_000;
 
 // Mostly a packet that is taken, of lengths about which a limit turns.
 fn random_packet(dice: &mut Dice) -> Vec<u8> {
@@ -92,139 +51,114 @@ fn random_packet(dice: &mut Dice) -> Vec<u8> {
     bytes
 }
 
-fn random_script(dice: &mut Dice) -> Vec<u8> {
+fn random_script(dice: &mut Dice) -> Vec<Call> {
     let offers = 2 + dice.roll(8);
     let passes = 1 + dice.roll(3);
     let mut time = 0;
     (0..dice.roll(120))
         .map(|_| match dice.roll(offers + passes + 3) {
-            0 if dice.roll(4) == 0 => WITHDRAW,
-            0..=2 => NEXT,
+            0 if dice.roll(4) == 0 => Call::Withdraw(0),
+            0..=2 => Call::Next(0),
             turn if turn < 3 + passes => {
                 // Mostly later, now and then earlier.
-                time = if dice.roll(20) == 0 { dice.roll(8) } else { 63.min(time + dice.roll(6)) };
-                TIME + time as u8
+                time = if dice.roll(20) == 0 { dice.roll(8) } else { time + dice.roll(6) };
+                Call::Time(time as u64)
             }
-            _ => OFFER + [0, 1, 2, 5, 20, 63][dice.roll(6)],
+            _ => Call::Offer(0, [0, 1, 2, 5, 20, 63][dice.roll(6)]),
         })
         .collect()
 }
 
 fn check() {
     let mut dice = Dice(88_172_645_463_325_252);
-    let mut seen: std::collections::BTreeMap<(u8, u64), usize> = Default::default();
-    for turn in 0..SCRIPTS {
-        let script = random_script(&mut dice);
-        let packet = random_packet(&mut dice);
-        let size = [1500, 3000, 65536, dice.roll(20_000), dice.roll(100)][dice.roll(5)];
-        let mut stores = [random_bytes(&mut dice, size), Vec::new()];
-        stores[1] = stores[0].clone();
-        let room = [packet.len() + 12, 2000, packet.len() + 11, dice.roll(2000)][dice.roll(4)];
-        let mut outs = [random_bytes(&mut dice, room), Vec::new()];
-        outs[1] = outs[0].clone();
-        let sums = [
-            proved(&script, &mut stores[0], &packet, &mut outs[0]),
-            run(&script, &mut stores[1], &packet, &mut outs[1], |call, part| {
-                // Of a message the length is left out of what is counted.
-                let part = if part >= WROTE << 17 && part < (WROTE + 1) << 17 { WROTE << 17 } else { part };
-                *seen.entry((call, part)).or_default() += 1;
-            }),
-        ];
-        if sums[0] != sums[1] || stores[0] != stores[1] || outs[0] != outs[1] {
-            println!("the channels differ: script {turn}, {script:?}, a packet of {}, a store of {size}, room {room}, sums {sums:x?}", packet.len());
-            std::process::exit(1);
-        }
+    let mut seen = Seen::default();
+    for _ in 0..SCRIPTS {
+        let run = run(random_script(&mut dice), random_packet(&mut dice));
+        let size = [1500, 3000, 65536, 1400 + dice.roll(20_000), 65_000 + dice.roll(1000)][dice.roll(5)];
+        let room = [run.packet.len() + 12, 2000, run.packet.len() + 11, dice.roll(2000)][dice.roll(4)];
+        let (memory, out) = (random_bytes(&mut dice, size), random_bytes(&mut dice, room));
+        agree(&setup(size), &run, &memory, size, &out, &mut seen);
     }
-    println!("the channels agree on {SCRIPTS} random scripts, every byte of store and output; answers seen:");
-    for ((call, part), count) in &seen {
-        let call = if *call == OFFER { "offer" } else { "next" };
-        match part >> 17 {
-            0 => println!("  {call}, answer {part}: {count}"),
-            WROTE => println!("  {call}, a message: {count}"),
-            number => println!("  {call}, refusal {number}: {count}"),
-        }
-    }
-    assert!(seen.values().all(|count| *count > 100));
-    assert_eq!(seen.len(), 10);
+    println!("the endpoints of one channel agree on {SCRIPTS} random scripts, every answer and every byte of memory and output after each call; answers seen:");
+    tell(&seen, 18, 100);
 }
 
 // ---- timing
 
+const TURNS: u64 = 32;
+
 struct Case {
     name: &'static str,
-    script: Vec<u8>,
     calls: usize,
     packet: usize,
     store: usize,
+    turn: fn(u64) -> Vec<Call>,
+    // What of a turn is not counted.
+    base: fn(u64) -> Vec<Call>,
 }
 
-const TURNS: usize = 32;
-
-fn case(name: &'static str, turn: &[u8], calls: usize, packet: usize, store: usize) -> Case {
-    Case { name, script: turn.repeat(TURNS), calls, packet, store }
+fn nothing(_: u64) -> Vec<Call> {
+    Vec::new()
 }
 
-fn filling(name: &'static str, asks: bool, packet: usize) -> Case {
-    let script = (0..TURNS).flat_map(|time| expiring(time as u8, asks)).collect();
-    Case { name, script, calls: 33 + asks as usize, packet, store: 32 * packet }
+fn offer_and_next(_: u64) -> Vec<Call> {
+    vec![Call::Offer(0, 1), Call::Next(0)]
 }
 
-// 30 packets that last a millisecond and two among them that last longer, with or without the next at the time when the 30 expire; then all are withdrawn.
-fn expiring(time: u8, asks: bool) -> Vec<u8> {
-    let mut turn = vec![TIME + time];
-    turn.extend((0..32).map(|at| if at == 9 || at == 22 { OFFER + 9 } else { OFFER + 1 }));
-    turn.push(TIME + time + 1);
-    if asks {
-        turn.push(NEXT);
-    }
-    turn.push(WITHDRAW);
+fn next(_: u64) -> Vec<Call> {
+    vec![Call::Next(0)]
+}
+
+fn filled(time: u64) -> Vec<Call> {
+    let mut turn = vec![Call::Time(time)];
+    turn.extend((0..32).map(|at| Call::Offer(0, if at == 9 || at == 22 { 9 } else { 1 })));
+    turn
+}
+
+// 30 packets that last a millisecond and two among them that last longer; all are withdrawn.
+fn withdrawn(time: u64) -> Vec<Call> {
+    let mut turn = filled(time);
+    turn.extend([Call::Time(time + 1), Call::Withdraw(0)]);
+    turn
+}
+
+// The same, with a next at the time when the 30 expire.
+fn expired(time: u64) -> Vec<Call> {
+    let mut turn = filled(time);
+    turn.extend([Call::Time(time + 1), Call::Next(0), Call::Withdraw(0)]);
     turn
 }
 
 fn cases() -> Vec<Case> {
-    vec![
-        case("one offer and one next, store of 3,000", &[OFFER + 1, NEXT], 2, 100, 3000),
-        case("one offer and one next, store of 3,000", &[OFFER + 1, NEXT], 2, 1280, 3000),
-        case("one offer and one next, store of 65,536", &[OFFER + 1, NEXT], 2, 100, 65536),
-        case("one offer and one next, store of 65,536", &[OFFER + 1, NEXT], 2, 1280, 65536),
-        filling("32 offers, withdrawn", false, 100),
-        filling("the same, with a next as 30 expire", true, 100),
-        filling("32 offers, withdrawn", false, 1280),
-        filling("the same, with a next as 30 expire", true, 1280),
-        case("a next, nothing waiting, store of 3,000", &[NEXT], 1, 100, 3000),
-        case("no call: the time is set", &[TIME], 1, 100, 3000),
-    ]
+    let case = |name, calls, packet, store, turn, base| Case { name, calls, packet, store, turn, base };
+    let mut cases = Vec::new();
+    for store in [3000, 65536] {
+        cases.push(case("one offer and one next", 2, 100, store, offer_and_next as fn(u64) -> Vec<Call>, nothing as fn(u64) -> Vec<Call>));
+        cases.push(case("one offer and one next", 2, 1280, store, offer_and_next, nothing));
+    }
+    for (packet, store) in [(100, 3200), (100, 65536), (1280, 65536)] {
+        cases.push(case("32 offers, withdrawn", 33, packet, store, withdrawn, nothing));
+        cases.push(case("a next as 30 of 32 expire", 1, packet, store, expired, withdrawn));
+    }
+    for store in [3000, 65536] {
+        cases.push(case("a next, nothing waiting", 1, 100, store, next, nothing));
+    }
+    cases
 }
 
-// Nanoseconds a turn of a script.
-fn measure(case: &Case) -> [f64; 2] {
-    let script = &case.script[..];
-    let packet = packet(case.packet);
-    let mut stores = [vec![0; case.store], vec![0; case.store]];
-    let mut outs = [vec![0; 2000], vec![0; 2000]];
-    let [store, other] = &mut stores;
-    let [out, last] = &mut outs;
-    timed([
-        &mut || proved(black_box(script), store, black_box(&packet), out),
-        &mut || plain(black_box(script), other, black_box(&packet), last),
-    ])
-    .map(|time| time / TURNS as f64)
+// Nanoseconds a turn.
+fn measure(case: &Case) -> [f64; 3] {
+    let script = |turn: fn(u64) -> Vec<Call>| run((0..TURNS).flat_map(turn), packet(case.packet));
+    longer(&setup(case.store), &script(case.turn), &script(case.base)).map(|time| time / TURNS as f64)
 }
 
 fn main() {
     check();
     println!();
-    println!("| one turn | packet, bytes | calls | proved, ns | plain Rust, ns | ratio |");
-    println!("|---|---|---|---|---|---|");
-    let mut last = [0.0; 2];
+    println!("| one turn | packet, bytes | store, bytes | calls | proved, ns | plain Rust, ns | ratio | plain without the test of 19, ns |");
+    println!("|---|---|---|---|---|---|---|---|");
     for case in &cases() {
-        let times = measure(case);
-        let [proved, plain] = times;
-        println!("| {} | {} | {} | {proved:.1} | {plain:.1} | {:.2} |", case.name, case.packet, case.calls, proved / plain);
-        if case.calls == 34 {
-            let [proved, plain] = [proved - last[0], plain - last[1]];
-            println!("| that next alone, the difference | {} | 1 | {proved:.1} | {plain:.1} | {:.2} |", case.packet, proved / plain);
-        }
-        last = times;
+        let [proved, plain, trusting] = measure(case);
+        println!("| {} | {} | {} | {} | {proved:.1} | {plain:.1} | {:.2} | {trusting:.1} |", case.name, case.packet, case.store, case.calls, proved / plain);
     }
 }

@@ -201,27 +201,6 @@ impl Channel {
     }
 }
 
-// ---- answers as numbers, as crates/bench_calls/specs/Parts.antt defines them
-
-pub const WROTE: u64 = 21;
-
-pub fn offer_part(answer: Result<(), u8>) -> u64 {
-    match answer {
-        Ok(()) => 0,
-        Err(number) => super::message::mixed(number as u64, 0),
-    }
-}
-
-pub fn next_part(answer: Result<Next, u8>) -> u64 {
-    match answer {
-        Ok(Next::Sent(length)) => super::message::mixed(WROTE, length as u64),
-        Ok(Next::NothingWaiting) => 0,
-        Ok(Next::NotOperational) => 1,
-        Ok(Next::WindowShut) => 2,
-        Err(number) => super::message::mixed(number as u64, 0),
-    }
-}
-
 // ---- packets
 
 // An IPv6 packet of so many bytes, at least 40.

@@ -1,14 +1,11 @@
--- The laws that the proofs of this crate share, and its promises.
+-- The laws of the calls on lent words: `Placing` to `Showing` are what the functions' proofs cite; `Leaving` to `Whole` are the promises.
+pub mod Placing
 pub mod Finding
 pub mod Calling
-pub mod Starting
 pub mod Hearing
-pub mod Querying
+pub mod Showing
+pub mod Leaving
+pub mod Simulating
 pub mod Refused
-pub mod Ran
-pub mod Counted
-pub mod Coincide
-pub mod Exactly
-pub mod Due
-pub mod Others
-pub mod Own
+pub mod Other
+pub mod Whole

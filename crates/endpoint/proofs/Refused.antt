@@ -1,137 +1,113 @@
--- Promise: a refusal "gives its number and a place, changes no state and no lent byte". Assumes nothing.
+-- Promises: a refusal "changes no state and no lent byte", and any two outcomes that a contract allows coincide, in reply, words and memory. Assumes nothing.
 use Prim.Native.Nat.{ℕ}
-use mathlib.Core.Bool.{Bool, true, false, cond}
-use mathlib.Core.List.{List}
-use mathlib.Core.Path.{_≡_, refl, ap, _∙_}
-use lib.ListN.{length}
+use mathlib.Core.Bool.{Bool, true, false}
+use mathlib.Core.List.{List, []}
+use mathlib.Core.Path.{_≡_, refl, sym, _∙_}
 use Rattle.facts.proofs.Tests.{clash}
 use Rattle.quantity.specs.declared.refusal.Refusal.{Refusal}
 use Rattle.meaning.specs.declared.message.End.the-variants as ends
-use Rattle.reader.specs.Readings.{Verdict, readControl, readData, planeOf}
+use Rattle.reader.specs.Readings.{Verdict, readControl, planeOf}
 use Rattle.reader.specs.declared.answer.PlaneAnswer.{PlaneAnswer}
 use Rattle.writer.specs.declared.answer.WriteAnswer.{WriteAnswer}
-use Rattle.writer.specs.Written.{noRoom}
-use Rattle.store.specs.Packets.{Packet}
-use Rattle.ips_channel_rules.specs.Rules.{ChannelCall, offer, next, withdraw, Taken, taken, Tried, nothingWaiting, notOperational, windowShut, sent, Emptied, emptied, Answer, refused, answered, Terms}
-use Rattle.ips_channel_calls.specs.declared.offering.OfferAnswer.{OfferAnswer}
+use Rattle.ips_channel_rules.specs.Rules.{ChannelCall, next, Says, Answer, refused, answered, Terms}
 use Rattle.ips_channel_calls.specs.declared.asking.NextAnswer.{NextAnswer}
-use Rattle.ips_channel_calls.specs.Calls.{offerAnswer, nextAnswer, withdrawAnswer, outputAfter, Reply, offered, asked, withdrawn}
-use Rattle.ips_state.specs.declared.state.Configuration.{Configuration}
-use Rattle.ips_state.specs.declared.state.State.{State}
+use Rattle.ips_channel_calls.specs.Calls.{Reply, asked, replyTo}
 use Rattle.ips_state.specs.Limits.{stateFits}
-use Rattle.ips_state.specs.Memory.{World, indexIn}
-use Rattle.ips_run.specs.Calling.{termsIn, calling}
-use Rattle.ips_run.specs.Run.{on, query, after}
-use Rattle.ips_run.proofs.Exact.{refused-world}
-use Rattle.ips_radio.specs.Heard.{dueOf}
-use Rattle.ips_channel_calls.specs.declared.offering.WithdrawAnswer.{WithdrawAnswer}
+use Rattle.ips_state.specs.Memory.{indexIn}
+use Rattle.ips_state.specs.declared.StartAnswer.{StartAnswer}
 use Rattle.ips_radio.specs.declared.RadioAnswer.{RadioAnswer}
-use Rattle.ips_state.specs.declared.state.StartAnswer.{StartAnswer}
-use Rattle.endpoint.specs.declared.radio.AfterRadio.{AfterRadio}
-use Rattle.endpoint.specs.Radio.{byVerdict, heardControl, unchanged, handedIn}
-use Rattle.endpoint.specs.Query.{queryBytes}
-use Rattle.endpoint.specs.Replies.{ofChannel, ofQuery}
-use Rattle.endpoint.specs.Calls.{Performed}
-use Rattle.endpoint.specs.Start.{startFits, Started}
-use Rattle.endpoint.proofs.Querying.{query-gives}
+use Rattle.ips_radio.specs.Heard.{dueOf}
+use Rattle.ips_run.specs.Calling.{termsIn, calling}
+use Rattle.ips_run.specs.Run.{Call, on, radio, query, acceptedIn, acceptedBy}
+use Rattle.ips_run.proofs.Exact.{refused-world}
+use Rattle.ips_calls.specs.Radio.{handedIn}
+use Rattle.ips_calls.specs.Replies.{EndpointReply, ofChannel, ofRadio, ofQuery}
+use Rattle.ips_calls.proofs.Refused.{not-refused, next-refused-same, query-refused-same}
+use Rattle.ips_words.specs.Words.{stateIn}
+use Rattle.ips_words_start.specs.Start.{startsIn, StartedIn}
+use Rattle.endpoint.specs.Lent.{Lent, worldIn, wordsCalled, afterIn}
+use Rattle.endpoint.specs.Calls.{PerformedIn, isRefused}
+use Rattle.endpoint.proofs.Calling.{unless-told}
+use Rattle.endpoint.proofs.Simulating.{performed-in}
 
--- ---- the code's answers: only a refusal of the rules is told as one
-offer-told : (a : Answer Taken) (refusal : Refusal) → offerAnswer a ≡ OfferAnswer.Refused refusal → a ≡ refused (refusal .number)
-offer-told (refused number) refusal e = let n : number ≡ refusal .number = cc in rw n
-offer-told (answered taken) refusal e = clash (cc)
+-- ---- any two outcomes coincide
+pub calls-coincide-in : {c : Call} {l l′ l″ : Lent} {x x′ : EndpointReply} → PerformedIn c l x l′ → PerformedIn c l x′ l″ → (x ≡ x′) × (l′ ≡ l″)
+calls-coincide-in h k = (h .reply-is ∙ sym (k .reply-is), h .lent-is ∙ sym (k .lent-is))
 
-next-told : (k : Terms) (a : Answer Tried) (refusal : Refusal) → nextAnswer k a ≡ NextAnswer.Refused refusal → a ≡ refused (refusal .number)
-next-told k (refused number) refusal e = let n : number ≡ refusal .number = cc in rw n
-next-told k (answered nothingWaiting) refusal e = clash (cc)
-next-told k (answered notOperational) refusal e = clash (cc)
-next-told k (answered windowShut) refusal e = clash (cc)
-next-told k (answered (sent packet sequence)) refusal e = clash (cc)
+pub starts-coincide-in : {configuration words memory words′ words″ memory′ memory″ : List ℕ} {answer answer′ : StartAnswer} → StartedIn configuration words memory answer words′ memory′
+    → StartedIn configuration words memory answer′ words″ memory″ → (answer ≡ answer′) × (words′ ≡ words″) × (memory′ ≡ memory″)
+starts-coincide-in h k = (h .answer-is ∙ sym (k .answer-is), h .words-are ∙ sym (k .words-are), h .memory-is ∙ sym (k .memory-is))
 
-withdraw-told : (a : Answer Emptied) (refusal : Refusal) → withdrawAnswer a ≡ WithdrawAnswer.Refused refusal → a ≡ refused (refusal .number)
-withdraw-told (refused number) refusal e = let n : number ≡ refusal .number = cc in rw n
-withdraw-told (answered emptied) refusal e = clash (cc)
+-- ---- Offer, Next and Withdraw
+refused-told : (k : Terms) (call : ChannelCall) (a : Answer (Says call)) → isRefused (replyTo k call a) ≡ true → (number : ℕ) × (a ≡ refused number)
+refused-told k call (refused number) e = (number, refl)
+refused-told k call (answered says) e = clash (unless-told k call (answered says) true false ∙ rw e)
 
-one-reply : {x y : Reply} → ofChannel x ≡ ofChannel y → x ≡ y
-one-reply e = cc
+module _ {l l′ : Lent} {id : ℕ} {call : ChannelCall} {x : Reply} (h : PerformedIn (on id call) l (ofChannel x) l′) where
+  reply-told : x ≡ replyTo (termsIn (worldIn l) (indexIn (worldIn l) id)) call (calling id call (worldIn l) .answer)
+  reply-told = cc (h .reply-is)
 
-module _ (w : World) (id : ℕ) (refusal : Refusal) (w′ : World) where
-  -- any call that the rules refuse
-  refused-same : (c : ChannelCall) (x : Reply) → Performed (on id c) w (ofChannel x) w′ → calling id c w .answer ≡ refused (refusal .number) → w′ ≡ w
-  unfolding after
-  refused-same c x h e = h .world-is ∙ refused-world id c w (refusal .number) e
+  pub refused-in : isRefused x ≡ true → l′ ≡ l
+  unfolding afterIn wordsCalled
+  refused-in e =
+      let told = refused-told (termsIn (worldIn l) (indexIn (worldIn l) id)) call (calling id call (worldIn l) .answer) (rw reply-told at e) in
+      h .lent-is ∙ rw (refused-world id call (worldIn l) (told .0) (told .1), told .1)
 
-  pub offer-refused-same : (p : Packet) (time : ℕ) (answer : OfferAnswer) → Performed (on id (offer p time)) w (ofChannel (offered answer)) w′ → answer ≡ OfferAnswer.Refused refusal → w′ ≡ w
-  offer-refused-same p time answer h e =
-      let is : offerAnswer (calling id (offer p time) w .answer) ≡ OfferAnswer.Refused refusal = cc (one-reply (h .reply-is)) in
-      refused-same (offer p time) (offered answer) h (offer-told _ refusal is)
+-- and Next leaves the output
+pub next-refused-in : {l l′ : Lent} {id time : ℕ} {out out′ : List ℕ} {refusal : Refusal} → PerformedIn (on id (next time out)) l (ofChannel (asked (NextAnswer.Refused refusal) out′)) l′
+    → (l′ ≡ l) × (out′ ≡ out)
+next-refused-in {l} {l′} {id} {time} {out} {out′} {refusal} h =
+    (refused-in h refl, next-refused-same (worldIn l) id refusal (worldIn l′) time out out′ (NextAnswer.Refused refusal) (performed-in tt h) refl .1)
 
-  pub next-refused-same : (time : ℕ) (out out′ : List ℕ) (answer : NextAnswer) → Performed (on id (next time out)) w (ofChannel (asked answer out′)) w′ → answer ≡ NextAnswer.Refused refusal
-      → (w′ ≡ w) × (out′ ≡ out)
-  next-refused-same time out out′ answer h e =
-      let k = termsIn w (indexIn w id) in
-      let a = calling id (next time out) w .answer in
-      let is : nextAnswer k a ≡ NextAnswer.Refused refusal = cc (one-reply (h .reply-is)) in
-      let told = next-told k a refusal is in
-      let bytes : out′ ≡ outputAfter k a out = cc (one-reply (h .reply-is)) in
-      (refused-same (next time out) (asked answer out′) h told, bytes ∙ rw told)
+-- ---- a radio message
+module _ (l : Lent) (datagram : List ℕ) where
+  verdict-refused : (v : Verdict) (refusal : Refusal) → readControl ends.Radio (stateIn (l .words) .datalink) datagram .verdict ≡ v → stateFits (stateIn (l .words)) ≡ true → planeOf datagram ≡ PlaneAnswer.Control
+      → handedIn (stateIn (l .words)) datagram .answer ≡ RadioAnswer.Refused refusal → acceptedBy (radio datagram) (worldIn l) ≡ []
+  unfolding handedIn acceptedBy acceptedIn
+  verdict-refused Verdict.Accepted refusal v f p e =
+      let reading = readControl ends.Radio (stateIn (l .words) .datalink) datagram in
+      absurd (not-refused (stateIn (l .words)) (dueOf (stateIn (l .words) .context) (reading .message .context)) refusal (rw (f, p, v) at e))
+  verdict-refused Verdict.OtherPlane refusal v f p e = rw (f, p, v)
+  verdict-refused (Verdict.Refused why) refusal v f p e = rw (f, p, v)
 
-  pub withdraw-refused-same : (answer : WithdrawAnswer) → Performed (on id withdraw) w (ofChannel (withdrawn answer)) w′ → answer ≡ WithdrawAnswer.Refused refusal → w′ ≡ w
-  withdraw-refused-same answer h e =
-      let is : withdrawAnswer (calling id withdraw w .answer) ≡ WithdrawAnswer.Refused refusal = cc (one-reply (h .reply-is)) in
-      refused-same withdraw (withdrawn answer) h (withdraw-told _ refusal is)
+  accepted-none : (refusal : Refusal) → handedIn (stateIn (l .words)) datagram .answer ≡ RadioAnswer.Refused refusal → acceptedBy (radio datagram) (worldIn l) ≡ []
+  unfolding acceptedBy acceptedIn
+  accepted-none refusal e = go (stateFits (stateIn (l .words))) refl (planeOf datagram) refl
+    where
+      go : (fits : Bool) → stateFits (stateIn (l .words)) ≡ fits → (plane : PlaneAnswer) → planeOf datagram ≡ plane → acceptedBy (radio datagram) (worldIn l) ≡ []
+      go false f plane p = rw f
+      go true f PlaneAnswer.Control p = verdict-refused (readControl ends.Radio (stateIn (l .words) .datalink) datagram .verdict) refusal refl f p e
+      go true f PlaneAnswer.Data p = rw (f, p)
+      go true f (PlaneAnswer.Refused why) p = rw (f, p)
 
--- ---- a radio message; "an accepted radio data message changes nothing"
-module _ (s : State) where
-  data-same : (verdict : Verdict) → byVerdict verdict s (unchanged s) .state ≡ s
-  data-same Verdict.Accepted = refl
-  data-same Verdict.OtherPlane = refl
-  data-same (Verdict.Refused refusal) = refl
+module _ {l l′ : Lent} {datagram : List ℕ} where
+  pub radio-refused-in : {refusal : Refusal} → PerformedIn (radio datagram) l (ofRadio (RadioAnswer.Refused refusal)) l′ → l′ ≡ l
+  unfolding afterIn
+  radio-refused-in {refusal} h = h .lent-is ∙ rw (accepted-none l datagram refusal (cc (h .reply-is)))
 
-  control-same : (verdict : Verdict) (accepted : AfterRadio) (refusal : Refusal) → (accepted .answer ≡ RadioAnswer.Refused refusal → ⊥)
-      → byVerdict verdict s accepted .answer ≡ RadioAnswer.Refused refusal → byVerdict verdict s accepted .state ≡ s
-  control-same Verdict.Accepted accepted refusal other e = absurd (other e)
-  control-same Verdict.OtherPlane accepted refusal other e = refl
-  control-same (Verdict.Refused why) accepted refusal other e = refl
+  -- "An accepted radio data message changes nothing."
+  pub radio-data-in : planeOf datagram ≡ PlaneAnswer.Data → {x : EndpointReply} → PerformedIn (radio datagram) l x l′ → l′ ≡ l
+  unfolding afterIn acceptedBy acceptedIn
+  radio-data-in p h = h .lent-is ∙ go (stateFits (stateIn (l .words))) refl
+    where
+      go : (fits : Bool) → stateFits (stateIn (l .words)) ≡ fits → afterIn (radio datagram) l ≡ l
+      go true f = rw (f, p)
+      go false f = rw f
 
-  pub not-refused : (due : Bool) (refusal : Refusal) → cond due RadioAnswer.Due RadioAnswer.Accepted ≡ RadioAnswer.Refused refusal → ⊥
-  not-refused true refusal e = clash (cc)
-  not-refused false refusal e = clash (cc)
+-- ---- a query, whatever its answer; refused, it leaves the output too
+pub query-in : {l l′ : Lent} {out : List ℕ} {x : EndpointReply} → PerformedIn (query out) l x l′ → l′ ≡ l
+unfolding afterIn
+query-in h = h .lent-is
 
-  module _ (datagram : List ℕ) where
-    pub radio-data-same : planeOf datagram ≡ PlaneAnswer.Data → handedIn s datagram .state ≡ s
-    unfolding handedIn
-    radio-data-same p = go (stateFits s) refl
-      where
-        go : (fits : Bool) → stateFits s ≡ fits → handedIn s datagram .state ≡ s
-        go true f = rw (f, p) (data-same (readData ends.Radio (s .datalink) datagram .verdict))
-        go false f = rw f
+pub query-refused-in : {l l′ : Lent} {out out′ : List ℕ} {refusal : Refusal} → PerformedIn (query out) l (ofQuery (WriteAnswer.Refused refusal) out′) l′ → out′ ≡ out
+query-refused-in {l} {l′} {out} {out′} {refusal} h =
+    query-refused-same (worldIn l) out (WriteAnswer.Refused refusal) out′ (worldIn l′) refusal (performed-in tt h) refl .1
 
-    pub radio-refused-same : (refusal : Refusal) → handedIn s datagram .answer ≡ RadioAnswer.Refused refusal → handedIn s datagram .state ≡ s
-    unfolding handedIn
-    radio-refused-same refusal e = go (stateFits s) refl (planeOf datagram) refl
-      where
-        go : (fits : Bool) → stateFits s ≡ fits → (plane : PlaneAnswer) → planeOf datagram ≡ plane → handedIn s datagram .state ≡ s
-        go false f plane p = rw f
-        go true f PlaneAnswer.Control p =
-            let reading = readControl ends.Radio (s .datalink) datagram in
-            rw (f, p) (control-same (reading .verdict) (heardControl (reading .message) s) refusal (not-refused (dueOf (s .context) (reading .message .context)) refusal) (rw (f, p) at e))
-        go true f PlaneAnswer.Data p = radio-data-same p
-        go true f (PlaneAnswer.Refused why) p = rw (f, p)
-
--- ---- a start, and a query
-pub start-refused-same : (k : Configuration) (memory : List ℕ) (answer : StartAnswer) (w : World) (refusal : Refusal) → Started k memory answer w → answer ≡ StartAnswer.Refused refusal → w .memory ≡ memory
-start-refused-same k memory answer w refusal h e = go (startFits k memory) refl
+-- ---- a start
+pub start-refused-in : {configuration words memory words′ memory′ : List ℕ} {refusal : Refusal} → StartedIn configuration words memory (StartAnswer.Refused refusal) words′ memory′
+    → (words′ ≡ words) × (memory′ ≡ memory)
+start-refused-in {configuration} {words} {memory} {words′} {memory′} {refusal} h = go (startsIn configuration words memory) refl
   where
-    go : (fits : Bool) → startFits k memory ≡ fits → w .memory ≡ memory
-    go true f = let started : answer ≡ StartAnswer.Started = rw f at (h .answer-is) in clash (cc)
-    go false f = ap (λ (x : World). x .memory) (h .world-is) ∙ rw f
-
-pub query-refused-same : (w : World) (out : List ℕ) (r : WriteAnswer) (out′ : List ℕ) (w′ : World) (refusal : Refusal) → Performed (query out) w (ofQuery r out′) w′ → r ≡ WriteAnswer.Refused refusal
-    → (w′ ≡ w) × (out′ ≡ out)
-unfolding after
-query-refused-same w out r out′ w′ refusal h e = (h .world-is, go (stateFits (w .state)) refl (noRoom (length (queryBytes (w .state))) (length out)) refl)
-  where
-    go : (fits : Bool) → stateFits (w .state) ≡ fits → (full : Bool) → noRoom (length (queryBytes (w .state))) (length out) ≡ full → out′ ≡ out
-    go false f full l = query-gives h .1 ∙ rw f
-    go true f true l = query-gives h .1 ∙ rw (f, l)
-    go true f false l = clash (cc (rw (f, l) at (query-gives h .0)))
+    go : (fits : Bool) → startsIn configuration words memory ≡ fits → (words′ ≡ words) × (memory′ ≡ memory)
+    go true f = let started : StartAnswer.Refused refusal ≡ StartAnswer.Started = rw f at (h .answer-is) in clash (cc)
+    go false f = (h .words-are ∙ rw f, h .memory-is ∙ rw f)

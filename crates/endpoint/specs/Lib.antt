@@ -1,9 +1,5 @@
-pub mod Places
-pub mod Radio
-pub mod Query
-pub mod Replies
+pub mod Lent
 pub mod Calls
-pub mod Start
+pub mod Radio
 pub mod Ran
-pub mod ReadBack
-pub mod Own
+pub mod Shown

@@ -1,50 +1,32 @@
-// A fresh start.
+// A fresh start, and the words that it asks for.
 ghost use mathlib.Core.Path.{_≡_};
-ghost use Rattle.endpoint.specs.Start.{notStarted, Started};
-ghost use Rattle.endpoint.specs.Calls.{lending};
-use ips_state::state;
-use ips_state::state::Configuration;
-use ips_state::state::StartAnswer;
-use ips_state::state::State;
-use ips_state::survey;
-use quantity::refusal;
-use quantity::refusal::Refusal;
-use store::stretch;
+ghost use Rattle.ips_words_start.specs.Start.{StartedIn};
+ghost use Rattle.endpoint.specs.Shown.{wordsNeeded};
+use ips_state::StartAnswer;
+use ips_words::layout::HEAD;
+use ips_words::layout::SLOT;
+use quantity::limit::FEWEST_CHANNELS;
+use quantity::limit::MOST_CHANNELS;
 
-pub struct AfterStart {
-    pub answer: StartAnswer,
-    pub state: State,
+// What a state of the most channels asks for.
+pub const MOST_WORDS: usize = HEAD + SLOT * MOST_CHANNELS;
+
+// How many words a state of so many channels asks for; 0 where no state has so many.
+pub fn words_for(channels: usize) -> usize
+    ensures { λ r. ⌜ r ≡ wordsNeeded channels ⌝ }
+{
+    if channels < FEWEST_CHANNELS {
+        return 0;
+    }
+    if channels > MOST_CHANNELS {
+        return 0;
+    }
+    HEAD + SLOT * channels
 }
 
-// A refused start hands back a state that every call refuses.
-fn refused() -> AfterStart
-    ensures { λ r. ⌜ r ≡ notStarted ⌝ }
+// Judges the configuration, the words and the memory (19), and fills each store with zeros.
+pub fn start(words: &mut [u64], memory: &mut [u8], configuration: &[u64]) -> StartAnswer
+    ensures { λ r. ⌜ StartedIn (now (configuration .entry)) (now (words .entry)) (now (memory .entry)) r (now (words .exit)) (now (memory .exit)) ⌝ }
 {
-    AfterStart {
-        answer: StartAnswer::Refused(Refusal {
-            number: refusal::OUTSIDE_LIMITS,
-            place: 0,
-        }),
-        state: state::blank(),
-    }
-}
-
-// Judges the configuration as the state that it would start (19), and fills each store with zeros.
-pub fn start(configuration: Configuration, memory: &mut [u8]) -> AfterStart
-    ensures { λ r. ⌜ Started configuration (now (memory .entry)) (r .answer) (lending (r .state) (now (memory .exit))) ⌝ }
-{
-    let state = state::fresh(configuration);
-    let survey = survey::survey_state(state, 0);
-    if !survey.fits {
-        return refused();
-    }
-    let total = survey.total;
-    if total.0 != memory.len() {
-        return refused();
-    }
-    stretch::fill_zeros(memory);
-    AfterStart {
-        answer: StartAnswer::Started,
-        state,
-    }
+    ips_words_start::begin(words, memory, configuration)
 }

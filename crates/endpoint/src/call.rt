@@ -1,150 +1,146 @@
-// Offer, Next and Withdraw.
+// Offer, Next and Withdraw on the state in lent words.
+ghost use mathlib.Core.Path.{_≡_};
 ghost use Rattle.store.specs.Packets.{packetFor};
 ghost use Rattle.ips_channel_rules.specs.Rules as rules;
 ghost use Rattle.ips_channel_calls.specs.Calls.{offered, asked, withdrawn};
 ghost use Rattle.ips_run.specs.Run.{on};
-ghost use Rattle.endpoint.specs.Places.{Located};
-ghost use Rattle.endpoint.specs.Replies.{ofChannel};
-ghost use Rattle.endpoint.specs.Calls.{lending, PerformedAt, Performed};
-use crate::place;
-use crate::place::Found;
-use crate::place::Place;
+ghost use Rattle.ips_calls.specs.Replies.{ofChannel};
+ghost use Rattle.ips_words_survey.specs.Places.{Located};
+ghost use Rattle.endpoint.specs.Lent.{lent, worldIn};
+ghost use Rattle.endpoint.specs.Calls.{PerformedIn, PerformedInAt, offerRefused, nextRefused};
+use crate::channel;
 use ips_channel_calls::asking;
 use ips_channel_calls::asking::NextAnswer;
 use ips_channel_calls::offering;
 use ips_channel_calls::offering::OfferAnswer;
 use ips_channel_calls::offering::WithdrawAnswer;
-use ips_state::state::State;
+use ips_words::head;
+use ips_words_survey::place;
+use ips_words_survey::place::Found;
+use ips_words_survey::place::Place;
 use quantity::refusal::Refusal;
 
-// The answer, and the state then.
-pub struct AfterOffer {
-    pub answer: OfferAnswer,
-    pub state: State,
+fn offer_refused(answer: OfferAnswer) -> bool
+    ensures { λ r. ⌜ r ≡ offerRefused answer ⌝ }
+{
+    match answer {
+        OfferAnswer::Taken => false,
+        OfferAnswer::Refused(_) => true,
+    }
 }
 
-pub struct AfterNext {
-    pub answer: NextAnswer,
-    pub state: State,
-}
-
-pub struct AfterWithdraw {
-    pub answer: WithdrawAnswer,
-    pub state: State,
-}
-
-// On the channel that was found, with its store lent.
+// On the channel that was found, with its store lent. Words behind the waiting packets may hold anything, so a refused call saves nothing.
 fn offer_at(
-    state: State,
+    words: &mut [u64],
     memory: &mut [u8],
     found: Found,
     packet: &[u8],
     expiry: u64,
     time: u64,
-) -> AfterOffer
-    requires { ⌜ Located (lending state (now memory)) found ⌝ }
-    ensures { λ r. ⌜ PerformedAt (rules.offer (packetFor (now (packet .entry)) expiry) time) (lending state (now (memory .entry))) (found .index) (offered (r .answer)) (lending (r .state) (now (memory .exit))) ⌝ }
+) -> OfferAnswer
+    requires { ⌜ Located (worldIn (lent (now words) (now memory))) found ⌝ }
+    ensures { λ r. ⌜ PerformedInAt (rules.offer (packetFor (now (packet .entry)) expiry) time) (lent (now (words .entry)) (now (memory .entry))) (found .index) (offered r) (lent (now (words .exit)) (now (memory .exit))) ⌝ }
 {
     let index = found.index;
     let start = found.start;
-    let mut changed = state;
-    let channel = changed.channels[index];
-    let setting = channel.setting;
-    let size = setting.size;
+    let before = channel::load(words, index);
+    let size = before.setting.size;
     let end = start + size.0;
-    let offered = offering::offer(channel, &mut memory[start..end], packet, expiry, time);
+    let offered = offering::offer(before, &mut memory[start..end], packet, expiry, time);
     let answer = offered.answer;
-    let after = offered.channel;
-    changed.channels[index] = after;
-    AfterOffer {
-        answer,
-        state: changed,
+    if offer_refused(answer) {
+        return answer;
     }
+    let after = offered.channel;
+    channel::save(words, index, after);
+    answer
 }
 
 // Offers a packet: 19, 12, then as the channel judges it.
 pub fn offer(
-    state: State,
+    words: &mut [u64],
     memory: &mut [u8],
     id: u8,
     packet: &[u8],
     expiry: u64,
     time: u64,
-) -> AfterOffer
-    ensures { λ r. ⌜ Performed (on id (rules.offer (packetFor (now (packet .entry)) expiry) time)) (lending state (now (memory .entry))) (ofChannel (offered (r .answer))) (lending (r .state) (now (memory .exit))) ⌝ }
+) -> OfferAnswer
+    ensures { λ r. ⌜ PerformedIn (on id (rules.offer (packetFor (now (packet .entry)) expiry) time)) (lent (now (words .entry)) (now (memory .entry))) (ofChannel (offered r)) (lent (now (words .exit)) (now (memory .exit))) ⌝ }
 {
-    match place::find(state, id, memory.len()) {
-        Place::At(found) => offer_at(state, memory, found, packet, expiry, time),
-        Place::Refused(number) => AfterOffer {
-            answer: OfferAnswer::Refused(Refusal { number, place: 0 }),
-            state,
-        },
+    match place::find(words, id, memory.len()) {
+        Place::At(found) => offer_at(words, memory, found, packet, expiry, time),
+        Place::Refused(number) => OfferAnswer::Refused(Refusal { number, place: 0 }),
     }
 }
 
-fn next_at(state: State, memory: &mut [u8], found: Found, time: u64, out: &mut [u8]) -> AfterNext
-    requires { ⌜ Located (lending state (now memory)) found ⌝ }
-    ensures { λ r. ⌜ PerformedAt (rules.next time (now (out .entry))) (lending state (now (memory .entry))) (found .index) (asked (r .answer) (now (out .exit))) (lending (r .state) (now (memory .exit))) ⌝ }
+fn next_refused(answer: NextAnswer) -> bool
+    ensures { λ r. ⌜ r ≡ nextRefused answer ⌝ }
+{
+    match answer {
+        NextAnswer::Sent(_) => false,
+        NextAnswer::NothingWaiting => false,
+        NextAnswer::NotOperational => false,
+        NextAnswer::WindowShut => false,
+        NextAnswer::Refused(_) => true,
+    }
+}
+
+fn next_at(
+    words: &mut [u64],
+    memory: &mut [u8],
+    found: Found,
+    time: u64,
+    out: &mut [u8],
+) -> NextAnswer
+    requires { ⌜ Located (worldIn (lent (now words) (now memory))) found ⌝ }
+    ensures { λ r. ⌜ PerformedInAt (rules.next time (now (out .entry))) (lent (now (words .entry)) (now (memory .entry))) (found .index) (asked r (now (out .exit))) (lent (now (words .exit)) (now (memory .exit))) ⌝ }
 {
     let index = found.index;
     let start = found.start;
-    let mut changed = state;
-    let channel = changed.channels[index];
-    let setting = channel.setting;
-    let size = setting.size;
+    let datalink = head::datalink(words);
+    let before = channel::load(words, index);
+    let size = before.setting.size;
     let end = start + size.0;
-    let datalink = changed.datalink;
-    let asked = asking::next(channel, &mut memory[start..end], datalink, time, out);
+    let asked = asking::next(before, &mut memory[start..end], datalink, time, out);
     let answer = asked.answer;
-    let after = asked.channel;
-    changed.channels[index] = after;
-    AfterNext {
-        answer,
-        state: changed,
+    if next_refused(answer) {
+        return answer;
     }
+    let after = asked.channel;
+    channel::save(words, index, after);
+    answer
 }
 
 // Asks for the next packet's message: 19, 12, then as the channel answers.
-pub fn next(state: State, memory: &mut [u8], id: u8, time: u64, out: &mut [u8]) -> AfterNext
-    ensures { λ r. ⌜ Performed (on id (rules.next time (now (out .entry)))) (lending state (now (memory .entry))) (ofChannel (asked (r .answer) (now (out .exit)))) (lending (r .state) (now (memory .exit))) ⌝ }
+pub fn next(words: &mut [u64], memory: &mut [u8], id: u8, time: u64, out: &mut [u8]) -> NextAnswer
+    ensures { λ r. ⌜ PerformedIn (on id (rules.next time (now (out .entry)))) (lent (now (words .entry)) (now (memory .entry))) (ofChannel (asked r (now (out .exit)))) (lent (now (words .exit)) (now (memory .exit))) ⌝ }
 {
-    match place::find(state, id, memory.len()) {
-        Place::At(found) => next_at(state, memory, found, time, out),
-        Place::Refused(number) => AfterNext {
-            answer: NextAnswer::Refused(Refusal { number, place: 0 }),
-            state,
-        },
+    match place::find(words, id, memory.len()) {
+        Place::At(found) => next_at(words, memory, found, time, out),
+        Place::Refused(number) => NextAnswer::Refused(Refusal { number, place: 0 }),
     }
 }
 
-fn withdraw_at(state: State, memory: &mut [u8], found: Found) -> AfterWithdraw
-    requires { ⌜ Located (lending state (now memory)) found ⌝ }
-    ensures { λ r. ⌜ PerformedAt rules.withdraw (lending state (now (memory .entry))) (found .index) (withdrawn (r .answer)) (lending (r .state) (now (memory .exit))) ⌝ }
+fn withdraw_at(words: &mut [u64], memory: &mut [u8], found: Found) -> WithdrawAnswer
+    requires { ⌜ Located (worldIn (lent (now words) (now memory))) found ⌝ }
+    ensures { λ r. ⌜ PerformedInAt rules.withdraw (lent (now (words .entry)) (now (memory .entry))) (found .index) (withdrawn r) (lent (now (words .exit)) (now (memory .exit))) ⌝ }
 {
     let index = found.index;
     let start = found.start;
-    let mut changed = state;
-    let channel = changed.channels[index];
-    let setting = channel.setting;
-    let size = setting.size;
+    let before = channel::load(words, index);
+    let size = before.setting.size;
     let end = start + size.0;
-    let after = offering::withdraw(channel, &mut memory[start..end]);
-    changed.channels[index] = after;
-    AfterWithdraw {
-        answer: WithdrawAnswer::Withdrawn,
-        state: changed,
-    }
+    let after = offering::withdraw(before, &mut memory[start..end]);
+    channel::save(words, index, after);
+    WithdrawAnswer::Withdrawn
 }
 
 // Withdraws all packets that wait on a channel: 19, 12.
-pub fn withdraw(state: State, memory: &mut [u8], id: u8) -> AfterWithdraw
-    ensures { λ r. ⌜ Performed (on id rules.withdraw) (lending state (now (memory .entry))) (ofChannel (withdrawn (r .answer))) (lending (r .state) (now (memory .exit))) ⌝ }
+pub fn withdraw(words: &mut [u64], memory: &mut [u8], id: u8) -> WithdrawAnswer
+    ensures { λ r. ⌜ PerformedIn (on id rules.withdraw) (lent (now (words .entry)) (now (memory .entry))) (ofChannel (withdrawn r)) (lent (now (words .exit)) (now (memory .exit))) ⌝ }
 {
-    match place::find(state, id, memory.len()) {
-        Place::At(found) => withdraw_at(state, memory, found),
-        Place::Refused(number) => AfterWithdraw {
-            answer: WithdrawAnswer::Refused(Refusal { number, place: 0 }),
-            state,
-        },
+    match place::find(words, id, memory.len()) {
+        Place::At(found) => withdraw_at(words, memory, found),
+        Place::Refused(number) => WithdrawAnswer::Refused(Refusal { number, place: 0 }),
     }
 }

@@ -1,22 +1,23 @@
-// The endpoint, the IPS end of the router: every call of document 01, on a state that goes in and comes back and on a memory that the caller lends.
+// The endpoint, the IPS end of the router: every call of document 01, on a state that stands in lent words and on a memory that the caller lends with them.
 //
-// `start` takes a `Configuration` (the Datalink ID and a `ChannelStart` for each channel: its `Setting` and its first sequence) and the memory, one store after the other, and
-// gives the first `State`. From then on each call takes the state and the memory as the one before left them:
+// `words_for` says how many words a number of channels asks for. `start` takes a configuration in words (the Datalink ID, the count of channels, then for each
+// channel its ID, its kind, its first sequence and the length of its store) and writes the first state into the words; the memory has one store after the other.
+// From then on each call takes words and memory as the one before left them:
 // - `offer` hands in a packet with its expiry for a channel, `next` writes the message of the next packet that may go, `withdraw` empties a channel;
 // - `hand_in` takes a datagram from the radio: channel statuses, flow windows, Link Instance and Context;
-// - `query` writes the query with the Flow Sequences, and changes nothing.
-// An answer says what was done, or is a `Refusal` with document 01's number: then the state, the memory and the output are as they were.
+// - `query` writes the query with the Flow Sequences, and changes nothing;
+// - `find_channel` and `kept` tell what stands in the words.
+// An answer says what was done, or is a `Refusal` with document 01's number: then every word, the memory and the output are as they were.
 pub mod begin;
 pub mod call;
-mod place;
+mod channel;
 pub mod queries;
 pub mod radio;
+pub mod shown;
 
-pub use begin::AfterStart;
+pub use begin::MOST_WORDS;
 pub use begin::start;
-pub use call::AfterNext;
-pub use call::AfterOffer;
-pub use call::AfterWithdraw;
+pub use begin::words_for;
 pub use call::next;
 pub use call::offer;
 pub use call::withdraw;
@@ -26,15 +27,23 @@ pub use ips_channel_calls::asking::NextAnswer;
 pub use ips_channel_calls::offering::OfferAnswer;
 pub use ips_channel_calls::offering::WithdrawAnswer;
 pub use ips_radio::RadioAnswer;
-pub use ips_state::state::ChannelStart;
-pub use ips_state::state::Configuration;
-pub use ips_state::state::StartAnswer;
-pub use ips_state::state::State;
+pub use ips_state::StartAnswer;
+pub use ips_words::layout::HEAD;
+pub use ips_words::layout::SLOT;
+pub use ips_words_start::layout::CONFIGURATION_HEAD;
+pub use ips_words_start::layout::CONFIGURATION_SLOT;
+pub use ips_words_survey::place::Found;
+pub use ips_words_survey::place::Place;
+pub use meaning::message::Context;
+pub use meaning::message::Instance;
 pub use quantity::count::ByteCount;
 pub use quantity::count::DatalinkId;
 pub use quantity::count::FlowSequence;
 pub use quantity::refusal::Refusal;
 pub use queries::query;
-pub use radio::AfterRadio;
 pub use radio::hand_in;
+pub use shown::ChannelShown;
+pub use shown::KeptAnswer;
+pub use shown::find_channel;
+pub use shown::kept;
 pub use writer::answer::WriteAnswer;

@@ -11,7 +11,6 @@ use lib.Signed.{_≤ℤ_}
 use lib.ListN.{length}
 use Rattle.facts.proofs.Tests.{clash, neither}
 use Rattle.quantity.specs.declared.count.FlowWindow.{FlowWindow}
-use Rattle.quantity.specs.Limits.{MOST-CHANNELS}
 use Rattle.meaning.specs.StatusKinds.{Reported}
 use Rattle.meaning.proofs.StatusKinds.{operational-exactly}
 use Rattle.writer.specs.Written.{noRoom}
@@ -35,7 +34,6 @@ use Rattle.ips_channel_calls.specs.declared.offering.OfferAnswer.{OfferAnswer}
 use Rattle.ips_channel_calls.specs.declared.offering.WithdrawAnswer.{WithdrawAnswer}
 use Rattle.ips_channel_calls.specs.declared.asking.NextAnswer.{NextAnswer}
 use Rattle.ips_channel_calls.specs.Calls.{Reply, offered, asked, withdrawn, offerAnswer, nextAnswer, withdrawAnswer}
-use Rattle.ips_state.specs.Table.{configured}
 use Rattle.ips_state.specs.Limits.{sizes, stateFits}
 use Rattle.ips_state.specs.Memory.{memoryFits, World, worldFits, isConfigured, indexIn, channelIn}
 use Rattle.ips_state.proofs.Places.{found}
@@ -43,9 +41,9 @@ use Rattle.ips_state.proofs.WithinLimits.{within-fits, fits-within}
 use Rattle.ips_run.specs.Calling.{termsIn, conditionIn, WorldResult, atChannel, calling, Judged, outside, unknown, served}
 use Rattle.ips_run.specs.Run.{on}
 use Rattle.ips_run.proofs.Exact.{named, gives-configuration, gives-no-channel, serves-at, judged}
-use Rattle.endpoint.specs.Replies.{ofChannel}
-use Rattle.endpoint.specs.Calls.{Performed}
-use Rattle.endpoint.specs.ReadBack.{SequenceWords}
+use Rattle.ips_calls.specs.Replies.{ofChannel}
+use Rattle.ips_calls.specs.Calls.{Performed}
+use Rattle.ips_calls.specs.ReadBack.{SequenceWords}
 use Rattle.endpoint_laws.specs.Given.{Admitted, Configured, NotConfigured, notDueIn, numbered, OfferGiven, offer-19, offer-12, offer-13, offer-14, offer-15, offer-16, offer-17, offer-taken, Goes, goes-free, goes-under, Shut, shut-none, shut-past, NextGiven, next-19, next-12, next-15, next-nothing, next-down, next-shut, next-18, next-sent, WithdrawGiven, withdraw-19, withdraw-12, withdraw-done}
 
 false-unless : (t : Bool) → (t ≡ true → ⊥) → t ≡ false
@@ -55,17 +53,17 @@ false-unless false h = refl
 one-reply : {x y : Reply} → ofChannel x ≡ ofChannel y → x ≡ y
 one-reply e = cc
 
-module _ (w : World) (full : length (w .state .channels) ≡ MOST-CHANNELS) where
+module _ (w : World) where
   -- ---- 19
   admitted-fits : Admitted w → worldFits w ≡ true
   unfolding memoryFits
-  admitted-fits s = rw (within-fits (w .state) full (s .within), eq-eqb (length (w .memory)) (sizes (configured (w .state))) (s .long))
+  admitted-fits s = rw (within-fits (w .state) (s .within), eq-eqb (length (w .memory)) (sizes (w .state .channels)) (s .long))
 
   pub fits-admitted : worldFits w ≡ true → Admitted w
   unfolding memoryFits
   fits-admitted f =
       let parts = and-eq-true-iff (stateFits (w .state)) (memoryFits (w .state) (w .memory)) .0 f in
-      record { within = fits-within (w .state) full (parts .0); long = eqb-true _ _ (parts .1) }
+      record { within = fits-within (w .state) (parts .0); long = eqb-true _ _ (parts .1) }
 
   unadmitted-fits : (Admitted w → ⊥) → worldFits w ≡ false
   unadmitted-fits not = false-unless _ (λ f. not (fits-admitted f))
@@ -81,13 +79,13 @@ module _ (w : World) (full : length (w .state .channels) ≡ MOST-CHANNELS) wher
     unknown-unnamed : worldFits w ≡ true → isConfigured w id ≡ false → NotConfigured w id
     unknown-unnamed f g index inside is =
         let state-fits = and-eq-true-iff (stateFits (w .state)) (memoryFits (w .state) (w .memory)) .0 f .0 in
-        clash (sym g ∙ named w full state-fits index id inside is)
+        clash (sym g ∙ named w index id inside is)
 
     pub found-named : worldFits w ≡ true → isConfigured w id ≡ true → Configured w id (indexIn w id)
     found-named f g = let there = found (w .state) id g in record { admitted = fits-admitted f; inside = there .0; is = there .1 }
 
     named-serves : (c : ChannelCall) (index : ℕ) → Configured w id index → calling id c w ≡ atChannel c w index
-    named-serves c index n = serves-at id c w (admitted-fits (n .admitted)) full index (n .inside) (n .is)
+    named-serves c index n = serves-at id c w (admitted-fits (n .admitted)) index (n .inside) (n .is)
 
     -- ---- Offer
     module _ (p : Packet) (time : ℕ) where
@@ -179,7 +177,7 @@ module _ (c : Channel) (word : c .sequence .0 < 4294967296) (packet : List ℕ) 
       shut-past e (far .1) (λ h. clash (sym not ∙ under-words (c .sequence) window (length packet) (far .0) word (far .1) .goes .1 h))
 
 -- ---- Next
-module _ (w : World) (full : length (w .state .channels) ≡ MOST-CHANNELS) (words : SequenceWords (w .state)) (id time : ℕ) (out : List ℕ) where
+module _ (w : World) (words : SequenceWords (w .state)) (id time : ℕ) (out : List ℕ) where
   abbrev size : ℕ → List ℕ → ℕ
   size index packet = length (messageBytes (termsIn w index) (machine .carried (grown machine packet (conditionIn w index))) packet)
 
@@ -200,9 +198,9 @@ module _ (w : World) (full : length (w .state .channels) ≡ MOST-CHANNELS) (wor
       rw (g .long (termsIn w index)) (next-sent n t e (operational-exactly _ .0 o) (g .goes) (room .0) (room .1))
 
   next-judged : {r : WorldResult Tried} → Judged id (next time out) w r → NextGiven w id time (length out) (nextAnswer (termsIn w (indexIn w id)) (r .answer))
-  next-judged (outside f) = next-19 (fits-unadmitted w full f)
-  next-judged (unknown f g) = next-12 (fits-admitted w full f) (unknown-unnamed w full id f g)
-  next-judged (served f g) = next-when (indexIn w id) (found-named w full id f g) _ (rules.asked machine (termsIn w (indexIn w id)) time (length out) (conditionIn w (indexIn w id)))
+  next-judged (outside f) = next-19 (fits-unadmitted w f)
+  next-judged (unknown f g) = next-12 (fits-admitted w f) (unknown-unnamed w id f g)
+  next-judged (served f g) = next-when (indexIn w id) (found-named w id f g) _ (rules.asked machine (termsIn w (indexIn w id)) time (length out) (conditionIn w (indexIn w id)))
 
   abbrev told : NextAnswer
   told = nextAnswer (termsIn w (indexIn w id)) (calling id (next time out) w .answer)
@@ -219,41 +217,41 @@ module _ (w : World) (full : length (w .state .channels) ≡ MOST-CHANNELS) (wor
     shut-then : Shut (channelIn w index) (length (p .bytes)) → told ≡ NextAnswer.WindowShut
     unfolding conditionOf
     shut-then (shut-none none) =
-        rw (named-serves w full id (next time out) index n, cases.next-no-window machine (termsIn w index) time (length out) (conditionIn w index) t p ps e up (rw none (shut-words _)))
+        rw (named-serves w id (next time out) index n, cases.next-no-window machine (termsIn w index) time (length out) (conditionIn w index) t p ps e up (rw none (shut-words _)))
     shut-then (shut-past {window} {distance} force far not) =
-        rw (named-serves w full id (next time out) index n, cases.next-past machine (termsIn w index) time (length out) (conditionIn w index) t p ps e up _ _ _ (under window distance force far) not)
+        rw (named-serves w id (next time out) index n, cases.next-past machine (termsIn w index) time (length out) (conditionIn w index) t p ps e up _ _ _ (under window distance force far) not)
 
     eighteen-then : {head : ℕ} → Goes (channelIn w index) (length (p .bytes)) head → (length out < head + length (p .bytes)) ⊎ (65507 < head + length (p .bytes)) → told ≡ NextAnswer.Refused (numbered 18)
     unfolding conditionOf
     eighteen-then (goes-free free) l =
-        rw (named-serves w full id (next time out) index n, cases.next-free-eighteen machine (termsIn w index) time (length out) (conditionIn w index) t p ps e up (rw free (free-words _)) l)
+        rw (named-serves w id (next time out) index n, cases.next-free-eighteen machine (termsIn w index) time (length out) (conditionIn w index) t p ps e up (rw free (free-words _)) l)
     eighteen-then (goes-under {window} {distance} force far may) l =
-        rw (named-serves w full id (next time out) index n, cases.next-under-eighteen machine (termsIn w index) time (length out) (conditionIn w index) t p ps e up _ _ _ (under window distance force far) may l)
+        rw (named-serves w id (next time out) index n, cases.next-under-eighteen machine (termsIn w index) time (length out) (conditionIn w index) t p ps e up _ _ _ (under window distance force far) may l)
 
     sent-then : {head : ℕ} → Goes (channelIn w index) (length (p .bytes)) head → head + length (p .bytes) ≤ length out → head + length (p .bytes) ≤ 65507
         → told ≡ NextAnswer.Sent (record { 0 = head + length (p .bytes) })
     unfolding conditionOf
     sent-then (goes-free free) l m =
         rw (
-          named-serves w full id (next time out) index n,
+          named-serves w id (next time out) index n,
           cases.next-free machine (termsIn w index) time (length out) (conditionIn w index) t p ps e up (rw free (free-words _)) l m,
           size-free (termsIn w (indexIn w id)) (p .bytes),
         )
     sent-then (goes-under {window} {distance} force far may) l m =
         rw (
-          named-serves w full id (next time out) index n,
+          named-serves w id (next time out) index n,
           cases.next-under machine (termsIn w index) time (length out) (conditionIn w index) t p ps e up _ _ _ (under window distance force far) may l m,
           size-under (termsIn w (indexIn w id)) _ (p .bytes),
         )
 
   next-then : {x : NextAnswer} → NextGiven w id time (length out) x → told ≡ x
   unfolding conditionOf
-  next-then (next-19 not) = rw (gives-configuration id (next time out) w (unadmitted-fits w full not))
-  next-then (next-12 s not) = rw (gives-no-channel id (next time out) w (admitted-fits w full s) (unnamed-unknown w full id not))
-  next-then (next-15 {index} n t) = rw (named-serves w full id (next time out) index n, cases.next-fifteen machine (termsIn w index) time (length out) (conditionIn w index) t)
-  next-then (next-nothing {index} n t e) = rw (named-serves w full id (next time out) index n, cases.next-none-waits machine (termsIn w index) time (length out) (conditionIn w index) t e)
+  next-then (next-19 not) = rw (gives-configuration id (next time out) w (unadmitted-fits w not))
+  next-then (next-12 s not) = rw (gives-no-channel id (next time out) w (admitted-fits w s) (unnamed-unknown w id not))
+  next-then (next-15 {index} n t) = rw (named-serves w id (next time out) index n, cases.next-fifteen machine (termsIn w index) time (length out) (conditionIn w index) t)
+  next-then (next-nothing {index} n t e) = rw (named-serves w id (next time out) index n, cases.next-none-waits machine (termsIn w index) time (length out) (conditionIn w index) t e)
   next-then (next-down {index} {p} {ps} n t e down) =
-      rw (named-serves w full id (next time out) index n, cases.next-down machine (termsIn w index) time (length out) (conditionIn w index) t p ps e down)
+      rw (named-serves w id (next time out) index n, cases.next-down machine (termsIn w index) time (length out) (conditionIn w index) t p ps e down)
   next-then (next-shut {index} {p} {ps} n t e up shut) = shut-then index n t p ps e up shut
   next-then (next-18 {index} {p} {ps} n t e up goes l) = eighteen-then index n t p ps e up goes l
   next-then (next-sent {index} {p} {ps} n t e up goes l m) = sent-then index n t p ps e up goes l m

@@ -7,7 +7,6 @@ use lib.ListN.{length, take, drop}
 use lib.Seq.{drop-at}
 use Rattle.facts.proofs.Tests.{clash}
 use Rattle.quantity.specs.declared.count.ByteCount.{ByteCount}
-use Rattle.quantity.specs.Limits.{MOST-CHANNELS}
 use Rattle.wire.specs.Options.{over}
 use Rattle.meaning.specs.declared.message.End.the-variants as ends
 use Rattle.meaning.specs.declared.message.Sequence.{Sequence}
@@ -27,10 +26,10 @@ use Rattle.ips_state.specs.Memory.{World, indexIn, channelIn}
 use Rattle.ips_run.specs.Calling.{termsIn, conditionIn, WorldResult, calling, Judged, outside, unknown, served}
 use Rattle.ips_run.specs.Run.{on}
 use Rattle.ips_run.proofs.Exact.{judged}
-use Rattle.endpoint.specs.Replies.{ofChannel}
-use Rattle.endpoint.specs.Calls.{Performed}
-use Rattle.endpoint.specs.ReadBack.{ReadBack}
-use Rattle.endpoint.proofs.Counted.{reads-back}
+use Rattle.ips_calls.specs.Replies.{ofChannel}
+use Rattle.ips_calls.specs.Calls.{Performed}
+use Rattle.ips_calls.specs.ReadBack.{ReadBack}
+use Rattle.ips_calls.proofs.Counted.{reads-back}
 use Rattle.endpoint_laws.specs.Given.{Configured, notDueIn}
 use Rattle.endpoint_laws.specs.Handed.{SequenceRead, read-none, read-sum, HandedOver}
 use Rattle.endpoint_laws.proofs.Given.{found-named}
@@ -52,7 +51,7 @@ record FirstGoes (w : World) (id time : ℕ) (packet : List ℕ) (sequence : Seq
   packet-is : packet ≡ first .bytes
   sequence-is : SequenceRead (channelIn w index) id (length (first .bytes)) (countedOn id sequence)
 
-module _ (w : World) (full : length (w .state .channels) ≡ MOST-CHANNELS) (id time : ℕ) (out : List ℕ) where
+module _ (w : World) (id time : ℕ) (out : List ℕ) where
   module _ (packet : List ℕ) (sequence : Sequence) where
     first-goes : (index : ℕ) → Configured w id index → (r : Result machine Tried) → Asked machine (termsIn w index) time (length out) (conditionIn w index) r
         → r .answer ≡ answered (sent packet sequence) → FirstGoes w id time packet sequence
@@ -80,7 +79,7 @@ module _ (w : World) (full : length (w .state .channels) ≡ MOST-CHANNELS) (id 
     first-judged (outside f) e = clash (cc)
     first-judged (unknown f g) e = clash (cc)
     first-judged (served f g) e =
-        first-goes (indexIn w id) (found-named w full id f g) _ (rules.asked machine (termsIn w (indexIn w id)) time (length out) (conditionIn w (indexIn w id))) e
+        first-goes (indexIn w id) (found-named w id f g) _ (rules.asked machine (termsIn w (indexIn w id)) time (length out) (conditionIn w (indexIn w id))) e
 
   abbrev k : Terms
   k = termsIn w (indexIn w id)
@@ -119,7 +118,7 @@ module _ (w : World) (full : length (w .state .channels) ≡ MOST-CHANNELS) (id 
             let message = messageBytes k sequence packet in
             let counted : NextAnswer.Sent count ≡ NextAnswer.Sent (record { 0 = length message }) = cc (rw e at (h .reply-is)) in
             let bytes : out′ ≡ over message out = cc (rw e at (h .reply-is)) in
-            read-over count packet sequence (first-judged packet sequence (judged id (next time out) w) e) (reads-back w full id time out packet sequence e (NextAnswer.Sent count) out′ w′ h) bytes (cc counted)
+            read-over count packet sequence (first-judged packet sequence (judged id (next time out) w) e) (reads-back w id time out packet sequence e (NextAnswer.Sent count) out′ w′ h) bytes (cc counted)
 
     -- "The answers otherwise .. leave the output's bytes as they stood.", and refusals do
     pub nothing-over : (answer : NextAnswer) → ((count : ByteCount) → answer ≡ NextAnswer.Sent count → ⊥) → Performed (on id (next time out)) w (ofChannel (asked answer out′)) w′ → out′ ≡ out

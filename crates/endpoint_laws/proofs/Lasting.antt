@@ -5,7 +5,6 @@ use mathlib.Core.List.{List, [], _∷_, _++_, map}
 use mathlib.Core.Path.{_≡_, refl, sym, ap, ap₂, _∙_}
 use lib.ListN.{length}
 use lib.Dec.{eqb}
-use Rattle.quantity.specs.Limits.{MOST-CHANNELS}
 use Rattle.meaning.specs.declared.message.Status.{Status}
 use Rattle.meaning.specs.declared.message.Window.{Window}
 use Rattle.meaning.specs.declared.message.Control.{Control}
@@ -19,8 +18,7 @@ use Rattle.ips_channel_rules.proofs.Leaves.{Leaves, stays, joins, looks, sends,
 use Rattle.ips_channel.specs.declared.state.Channel.{Channel}
 use Rattle.ips_channel.specs.Channel.{conditionOf}
 use Rattle.ips_channel_calls.specs.Calls.{replyTo}
-use Rattle.ips_state.specs.declared.state.Configuration.{Configuration}
-use Rattle.ips_state.specs.Table.{startAt}
+use Rattle.ips_state.specs.State.{Configuration, startAt}
 use Rattle.ips_state.specs.Limits.{configurationFits}
 use Rattle.ips_state.specs.Memory.{World, channelIn, storeIn}
 use Rattle.ips_radio.specs.Heard.{statusIn, windowIn}
@@ -29,9 +27,9 @@ use Rattle.ips_run.specs.Demand.{BytesIn, idAt, ruled, seen, freshAt}
 use Rattle.ips_run.specs.Kept.{lastOr}
 use Rattle.ips_run.proofs.Fresh.{fresh-in}
 use Rattle.ips_run.proofs.Whole.{projected, projected-history}
-use Rattle.endpoint.specs.Replies.{EndpointReply}
-use Rattle.endpoint.specs.Ran.{Ran}
-use Rattle.endpoint.proofs.Ran.{ran-world, ran-replies}
+use Rattle.ips_calls.specs.Replies.{EndpointReply}
+use Rattle.ips_calls.specs.Ran.{Ran}
+use Rattle.ips_calls.proofs.Ran.{ran-world, ran-replies}
 use Rattle.endpoint_laws.specs.Lasting.{timeFrom, lastTime, lastStatus, flowFor, lastFlow}
 use Rattle.endpoint_laws.proofs.Transcript.{told}
 
@@ -153,23 +151,23 @@ unfolding conditionOf
 condition-fields c store = (refl, refl, refl)
 
 -- ---- any calls from a fresh start, each with whatever outcome its contract allows
-module _ (k : Configuration) (full : length (k .starts) ≡ MOST-CHANNELS) (fits : configurationFits k ≡ true) (index : ℕ) (inside : index < k .count)
+module _ (k : Configuration) (fits : configurationFits k ≡ true) (index : ℕ) (inside : index < length (k .starts))
     (cs : List Call) (bytes : BytesIn cs) (xs : List EndpointReply) (last : World) (run : Ran (freshWorld k) cs xs last) where
   abbrev final-at : Condition machine
   final-at = final machine (ruled k index) (seen k index cs) (freshAt k index)
 
   at-end : conditionOf (channelIn last index) (storeIn last index) ≡ final-at
-  at-end = rw (ran-world run) (projected k full fits index inside cs bytes)
+  at-end = rw (ran-world run) (projected k fits index inside cs bytes)
 
   -- "Latest time is each channel's own: 0 when fresh, then that of its last accepted Offer or Next.": by the code's own answers
   pub latest-lasts : channelIn last index .latest ≡ lastTime (idAt k index) cs xs
   latest-lasts =
-      let times = told timeFrom timeBy timesIn refl (λ h hs. refl) (λ status window. refl) (λ w full id c. time-told _ c _) (ruled k index) (k .count) index inside cs bytes (freshWorld k) (freshAt k index)
-      (fresh-in k full fits index inside) in
+      let times = told timeFrom timeBy timesIn refl (λ h hs. refl) (λ status window. refl) (λ w id c. time-told _ c _) (ruled k index) (length (k .starts)) index inside cs bytes (freshWorld k) (freshAt k index)
+      (fresh-in k fits index inside) in
       sym (condition-fields (channelIn last index) (storeIn last index) .0)
       ∙ ap (λ (st : Condition machine). st .latest) at-end
       ∙ time-last (ruled k index) (seen k index cs) (freshAt k index)
-      ∙ ap (λ (hs : List Happened). lastOr 0 (timesIn hs)) (sym (projected-history k full fits index inside cs bytes))
+      ∙ ap (λ (hs : List Happened). lastOr 0 (timesIn hs)) (sym (projected-history k fits index inside cs bytes))
       ∙ ap (lastOr 0) (sym times)
       ∙ ap (λ (ys : List EndpointReply). lastTime (idAt k index) cs ys) (sym (ran-replies run))
 

@@ -9,7 +9,6 @@ use lib.Dec.{eqb}
 use lib.IntN.{ℤ, pos}
 use lib.Signed.{_≤ℤ_}
 use Rattle.quantity.specs.declared.count.FlowWindow.{FlowWindow}
-use Rattle.quantity.specs.Limits.{MOST-CHANNELS}
 use Rattle.quantity.specs.Window.{standingAt}
 use Rattle.quantity.proofs.Window.{stands-one, standing-stands}
 use Rattle.meaning.specs.declared.message.Status.{Status}
@@ -27,8 +26,7 @@ use Rattle.ips_channel_rules.specs.FlowCases.{NumberFor}
 use Rattle.ips_channel_rules.proofs.FlowCases.{number-simple}
 use Rattle.ips_channel_calls.specs.declared.asking.NextAnswer.{NextAnswer}
 use Rattle.ips_channel_calls.specs.Calls.{Reply, asked, replyTo, nextAnswer, outputAfter}
-use Rattle.ips_state.specs.declared.state.Configuration.{Configuration}
-use Rattle.ips_state.specs.Table.{startAt}
+use Rattle.ips_state.specs.State.{Configuration, startAt}
 use Rattle.ips_state.specs.Limits.{configurationFits}
 use Rattle.ips_state.specs.Memory.{World, indexIn, channelIn, storeIn}
 use Rattle.ips_run.specs.Calling.{termsIn, calling}
@@ -38,18 +36,18 @@ use Rattle.ips_run.specs.Settling.{ledgerAt}
 use Rattle.ips_run.proofs.Project.{step-follows, all-follow}
 use Rattle.ips_run.proofs.Fresh.{fresh-in}
 use Rattle.ips_run.proofs.Whole.{whole-account, whole-ledger, whole-within, whole-none}
-use Rattle.endpoint.specs.Replies.{EndpointReply, ofChannel}
-use Rattle.endpoint.specs.Calls.{Performed}
-use Rattle.endpoint.specs.Ran.{Ran, repliesOf}
-use Rattle.endpoint.specs.ReadBack.{ReadBack}
-use Rattle.endpoint.proofs.Ran.{ran-world, ran-replies}
-use Rattle.endpoint.proofs.Counted.{reads-back}
+use Rattle.ips_calls.specs.Replies.{EndpointReply, ofChannel}
+use Rattle.ips_calls.specs.Calls.{Performed}
+use Rattle.ips_calls.specs.Ran.{Ran, repliesOf}
+use Rattle.ips_calls.specs.ReadBack.{ReadBack}
+use Rattle.ips_calls.proofs.Ran.{ran-world, ran-replies}
+use Rattle.ips_calls.proofs.Counted.{reads-back}
 use Rattle.endpoint_laws.specs.Transcript.{takenFrom, ifSent, sentFrom, ofOwn, ofAllOwn, packetsTaken, packetsSent}
 
 -- ---- what a reply tells is what happened by the rules: for anything `from` that is read out of replies, and is `of` what happened
 module _ {A : Type 0} (from : ChannelCall → Reply → List A) (of : Happened → List A) (ofAll : List Happened → List A)
     (none : ofAll [] ≡ []) (some : (h : Happened) (hs : List Happened) → ofAll (h ∷ hs) ≡ of h ++ ofAll hs) (silent : (status : Status) (window : Window) → of (heard status window) ≡ [])
-    (same : (w : World) → length (w .state .channels) ≡ MOST-CHANNELS → (id : ℕ) (c : ChannelCall)
+    (same : (w : World) (id : ℕ) (c : ChannelCall)
     → from c (replyTo (termsIn w (indexIn w id)) c (calling id c w .answer)) ≡ of (called c (calling id c w .answer))) where
   unheard : (own : ℕ) (messages : List Control) (hs : List Happened) → ofAll (map (partHeard own) messages ++ hs) ≡ ofAll hs
   unheard own [] hs = refl
@@ -70,7 +68,7 @@ module _ {A : Type 0} (from : ChannelCall → Reply → List A) (of : Happened �
     where
       by : (d : Call) → ofAllOwn from (k .id) cs (repliesOf cs (after d w)) ≡ ofAll (happensAll (k .id) cs (after d w))
           → ofAllOwn from (k .id) (d ∷ cs) (repliesOf (d ∷ cs) w) ≡ ofAll (happensAll (k .id) (d ∷ cs) w)
-      by (on id call) more = of-call (k .id) id call _ _ (same w (p .order .full) id call) _ _ more
+      by (on id call) more = of-call (k .id) id call _ _ (same w id call) _ _ more
       by (radio datagram) more = more ∙ sym (unheard (k .id) (acceptedBy (radio datagram) w) (happensAll (k .id) cs (after (radio datagram) w)))
       by (query out) more = more
 
@@ -87,7 +85,7 @@ taken-told k withdraw (answered emptied) = refl
 carried-in : {k : Terms} {id : ℕ} {packet : List ℕ} {sequence : Sequence} {answer : NextAnswer} {out : List ℕ} → ReadBack k id packet sequence answer out → ifSent answer out ≡ packet ∷ []
 carried-in back = rw (back .counted, back .carries)
 
-module _ (w : World) (full : length (w .state .channels) ≡ MOST-CHANNELS) (id : ℕ) where
+module _ (w : World) (id : ℕ) where
   sent-told : (c : ChannelCall) → sentFrom c (replyTo (termsIn w (indexIn w id)) c (calling id c w .answer)) ≡ handedBy (called c (calling id c w .answer))
   sent-told (offer packet time) = go (calling id (offer packet time) w .answer)
     where
@@ -112,27 +110,27 @@ module _ (w : World) (full : length (w .state .channels) ≡ MOST-CHANNELS) (id 
       go (answered (sent packet sequence)) e =
           let done : Performed (on id (next time out)) w (ofChannel (asked (nextAnswer k (answered (sent packet sequence))) (outputAfter k (answered (sent packet sequence)) out))) (after (on id (next time out)) w) =
           record { reply-is = rw e; world-is = refl } in
-          carried-in (reads-back w full id time out packet sequence e _ _ _ done)
+          carried-in (reads-back w id time out packet sequence e _ _ _ done)
 
 module _ (k : Terms) (count index : ℕ) (inside : index < count) (cs : List Call) (bytes : BytesIn cs) (w : World) (st : Condition machine) (p : RuledIn k count index w st) where
   taken-is : packetsTaken (k .id) cs (repliesOf cs w) ≡ takenIn (happensAll (k .id) cs w)
-  taken-is = told takenFrom tookBy takenIn refl (λ h hs. refl) (λ status window. refl) (λ v full id c. taken-told _ c _) k count index inside cs bytes w st p
+  taken-is = told takenFrom tookBy takenIn refl (λ h hs. refl) (λ status window. refl) (λ v id c. taken-told _ c _) k count index inside cs bytes w st p
 
   sent-is : packetsSent (k .id) cs (repliesOf cs w) ≡ handedOver (happensAll (k .id) cs w)
   sent-is = told sentFrom handedBy handedOver refl (λ h hs. refl) (λ status window. refl) sent-told k count index inside cs bytes w st p
 
 -- ---- any calls from a fresh start, each with whatever outcome its contract allows
-module _ (k : Configuration) (full : length (k .starts) ≡ MOST-CHANNELS) (fits : configurationFits k ≡ true) (index : ℕ) (inside : index < k .count)
+module _ (k : Configuration) (fits : configurationFits k ≡ true) (index : ℕ) (inside : index < length (k .starts))
     (small : startAt k index .first .0 < 2 ^ 32) where
   -- THE ACCOUNT: of the packets whose Offer was answered so, those sent are, in order and byte for byte, the packets read out of Next's outputs, and those that wait
   -- stand in the queue and the lent memory
   pub ran-account : (cs : List Call) → BytesIn cs → (xs : List EndpointReply) (last : World) → Ran (freshWorld k) cs xs last
       → Account (packetsTaken (idAt k index) cs xs) (packetsSent (idAt k index) cs xs) (packetsOf (channelIn last index .queue) (storeIn last index)) (channelIn last index .latest)
   ran-account cs bytes xs last run =
-      let fresh = fresh-in k full fits index inside in
-      let took = taken-is (ruled k index) (k .count) index inside cs bytes (freshWorld k) (freshAt k index) fresh in
-      let went = sent-is (ruled k index) (k .count) index inside cs bytes (freshWorld k) (freshAt k index) fresh in
-      let a = whole-account k full fits index inside small cs bytes in
+      let fresh = fresh-in k fits index inside in
+      let took = taken-is (ruled k index) (length (k .starts)) index inside cs bytes (freshWorld k) (freshAt k index) fresh in
+      let went = sent-is (ruled k index) (length (k .starts)) index inside cs bytes (freshWorld k) (freshAt k index) fresh in
+      let a = whole-account k fits index inside small cs bytes in
       let world = ran-world run in
       let replies = ran-replies run in
       record {
@@ -147,7 +145,7 @@ module _ (k : Configuration) (full : length (k .starts) ≡ MOST-CHANNELS) (fits
   pub ran-account-ledger : (cs : List Call) (bytes : BytesIn cs) (xs : List EndpointReply) (last : World) (run : Ran (freshWorld k) cs xs last)
       → ran-account cs bytes xs last run .ledger ≡ ledgerAt k index cs
   unfolding ran-account
-  ran-account-ledger cs bytes xs last run = whole-ledger k full fits index inside small cs bytes
+  ran-account-ledger cs bytes xs last run = whole-ledger k fits index inside small cs bytes
 
   -- ---- between two radio messages: calls `ds` after calls `cs`, no radio message accepted among them
   module _ (cs ds : List Call) (bytes : BytesIn cs) (more : BytesIn ds) (xs ys : List EndpointReply) (w last : World) (before : Ran (freshWorld k) cs xs w) (since : Ran w ds ys last)
@@ -155,15 +153,15 @@ module _ (k : Configuration) (full : length (k .starts) ≡ MOST-CHANNELS) (fits
     -- the outputs of those calls carry what the rules say was handed over
     sent-since : packetsSent (idAt k index) ds ys ≡ handedOver (happenedSince k index cs ds)
     sent-since =
-        let there = all-follow (ruled k index) (k .count) index inside cs bytes (freshWorld k) (freshAt k index) (fresh-in k full fits index inside) .ruled-in in
-        ap (packetsSent (idAt k index) ds) (ran-replies since ∙ ap (repliesOf ds) (ran-world before)) ∙ sent-is (ruled k index) (k .count) index inside ds more (reached k cs) _ there
+        let there = all-follow (ruled k index) (length (k .starts)) index inside cs bytes (freshWorld k) (freshAt k index) (fresh-in k fits index inside) .ruled-in in
+        ap (packetsSent (idAt k index) ds) (ran-replies since ∙ ap (repliesOf ds) (ran-world before)) ∙ sent-is (ruled k index) (length (k .starts)) index inside ds more (reached k cs) _ there
 
     -- "While a window is in force no packet goes past it.": the bytes of the packets in the outputs, added to the count, are at most the number that the window stands for
     pub ran-within : (window : FlowWindow) → channelIn w index .flow ≡ Flow.InForce window
         → Within (final simple (ruled k index) (seen k index cs) (simplyAt k index) .counting) (channelIn w index .sequence) window (bytesOver (packetsSent (idAt k index) ds ys))
     ran-within window force =
         let world = ran-world before in
-        rw (world, sent-since) (whole-within k full fits index inside cs ds bytes more (rw world at none) small window (rw world at force))
+        rw (world, sent-since) (whole-within k fits index inside cs ds bytes more (rw world at none) small window (rw world at force))
 
     -- the same in plain numbers, "from 2^31 below the bytes counted so far to 2^31 - 1 above"
     pub ran-below : (window : FlowWindow) → channelIn w index .flow ≡ Flow.InForce window
@@ -180,4 +178,4 @@ module _ (k : Configuration) (full : length (k .starts) ≡ MOST-CHANNELS) (fits
     pub ran-none : channelIn w index .flow ≡ Flow.NoWindow → packetsSent (idAt k index) ds ys ≡ []
     ran-none shut =
         let world = ran-world before in
-        sent-since ∙ whole-none k full fits index inside cs ds bytes more (rw world at none) (rw world at shut)
+        sent-since ∙ whole-none k fits index inside cs ds bytes more (rw world at none) (rw world at shut)

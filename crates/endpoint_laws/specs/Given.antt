@@ -20,7 +20,6 @@ use Rattle.ips_channel.specs.declared.state.Channel.{Channel}
 use Rattle.ips_channel_calls.specs.declared.offering.OfferAnswer.{OfferAnswer}
 use Rattle.ips_channel_calls.specs.declared.offering.WithdrawAnswer.{WithdrawAnswer}
 use Rattle.ips_channel_calls.specs.declared.asking.NextAnswer.{NextAnswer}
-use Rattle.ips_state.specs.Table.{configured}
 use Rattle.ips_state.specs.Limits.{sizes}
 use Rattle.ips_state.specs.WithinLimits.{WithinLimits}
 use Rattle.ips_state.specs.Memory.{World, channelIn, storeIn}
@@ -30,17 +29,17 @@ use Rattle.ips_state.specs.Memory.{World, channelIn, storeIn}
 -- neither "a state outside these limits" nor "a lent memory whose length isn't the sum of the stores"
 pub record Admitted (w : World) : Type 0 where
   pub within : WithinLimits (w .state)
-  pub long : length (w .memory) ≡ sizes (configured (w .state))
+  pub long : length (w .memory) ≡ sizes (w .state .channels)
 
 -- the channel at an index of the configuration is that of the ID
 pub record Configured (w : World) (id index : ℕ) : Type 0 where
   pub admitted : Admitted w
-  pub inside : index < w .state .count
+  pub inside : index < length (w .state .channels)
   pub is : channelIn w index .setting .id ≡ id
 
 -- "channel not configured"
 abbrev pub NotConfigured : World → ℕ → Type 0
-NotConfigured w id = (index : ℕ) → index < w .state .count → channelIn w index .setting .id ≡ id → ⊥
+NotConfigured w id = (index : ℕ) → index < length (w .state .channels) → channelIn w index .setting .id ≡ id → ⊥
 
 -- the packets that wait on that channel and are not due at a time
 abbrev pub notDueIn : World → ℕ → ℕ → List Packet

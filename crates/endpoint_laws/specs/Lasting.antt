@@ -13,7 +13,7 @@ use Rattle.ips_channel_calls.specs.declared.asking.NextAnswer.{NextAnswer}
 use Rattle.ips_channel_calls.specs.Calls.{Reply, offered, asked, withdrawn}
 use Rattle.ips_run.specs.Run.{Call}
 use Rattle.ips_run.specs.Kept.{lastOr}
-use Rattle.endpoint.specs.Replies.{EndpointReply}
+use Rattle.ips_calls.specs.Replies.{EndpointReply}
 use Rattle.endpoint_laws.specs.Transcript.{ofAllOwn}
 
 -- ---- the time of an Offer or a Next that was not refused

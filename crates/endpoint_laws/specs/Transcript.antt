@@ -12,7 +12,7 @@ use Rattle.ips_channel_calls.specs.declared.offering.OfferAnswer.{OfferAnswer}
 use Rattle.ips_channel_calls.specs.declared.asking.NextAnswer.{NextAnswer}
 use Rattle.ips_channel_calls.specs.Calls.{Reply, offered, asked, withdrawn}
 use Rattle.ips_run.specs.Run.{Call, on, radio, query}
-use Rattle.endpoint.specs.Replies.{EndpointReply, ofChannel, ofRadio, ofQuery}
+use Rattle.ips_calls.specs.Replies.{EndpointReply, ofChannel, ofRadio, ofQuery}
 
 -- ---- of one call on a channel
 

@@ -1,3 +1,2 @@
-// One channel by value: how it starts, and what it hears from the radio.
-pub mod hearing;
+// One channel by value: what it holds, and how it starts.
 pub mod state;

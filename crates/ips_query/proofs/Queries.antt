@@ -7,14 +7,13 @@ use native.Mathlib.Numerals.{add-one}
 use native.Mathlib.Omega.{arith}
 use borrow.Author.Tests.{eqb-true, eqb-false, eq-eqb, ne-eqb, not-true}
 use lib.Dec.{eqb}
-use lib.ListN.{length, getD, take, drop, set, replicate, length-append}
-use lib.Seq.{take-suc, take-all, split-at, getD-append-seam}
+use lib.ListN.{length, getD, take, drop, replicate, length-append}
+use lib.Seq.{take-suc, split-at, getD-append-seam}
 use Rattle.facts.proofs.Tests.{clash}
-use Rattle.facts.specs.Tables.{tabulate}
-use Rattle.facts.proofs.Tables.{getD-tabulate, set-tabulate, length-tabulate}
-use Rattle.quantity.specs.Limits.{MOST-CHANNELS, CHANNEL-IDS, LONGEST-DATAGRAM}
+use Rattle.facts.proofs.Tables.{getD-tabulate, length-tabulate}
+use Rattle.quantity.specs.Limits.{CHANNEL-IDS, LONGEST-DATAGRAM}
 use Rattle.wire.specs.Numbers.{bytesOf}
-use Rattle.wire.specs.Options.{Options, done, optionBytes, bytes}
+use Rattle.wire.specs.Options.{Options, done, option, optionBytes, bytes}
 use Rattle.wire.proofs.Numbers.{length-bytes}
 use Rattle.wire.proofs.Options.{option-length}
 use Rattle.meaning.specs.declared.message.End.the-variants as ends
@@ -27,12 +26,11 @@ use Rattle.write_option.specs.Parts.{tableThen, sequenceThen}
 use Rattle.write_option.proofs.Tables.{statusAt, sequenceAt, windowAt}
 use Rattle.writer.specs.Written.{controlOptions, controlWritten}
 use Rattle.ips_channel.specs.declared.state.Channel.{Channel}
-use Rattle.ips_state.specs.declared.state.State.{State}
-use Rattle.ips_state.specs.Table.{configured, channelAt, noChannel}
+use Rattle.ips_state.specs.State.{State, channelAt, noChannel}
 use Rattle.ips_state.specs.Limits.{stateFits, ids, distinct}
 use Rattle.ips_query.specs.Query.{sequenceFor, sequencesOf, queryOf}
 use Rattle.ips_state.proofs.Channels.{stands-among}
-use Rattle.ips_state.proofs.Places.{configured-length, configured-at, fit, channel-fitting-at}
+use Rattle.ips_state.proofs.Places.{fit, channel-fitting-at}
 
 -- ---- numbers that are all different
 among-here : (xs rest : List ℕ) (m n : ℕ) → n ≡ m → among m (xs ++ (n ∷ rest)) ≡ true
@@ -72,96 +70,72 @@ module _ (id : ℕ) where
   unfolding sequenceFor
   sequence-none cs h = ap (sequenceFor id) (sym (append-nil cs)) ∙ sequence-past cs [] h
 
+none-among : (id : ℕ) → among id (ids []) ≡ false
+unfolding ids
+none-among id = refl
+
 sequence-own : (xs rest : List Channel) (c : Channel) → among (c .setting .id) (ids xs) ≡ false → among (c .setting .id) (ids rest) ≡ false
     → sequenceFor (c .setting .id) (xs ++ (c ∷ rest)) ≡ cond (c .setting .controlled) (Sequence.Given (c .sequence)) Sequence.Absent
 unfolding sequenceFor
 sequence-own xs rest c before behind =
     sequence-past (c .setting .id) xs (c ∷ rest) before ∙ rw (eq-eqb (c .setting .id) (c .setting .id) refl, and-true, sequence-none (c .setting .id) rest behind)
 
--- ---- the table with one channel more
-abbrev pub cellOf : Sequence → SequenceCell
-cellOf sequence = record { sequence = sequence }
+-- with one channel more, whose ID is new
+sequence-more : (id : ℕ) (xs : List Channel) (c : Channel) → among (c .setting .id) (ids xs) ≡ false
+    → sequenceFor id (xs ++ (c ∷ [])) ≡ cond (c .setting .controlled && eqb (c .setting .id) id) (Sequence.Given (c .sequence)) (sequenceFor id xs)
+sequence-more id xs c new = go (c .setting .controlled && eqb (c .setting .id) id) refl
+  where
+    own : c .setting .controlled ≡ true → sequenceFor (c .setting .id) (xs ++ (c ∷ [])) ≡ Sequence.Given (c .sequence)
+    own controlled = sequence-own xs [] c new (none-among (c .setting .id)) ∙ rw controlled
 
-module _ (xs : List Channel) (c : Channel) where
-  sequences-plain : c .setting .controlled ≡ false → sequencesOf (xs ++ (c ∷ [])) ≡ sequencesOf xs
-  unfolding sequencesOf
-  sequences-plain plain i = tabulate CHANNEL-IDS (λ id. record { sequence = sequence-other id xs c (rw plain) i })
+    go : (b : Bool) → (c .setting .controlled && eqb (c .setting .id) id) ≡ b → sequenceFor id (xs ++ (c ∷ [])) ≡ cond b (Sequence.Given (c .sequence)) (sequenceFor id xs)
+    go true e =
+        let both = and-eq-true-iff (c .setting .controlled) (eqb (c .setting .id) id) .0 e in
+        ap (λ (n : ℕ). sequenceFor n (xs ++ (c ∷ []))) (sym (eqb-true (c .setting .id) id (both .1))) ∙ own (both .0)
+    go false e = sequence-other id xs c e
 
-  module _ (new : among (c .setting .id) (ids xs) ≡ false) (controlled : c .setting .controlled ≡ true) where
-    cell-more : (id : ℕ) (b : Bool) → eqb id (c .setting .id) ≡ b → cond b (cellOf (Sequence.Given (c .sequence))) (cellOf (sequenceFor id xs)) ≡ cellOf (sequenceFor id (xs ++ (c ∷ [])))
-    unfolding ids
-    cell-more id true e = rw (eqb-true id (c .setting .id) e, sequence-own xs [] c new refl, controlled)
-    cell-more id false e = rw (sequence-other id xs c (rw (controlled, ne-eqb (c .setting .id) id (λ q. eqb-false id (c .setting .id) e (sym q)))))
+-- ---- the channels of a state within the limits
+module _ (s : State) (fits : stateFits s ≡ true) (index : ℕ) (inside : index < length (s .channels)) where
+  around : s .channels ≡ take index (s .channels) ++ (channelAt s index ∷ drop (suc index) (s .channels))
+  unfolding channelAt
+  around = split-at (s .channels) index noChannel inside
 
-    sequences-more : set (sequencesOf xs) (c .setting .id) (cellOf (Sequence.Given (c .sequence))) ≡ sequencesOf (xs ++ (c ∷ []))
-    unfolding sequencesOf
-    sequences-more =
-        set-tabulate CHANNEL-IDS (λ id. cellOf (sequenceFor id xs)) (λ id. cellOf (sequenceFor id (xs ++ (c ∷ [])))) (c .setting .id) (cellOf (Sequence.Given (c .sequence))) (λ id. cell-more id (eqb id (c .setting .id)) refl)
+  one-more : take (index + 1) (s .channels) ≡ take index (s .channels) ++ (channelAt s index ∷ [])
+  unfolding channelAt
+  one-more = rw add-one (take-suc (s .channels) index noChannel inside)
 
--- ---- the configured channels of a state within the limits
-module _ (s : State) (full : length (s .channels) ≡ MOST-CHANNELS) (fits : stateFits s ≡ true) where
-  long : length (configured s) ≡ s .count
-  long = configured-length s full (fit s fits .few)
+  -- no other has its Channel ID
+  alone-at : (among (channelAt s index .setting .id) (ids (take index (s .channels))) ≡ false) × (among (channelAt s index .setting .id) (ids (drop (suc index) (s .channels))) ≡ false)
+  unfolding ids
+  alone-at =
+      alone (ids (take index (s .channels))) (ids (drop (suc index) (s .channels))) (channelAt s index .setting .id)
+      (ap distinct (sym (ap ids around ∙ map-append _ (take index (s .channels)) _)) ∙ fit s fits .apart)
 
-  module _ (index : ℕ) (inside : index < s .count) where
-    around : configured s ≡ take index (configured s) ++ (channelAt s index ∷ drop (suc index) (configured s))
-    around = rw (← (configured-at s index inside)) (split-at (configured s) index noChannel (omega (arith, long)))
+  pub id-inside : channelAt s index .setting .id < CHANNEL-IDS
+  id-inside = channel-fitting-at s fits index inside .unreserved
 
-    one-more : take (index + 1) (configured s) ≡ take index (configured s) ++ (channelAt s index ∷ [])
-    one-more = rw (add-one, ← (configured-at s index inside)) (take-suc (configured s) index noChannel (omega (arith, long)))
+  -- the Flow Sequences of the channels up to an index: its own is new, and comes in if the channel is flow-controlled
+  pub sequence-new : sequenceFor (channelAt s index .setting .id) (take index (s .channels)) ≡ Sequence.Absent
+  sequence-new = sequence-none (channelAt s index .setting .id) (take index (s .channels)) (alone-at .0)
 
-    -- no other has its Channel ID
-    alone-at : (among (channelAt s index .setting .id) (ids (take index (configured s))) ≡ false) × (among (channelAt s index .setting .id) (ids (drop (suc index) (configured s))) ≡ false)
-    unfolding ids
-    alone-at =
-        alone (ids (take index (configured s))) (ids (drop (suc index) (configured s))) (channelAt s index .setting .id)
-        (ap distinct (sym (ap ids around ∙ map-append _ (take index (configured s)) _)) ∙ fit s fits .apart)
+  pub sequence-next : (id : ℕ) → sequenceFor id (take (index + 1) (s .channels))
+      ≡ cond (channelAt s index .setting .controlled && eqb (channelAt s index .setting .id) id) (Sequence.Given (channelAt s index .sequence)) (sequenceFor id (take index (s .channels)))
+  sequence-next id = ap (sequenceFor id) one-more ∙ sequence-more id (take index (s .channels)) (channelAt s index) (alone-at .0)
 
-    id-inside : channelAt s index .setting .id < CHANNEL-IDS
-    id-inside = channel-fitting-at s full fits index inside .unreserved
+  -- the Flow Sequence of a configured channel
+  pub sequence-at : sequenceFor (channelAt s index .setting .id) (s .channels) ≡ cond (channelAt s index .setting .controlled) (Sequence.Given (channelAt s index .sequence)) Sequence.Absent
+  sequence-at = ap (sequenceFor (channelAt s index .setting .id)) around ∙ sequence-own (take index (s .channels)) (drop (suc index) (s .channels)) (channelAt s index) (alone-at .0) (alone-at .1)
 
-    -- the Flow Sequence of a configured channel
-    pub sequence-at : sequenceFor (channelAt s index .setting .id) (configured s) ≡ cond (channelAt s index .setting .controlled) (Sequence.Given (channelAt s index .sequence)) Sequence.Absent
-    sequence-at = rw around (sequence-own (take index (configured s)) (drop (suc index) (configured s)) (channelAt s index) (alone-at .0) (alone-at .1))
+  pub sequence-controlled : channelAt s index .setting .controlled ≡ true → sequenceFor (channelAt s index .setting .id) (s .channels) ≡ Sequence.Given (channelAt s index .sequence)
+  sequence-controlled controlled = sequence-at ∙ rw controlled
 
-    pub sequence-controlled : channelAt s index .setting .controlled ≡ true → sequenceFor (channelAt s index .setting .id) (configured s) ≡ Sequence.Given (channelAt s index .sequence)
-    sequence-controlled controlled = sequence-at ∙ rw controlled
-
-    pub sequence-plain : channelAt s index .setting .controlled ≡ false → sequenceFor (channelAt s index .setting .id) (configured s) ≡ Sequence.Absent
-    sequence-plain plain = sequence-at ∙ rw plain
-
--- ---- the loop: the channels before a place are in the table
-pub record Gathering (s : State) (cells : List SequenceCell) (at : ℕ) : Type 0 where
-  pub full : length (s .channels) ≡ MOST-CHANNELS
-  pub fits : stateFits s ≡ true
-  pub inside : at ≤ s .count
-  pub gathered : cells ≡ sequencesOf (take at (configured s))
-
-pub gathering-start : (s : State) → length (s .channels) ≡ MOST-CHANNELS → stateFits s ≡ true → Gathering s (replicate CHANNEL-IDS noSequence) 0
-unfolding sequencesOf sequenceFor tabulate
-gathering-start s full fits = record { full = full; fits = fits; inside = omega arith; gathered = refl }
-
-module _ (s : State) (cells : List SequenceCell) (at : ℕ) (h : at < s .count) (g : Gathering s cells at) where
-  pub gathering-place : at < MOST-CHANNELS
-  gathering-place = omega (arith, fit s (g .fits) .few)
-
-  pub gathering-id : channelAt s at .setting .id < CHANNEL-IDS
-  gathering-id = id-inside s (g .full) (g .fits) at h
-
-  turned : {cells′ : List SequenceCell} → cells′ ≡ sequencesOf (take at (configured s) ++ (channelAt s at ∷ [])) → Gathering s cells′ (at + 1)
-  turned e = record { full = g .full; fits = g .fits; inside = omega arith; gathered = rw (one-more s (g .full) (g .fits) at h) e }
-
-  pub gathering-plain : channelAt s at .setting .controlled ≡ false → Gathering s cells (at + 1)
-  gathering-plain plain = turned (g .gathered ∙ sym (sequences-plain (take at (configured s)) (channelAt s at) plain))
-
-  pub gathering-controlled : channelAt s at .setting .controlled ≡ true → Gathering s (set cells (channelAt s at .setting .id) (cellOf (Sequence.Given (channelAt s at .sequence)))) (at + 1)
-  gathering-controlled controlled =
-      turned (rw (g .gathered) (sequences-more (take at (configured s)) (channelAt s at) (alone-at s (g .full) (g .fits) at h .0) controlled))
-
-pub gathering-end : (s : State) (cells : List SequenceCell) (at : ℕ) → s .count ≤ at → Gathering s cells at → cells ≡ sequencesOf (configured s)
-gathering-end s cells at h g = g .gathered ∙ rw (take-all at (configured s) (omega (arith, long s (g .full) (g .fits))))
+  pub sequence-plain : channelAt s index .setting .controlled ≡ false → sequenceFor (channelAt s index .setting .id) (s .channels) ≡ Sequence.Absent
+  sequence-plain plain = sequence-at ∙ rw plain
 
 -- ---- the message, place by place
+abbrev cellOf : Sequence → SequenceCell
+cellOf sequence = record { sequence = sequence }
+
 pub query-place : (cs : List Channel) (id : ℕ) → id < CHANNEL-IDS → getD (sequencesOf cs) id noSequence .sequence ≡ sequenceFor id cs
 unfolding sequencesOf
 query-place cs id h = ap (λ (cell : SequenceCell). cell .sequence) (getD-tabulate CHANNEL-IDS (λ n. cellOf (sequenceFor n cs)) id noSequence h)
@@ -178,7 +152,7 @@ sequences-allowed (cell ∷ cells) = rw (sequence-allowed (cell .sequence)) (seq
 
 pub query-allowed : (s : State) → controlAllowed ends.Ips (queryOf s) ≡ true
 unfolding controlAllowed queryOf statusesAllowed windowsAllowed
-query-allowed s = rw (sequences-allowed (sequencesOf (configured s)))
+query-allowed s = rw (sequences-allowed (sequencesOf (s .channels)))
 
 -- ---- and fits every datagram
 put-nothing : {C : Type 0} (put : ℕ → C → Options → Options) (absent : C) → ((channel : ℕ) (more : Options) → put channel absent more ≡ more)
@@ -186,6 +160,12 @@ put-nothing : {C : Type 0} (put : ℕ → C → Options → Options) (absent : C
 unfolding tableThen
 put-nothing put absent none zero channel more = refl
 put-nothing put absent none (suc n) channel more = none channel _ ∙ put-nothing put absent none n (suc channel) more
+
+-- no statuses and no windows: the Datalink Identifier, and the Flow Sequences
+pub query-options : (s : State) → controlOptions (queryOf s) ≡ option DATALINK-IDENTIFIER (s .datalink .0 ∷ []) (tableThen sequenceAt 0 (sequencesOf (s .channels)) done)
+unfolding controlOptions queryOf
+query-options s =
+    rw (put-nothing statusAt noStatus (λ n more. refl) CHANNEL-IDS 0 (tableThen sequenceAt 0 (sequencesOf (s .channels)) (tableThen windowAt 0 (replicate CHANNEL-IDS noWindow) done)), put-nothing windowAt noWindow (λ n more. refl) CHANNEL-IDS 0 done)
 
 -- a Flow Sequence has a frame of 3 bytes, a Channel ID and 4 bytes
 abbrev SEQUENCE-BYTES : ℕ
@@ -208,8 +188,8 @@ unfolding sequencesOf
 sequences-length cs = length-tabulate CHANNEL-IDS (λ id. cellOf (sequenceFor id cs))
 
 pub query-short : (s : State) → length (controlWritten (queryOf s)) ≤ LONGEST-DATAGRAM
-unfolding controlWritten controlOptions queryOf bytes
+unfolding controlWritten bytes
 query-short s =
-    let cells = sequencesOf (configured s) in
-    rw (put-nothing statusAt noStatus (λ n more. refl) CHANNEL-IDS 0 (tableThen sequenceAt 0 cells (tableThen windowAt 0 (replicate CHANNEL-IDS noWindow) done)), put-nothing windowAt noWindow (λ n more. refl) CHANNEL-IDS 0 done)
-    (omega (arith, length-append (optionBytes DATALINK-IDENTIFIER (s .datalink .0 ∷ [])) (bytes (tableThen sequenceAt 0 cells done)), option-length DATALINK-IDENTIFIER (s .datalink .0 ∷ []), sequences-short cells 0 done, sequences-length (configured s)))
+    let cells = sequencesOf (s .channels) in
+    rw (query-options s)
+    (omega (arith, length-append (optionBytes DATALINK-IDENTIFIER (s .datalink .0 ∷ [])) (bytes (tableThen sequenceAt 0 cells done)), option-length DATALINK-IDENTIFIER (s .datalink .0 ∷ []), sequences-short cells 0 done, sequences-length (s .channels)))

@@ -15,8 +15,7 @@ use Rattle.meaning.specs.declared.message.Window.the-variants as windows
 use Rattle.meaning.specs.declared.message.SequenceCell.{SequenceCell}
 use Rattle.meaning.specs.declared.message.Control.{Control}
 use Rattle.ips_channel.specs.declared.state.Channel.{Channel}
-use Rattle.ips_state.specs.declared.state.State.{State}
-use Rattle.ips_state.specs.Table.{configured}
+use Rattle.ips_state.specs.State.{State}
 
 -- the Flow Sequence of a Channel ID: that of the flow-controlled channel that has it
 unfoldable pub sequenceFor : ℕ → List Channel → Sequence
@@ -33,6 +32,6 @@ queryOf s =
       instance = instances.Absent;
       context = contexts.Absent;
       statuses = replicate CHANNEL-IDS (record { status = statuses.Absent });
-      sequences = sequencesOf (configured s);
+      sequences = sequencesOf (s .channels);
       windows = replicate CHANNEL-IDS (record { window = windows.Absent });
     }

@@ -1,8 +1,8 @@
 -- Document 01, "A channel's life": "Radio control message accepted".
 use Prim.Native.Nat.{ℕ}
 use mathlib.Core.Bool.{Bool, true, false, not, _&&_}
-use mathlib.Core.List.{List, _++_, map}
-use lib.ListN.{getD, drop}
+use mathlib.Core.List.{map}
+use lib.ListN.{getD}
 use lib.Dec.{eqb}
 use Rattle.meaning.specs.declared.message.Status.{Status}
 use Rattle.meaning.specs.declared.message.Window.{Window}
@@ -11,8 +11,7 @@ use Rattle.meaning.specs.declared.message.Context.{Context}
 use Rattle.meaning.specs.declared.message.Control.{Control}
 use Rattle.ips_channel.specs.declared.state.Channel.{Channel}
 use Rattle.ips_channel.specs.Channel.{heardOf}
-use Rattle.ips_state.specs.declared.state.State.{State}
-use Rattle.ips_state.specs.Table.{configured}
+use Rattle.ips_state.specs.State.{State}
 
 -- what the message states of a channel: nothing, where it doesn't name it
 abbrev pub statusIn : Control → ℕ → Status
@@ -25,10 +24,6 @@ windowIn message id = getD (message .windows) id (record { window = Window.Absen
 unfoldable pub heardFrom : Control → Channel → Channel
 heardFrom message c = heardOf c (statusIn message (c .setting .id)) (windowIn message (c .setting .id))
 
--- "Unconfigured channels are skipped."
-unfoldable pub heardChannels : Control → State → List Channel
-heardChannels message s = map (heardFrom message) (configured s) ++ drop (s .count) (s .channels)
-
 -- "Link Instance is kept when given."
 abbrev pub keptInstance : Instance → Instance → Instance
 keptInstance before Instance.Absent = before
@@ -39,9 +34,15 @@ abbrev pub keptContext : Context → Context → Context
 keptContext before Context.Absent = before
 keptContext before (Context.Given bytes length) = Context.Given bytes length
 
+-- every configured channel hears it: "Unconfigured channels are skipped."
 unfoldable pub heardBy : Control → State → State
 heardBy message s =
-    record { datalink = s .datalink; channels = heardChannels message s; count = s .count; instance = keptInstance (s .instance) (message .instance); context = keptContext (s .context) (message .context) }
+    record {
+      datalink = s .datalink;
+      channels = map (heardFrom message) (s .channels);
+      instance = keptInstance (s .instance) (message .instance);
+      context = keptContext (s .context) (message .context);
+    }
 
 -- "A mobility message is reported due when a Context comes that differs from the last Context received (in length or bytes), or is the first."
 abbrev pub dueOf : Context → Context → Bool

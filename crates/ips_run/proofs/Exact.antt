@@ -8,7 +8,6 @@ use native.Mathlib.Omega.{arith}
 use lib.ListN.{length}
 use Rattle.facts.proofs.Tests.{clash}
 use Rattle.quantity.specs.declared.count.DatalinkId.{DatalinkId}
-use Rattle.quantity.specs.Limits.{MOST-CHANNELS}
 use Rattle.quantity.specs.Refusals.{NO-CHANNEL, OUTSIDE-LIMITS}
 use Rattle.meaning.specs.declared.message.End.the-variants as ends
 use Rattle.reader.specs.Readings.{Verdict, readControl, planeOf}
@@ -20,23 +19,19 @@ use Rattle.ips_channel_rules.specs.Exactly.{Offered, offered-not-ipv6, offered-
 use Rattle.ips_channel_rules.proofs.Exact.{offered, asked, withdraw-is}
 use Rattle.ips_channel.specs.declared.state.Channel.{Channel}
 use Rattle.ips_channel_calls.specs.Calls.{channelAfter, storeAfter}
-use Rattle.ips_state.specs.declared.state.State.{State}
-use Rattle.ips_state.specs.Table.{configured}
+use Rattle.ips_state.specs.State.{State, channelAt}
 use Rattle.ips_state.specs.Limits.{ids, stateFits}
 use Rattle.ips_state.specs.Memory.{memoryFits, World, worldFits, isConfigured, indexIn, channelIn, storeIn}
 use Rattle.ips_state.proofs.Channels.{stands-among, ids-length, ids-at}
-use Rattle.ips_state.proofs.Places.{fit, configured-length, configured-at, with-back, store-back, index-one}
+use Rattle.ips_state.proofs.Places.{with-back, store-back, index-one}
 use Rattle.ips_run.specs.Calling.{termsIn, conditionIn, resultIn, WorldResult, refusing, atChannel, calling, Judged, outside, unknown, served}
 use Rattle.ips_run.specs.Run.{radio, ifAccepted, ifControl, acceptedIn, acceptedBy, after}
 
 -- the ID of a configured channel is among the IDs
-pub named : (w : World) → length (w .state .channels) ≡ MOST-CHANNELS → stateFits (w .state) ≡ true → (index id : ℕ) → index < w .state .count → channelIn w index .setting .id ≡ id → isConfigured w id ≡ true
-named w full fits index id inside e =
-    let s = w .state in
-    stands-among id (ids (configured s)) index (record {
-      inside = omega (arith, ids-length (configured s), configured-length s full (fit s fits .few));
-      is = ids-at (configured s) index ∙ rw (configured-at s index inside) e;
-    })
+pub named : (w : World) (index id : ℕ) → index < length (w .state .channels) → channelIn w index .setting .id ≡ id → isConfigured w id ≡ true
+unfolding channelAt
+named w index id inside e =
+    stands-among id (ids (w .state .channels)) index (record { inside = omega (arith, ids-length (w .state .channels)); is = ids-at (w .state .channels) index ∙ e })
 
 module _ (id : ℕ) (c : ChannelCall) (w : World) where
   -- ---- given the conditions, the outcome
@@ -54,10 +49,10 @@ module _ (id : ℕ) (c : ChannelCall) (w : World) where
     serves e = rw (fits, e)
 
     -- the channel of the ID, wherever it stands
-    pub serves-at : length (w .state .channels) ≡ MOST-CHANNELS → (index : ℕ) → index < w .state .count → channelIn w index .setting .id ≡ id → calling id c w ≡ atChannel c w index
-    serves-at full index inside e =
+    pub serves-at : (index : ℕ) → index < length (w .state .channels) → channelIn w index .setting .id ≡ id → calling id c w ≡ atChannel c w index
+    serves-at index inside e =
         let state-fits = and-eq-true-iff (stateFits (w .state)) (memoryFits (w .state) (w .memory)) .0 fits .0 in
-        rw (← (index-one (w .state) full state-fits index id inside e)) (serves (named w full state-fits index id inside e))
+        rw (← (index-one (w .state) state-fits index id inside e)) (serves (named w index id inside e))
 
   -- ---- given an outcome, the conditions
   pub judged : Judged id c w (calling id c w)

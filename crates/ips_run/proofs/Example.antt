@@ -1,16 +1,12 @@
 -- What these promises ask of a configuration can be met: two flow-controlled channels, whose counts are about to wrap. Assumes nothing.
 use Prim.Native.Nat.{ℕ, _^_, _<_}
 use mathlib.Core.Bool.{true}
-use mathlib.Core.List.{List, _∷_}
+use mathlib.Core.List.{List, [], _∷_}
 use mathlib.Core.Path.{_≡_, refl}
 use native.Mathlib.Omega.{arith}
-use lib.ListN.{length, replicate}
-use Rattle.quantity.specs.Limits.{MOST-CHANNELS}
 use Rattle.ips_channel_rules.specs.Rules.{history}
 use Rattle.ips_channel_rules.specs.Simple.{simple}
-use Rattle.ips_state.specs.declared.state.ChannelStart.{ChannelStart}
-use Rattle.ips_state.specs.declared.state.Configuration.{Configuration}
-use Rattle.ips_state.specs.Table.{startAt}
+use Rattle.ips_state.specs.State.{ChannelStart, Configuration, startAt}
 use Rattle.ips_state.specs.Limits.{distinct, startsFit, startIds, configurationFits}
 use Rattle.ips_run.specs.Run.{Call}
 use Rattle.ips_run.specs.Demand.{BytesIn, ruled, seen, happened, simplyAt}
@@ -20,10 +16,7 @@ abbrev start : ℕ → ChannelStart
 start id = record { setting = record { id = id; controlled = true; size = record { 0 = 4096 } }; first = record { 0 = 4294967295 } }
 
 abbrev two : Configuration
-two = record { datalink = record { 0 = 1 }; starts = start 7 ∷ start 0 ∷ replicate 14 (start 0); count = 2 }
-
-two-long : length (two .starts) ≡ MOST-CHANNELS
-two-long = refl
+two = record { datalink = record { 0 = 1 }; starts = start 7 ∷ start 0 ∷ [] }
 
 two-fit : configurationFits two ≡ true
 unfolding configurationFits startsFit startIds distinct
@@ -33,4 +26,4 @@ two-small : startAt two 0 .first .0 < 2 ^ 32
 two-small = omega arith
 
 two-history : (cs : List Call) → BytesIn cs → happened two 0 cs ≡ history simple (ruled two 0) (seen two 0 cs) (simplyAt two 0)
-two-history cs bytes = whole-history two two-long two-fit 0 (omega arith) two-small cs bytes
+two-history cs bytes = whole-history two two-fit 0 (omega arith) two-small cs bytes

@@ -7,19 +7,16 @@ use native.Mathlib.Omega.{arith}
 use borrow.Author.Tests.{eq-eqb}
 use lib.ListN.{length, take, drop, replicate, length-replicate}
 use Rattle.quantity.specs.declared.count.DatalinkId.{DatalinkId}
-use Rattle.quantity.specs.Limits.{MOST-CHANNELS}
 use Rattle.store.specs.Waiting.{packetsOf, queueOf, cut}
 use Rattle.store.proofs.Held.{waiting-of}
 use Rattle.store.proofs.Changes.{cleared}
 use Rattle.ips_channel_rules.specs.Machine.{freshMachine}
 use Rattle.ips_channel.specs.Channel.{termsOf, freshChannel}
 use Rattle.ips_channel_calls.proofs.Again.{fresh-condition}
-use Rattle.ips_state.specs.declared.state.ChannelStart.{ChannelStart}
-use Rattle.ips_state.specs.declared.state.Configuration.{Configuration}
-use Rattle.ips_state.specs.Table.{configured, channelAt, startAt, freshOf, freshState}
+use Rattle.ips_state.specs.State.{ChannelStart, Configuration, channelAt, startAt, freshOf, freshState}
 use Rattle.ips_state.specs.Limits.{sizes, stateFits, configurationFits}
 use Rattle.ips_state.specs.Memory.{memoryFits, startOf, storeAt}
-use Rattle.ips_state.proofs.Places.{fit, fresh-full, fresh-fits, fresh-at, store-room}
+use Rattle.ips_state.proofs.Places.{fresh-count, fresh-fits, fresh-at, store-room}
 use Rattle.ips_run.specs.Run.{freshWorld}
 use Rattle.ips_run.specs.Demand.{ruled, freshAt, InOrder, Tidy, AsRuled, RuledIn}
 
@@ -46,32 +43,21 @@ fresh-ruled : (datalink : DatalinkId) (x : ChannelStart) (store : List ℕ) → 
 unfolding freshChannel
 fresh-ruled datalink x store e = record { terms = refl; condition = fresh-condition (x .setting) (x .first) store; tidy = fresh-tidy x store e }
 
-module _ (k : Configuration) (full : length (k .starts) ≡ MOST-CHANNELS) (fits : configurationFits k ≡ true) where
+module _ (k : Configuration) (fits : configurationFits k ≡ true) where
   abbrev begun : stateFits (freshState k) ≡ true
-  begun = fresh-fits k full ∙ fits
+  begun = fresh-fits k ∙ fits
 
-  zeros-fit : memoryFits (freshState k) (zeros (sizes (configured (freshState k)))) ≡ true
+  zeros-fit : memoryFits (freshState k) (zeros (sizes (freshState k .channels))) ≡ true
   unfolding memoryFits
-  zeros-fit = eq-eqb _ _ (length-replicate (sizes (configured (freshState k))) 0)
+  zeros-fit = eq-eqb _ _ (length-replicate (sizes (freshState k .channels)) 0)
 
-  pub fresh-order : InOrder (k .count) (freshWorld k)
-  unfolding freshWorld freshState
-  fresh-order = record { full = fresh-full k full; counted = refl; state-fits = begun; memory-fits = zeros-fit }
+  pub fresh-order : InOrder (length (k .starts)) (freshWorld k)
+  unfolding freshWorld
+  fresh-order = record { counted = fresh-count k; state-fits = begun; memory-fits = zeros-fit }
 
-  module _ (index : ℕ) (inside : index < k .count) where
-    few : k .count ≤ MOST-CHANNELS
-    unfolding freshState
-    few = fit (freshState k) begun .few
-
-    counted-few : freshState k .count ≤ MOST-CHANNELS
-    counted-few = fit (freshState k) begun .few
-
-    inside-fresh : index < freshState k .count
-    unfolding freshState
-    inside-fresh = inside
-
+  module _ (index : ℕ) (inside : index < length (k .starts)) where
     at-fresh : channelAt (freshState k) index ≡ freshOf (startAt k index)
-    at-fresh = fresh-at k full few index inside
+    at-fresh = fresh-at k index inside
 
     size-fresh : channelAt (freshState k) index .setting .size .0 ≡ startAt k index .setting .size .0
     unfolding freshChannel
@@ -81,14 +67,14 @@ module _ (k : Configuration) (full : length (k .starts) ≡ MOST-CHANNELS) (fits
     store-fresh : storeAt (freshState k) index (freshWorld k .memory) ≡ zeros (startAt k index .setting .size .0)
     unfolding freshWorld storeAt memoryFits
     store-fresh =
-        let total = sizes (configured (freshState k)) in
+        let total = sizes (freshState k .channels) in
         let start = startOf (freshState k) index in
         let size = startAt k index .setting .size .0 in
         let room : start + size ≤ total =
-        omega (arith, size-fresh, length-replicate {A = ℕ} total 0, store-room (freshState k) (fresh-full k full) counted-few (zeros total) zeros-fit index inside-fresh) in
+        omega (arith, size-fresh, length-replicate {A = ℕ} total 0, store-room (freshState k) (zeros total) zeros-fit index (omega (arith, fresh-count k))) in
         rw (size-fresh, drop-zeros total start (omega arith)) (take-zeros (total - start) size (omega arith))
 
-    pub fresh-in : RuledIn (ruled k index) (k .count) index (freshWorld k) (freshAt k index)
+    pub fresh-in : RuledIn (ruled k index) (length (k .starts)) index (freshWorld k) (freshAt k index)
     unfolding freshWorld freshState
     fresh-in = record {
       order = fresh-order;

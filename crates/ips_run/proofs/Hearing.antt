@@ -16,13 +16,13 @@ use Rattle.ips_channel_rules.specs.Machine.{machine}
 use Rattle.ips_channel.specs.declared.state.Channel.{Channel}
 use Rattle.ips_channel.specs.Channel.{termsOf, conditionOf, heardOf}
 use Rattle.ips_channel_calls.proofs.Again.{heard-condition}
-use Rattle.ips_state.specs.Table.{channelAt}
+use Rattle.ips_state.specs.State.{channelAt}
 use Rattle.ips_state.specs.Memory.{memoryFits, storeAt, World, channelIn, storeIn}
 use Rattle.ips_radio.specs.Heard.{statusIn, windowIn, heardFrom, heardBy}
-use Rattle.ips_radio.proofs.Hearings.{heard-length, heard-count, heard-sizes, heard-start, heard-fits, heard-at}
+use Rattle.ips_radio.proofs.Hearings.{heard-count, heard-sizes, heard-start, heard-fits, heard-at}
 use Rattle.ips_run.specs.Run.{partOf, ifAccepted, ifControl, acceptedIn}
 use Rattle.ips_run.specs.Demand.{InOrder, Tidy, AsRuled}
-use Rattle.ips_run.proofs.Serving.{here, few}
+use Rattle.ips_run.proofs.Serving.{here}
 
 -- ---- what a datagram comes to: nothing, or one message that the radio may state
 pub data Brings : List Control → Type 0 where
@@ -61,7 +61,6 @@ module _ (count : ℕ) (w : World) (o : InOrder count w) (m : Control) where
       let d = and-eq-true-iff (contextAllowed ends.Radio (m .context)) _ .0 (b .1) in
       let f = and-eq-true-iff (statusesAllowed ends.Radio (m .statuses)) _ .0 (d .1) in
       record {
-        full = heard-length m (w .state) ∙ o .full;
         counted = heard-count m (w .state) ∙ o .counted;
         state-fits = heard-fits m (w .state) (o .state-fits) (f .0) (b .0) (d .0);
         memory-fits = rw (heard-sizes m (w .state)) (o .memory-fits);
@@ -73,7 +72,7 @@ module _ (count : ℕ) (w : World) (o : InOrder count w) (m : Control) where
 
   module _ (index : ℕ) (inside : index < count) where
     at-heard : channelAt (heardBy m (w .state)) index ≡ heardFrom m (channelAt (w .state) index)
-    at-heard = heard-at m (w .state) (o .full) (few count w o index inside) index (here count w o index inside)
+    at-heard = heard-at m (w .state) index (here count w o index inside)
 
     -- a radio message touches no store
     store-heard : storeAt (heardBy m (w .state)) index (w .memory) ≡ storeAt (w .state) index (w .memory)

@@ -12,9 +12,7 @@ use Rattle.meaning.specs.declared.message.Context.{Context}
 use Rattle.meaning.specs.declared.message.Control.{Control}
 use Rattle.ips_channel_rules.specs.Rules.{ChannelCall, Says}
 use Rattle.ips_channel.specs.declared.state.Channel.{Channel}
-use Rattle.ips_state.specs.declared.state.Configuration.{Configuration}
-use Rattle.ips_state.specs.declared.state.State.{State}
-use Rattle.ips_state.specs.Table.{withChannel, freshState}
+use Rattle.ips_state.specs.State.{Configuration, State, withChannel, freshState}
 use Rattle.ips_radio.specs.Heard.{keptInstance, keptContext, heardBy, dueOf}
 use Rattle.ips_state.specs.Memory.{World}
 use Rattle.ips_run.specs.Calling.{WorldResult, Judged, outside, unknown, served}

@@ -50,7 +50,7 @@ module _ (k : Terms) (count index : ℕ) (inside : index < count) (w : World) (s
 
   -- its ID finds the channel
   pub own-terms : (id : ℕ) → k .id ≡ id → termsIn w (indexIn w id) ≡ k
-  own-terms id own = rw (index-one (w .state) (p .order .full) (p .order .state-fits) index id (here count w (p .order) index inside) (own-id ∙ own)) (p .as-ruled .terms)
+  own-terms id own = rw (index-one (w .state) (p .order .state-fits) index id (here count w (p .order) index inside) (own-id ∙ own)) (p .as-ruled .terms)
 
   unmoved : Follows k count index w [] [] st
   unmoved = record { ruled-in = p; history-is = refl }
@@ -69,7 +69,7 @@ module _ (k : Terms) (count index : ℕ) (inside : index < count) (w : World) (s
     -- its own
     own-call : k .id ≡ id → Follows k count index (outcome .world) (rules.called c (outcome .answer) ∷ []) (rules.call c ∷ []) st
     own-call same =
-        rw (serves-at id c w fits (p .order .full) index (here count w (p .order) index inside) (own-id ∙ same))
+        rw (serves-at id c w fits index (here count w (p .order) index inside) (own-id ∙ same))
         (record {
           ruled-in = record { order = served-order count w (p .order) index inside c; as-ruled = ruled-same count w (p .order) index inside c k st (p .as-ruled) };
           history-is = rw (← (p .as-ruled .terms), ← (p .as-ruled .condition));

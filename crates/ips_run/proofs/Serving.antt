@@ -1,11 +1,10 @@
 -- What a call on the channel at an index leaves: that channel and its store as the rules have it, every other channel and store as they were. Assumes nothing.
-use Prim.Native.Nat.{ℕ, _<_, _≤_}
+use Prim.Native.Nat.{ℕ, _<_}
 use mathlib.Core.Bool.{true}
 use mathlib.Core.List.{List}
 use mathlib.Core.Path.{_≡_, refl, sym, ap, _∙_}
 use native.Mathlib.Omega.{arith}
 use lib.ListN.{length}
-use Rattle.quantity.specs.Limits.{MOST-CHANNELS}
 use Rattle.store.specs.Waiting.{storeOf}
 use Rattle.store.proofs.Held.{packets-of}
 use Rattle.ips_channel_rules.specs.Rules as rules
@@ -19,11 +18,11 @@ use Rattle.ips_channel.specs.Channel.{termsOf, conditionOf, withCondition}
 use Rattle.ips_channel_calls.specs.Calls.{channelAfter, storeAfter, Ready}
 use Rattle.ips_channel_calls.proofs.Again as calls
 use Rattle.ips_channel_calls.proofs.Again.{Again}
-use Rattle.ips_state.specs.Table.{withChannel}
+use Rattle.ips_state.specs.State.{withChannel}
 use Rattle.ips_state.specs.Limits.{channelFits}
 use Rattle.ips_state.specs.Memory.{memoryFits, World, channelIn, storeIn}
 use Rattle.ips_state.proofs.Channels.{ChannelFit, fitting-fits}
-use Rattle.ips_state.proofs.Places.{fit, channel-fitting-at, with-full, with-count, at-with-same, at-with-other, fits-kept, memory-kept, store-at-kept, store-length, with-length, store-with-same, store-with-other}
+use Rattle.ips_state.proofs.Places.{channel-fitting-at, with-count, at-with-same, at-with-other, fits-kept, memory-kept, store-at-kept, store-length, with-length, store-with-same, store-with-other}
 use Rattle.ips_run.specs.Calling.{termsIn, conditionIn, resultIn, puttingBack}
 use Rattle.ips_run.specs.Demand.{InOrder, Tidy, AsRuled}
 
@@ -72,17 +71,14 @@ module _ (count : ℕ) (w : World) (o : InOrder count w) (at : ℕ) (inside : at
   abbrev store : List ℕ
   store = storeIn w at
 
-  pub here : at < w .state .count
+  pub here : at < length (w .state .channels)
   here = omega (arith, o .counted)
 
-  pub few : w .state .count ≤ MOST-CHANNELS
-  few = fit (w .state) (o .state-fits) .few
-
   pub fitting-here : ChannelFit (channelIn w at)
-  fitting-here = channel-fitting-at (w .state) (o .full) (o .state-fits) at here
+  fitting-here = channel-fitting-at (w .state) (o .state-fits) at here
 
   pub ready : Ready (channelIn w at) (storeIn w at)
-  ready = record { id = fitting-here .unreserved; well = fitting-here .well-formed; size = store-length (w .state) at (w .memory) (o .full) few (o .memory-fits) here }
+  ready = record { id = fitting-here .unreserved; well = fitting-here .well-formed; size = store-length (w .state) at (w .memory) (o .memory-fits) here }
 
   -- ---- a call on it
   module _ (call : ChannelCall) where
@@ -125,10 +121,9 @@ module _ (count : ℕ) (w : World) (o : InOrder count w) (at : ℕ) (inside : at
     pub served-order : InOrder count served
     unfolding memoryFits
     served-order = record {
-      full = with-full (w .state) at (channelAfter c result) ∙ o .full;
       counted = with-count (w .state) at (channelAfter c result) ∙ o .counted;
-      state-fits = fits-kept (w .state) at here (channelAfter c result) (o .state-fits) new-fits id-kept;
-      memory-fits = memory-kept (w .state) at here (channelAfter c result) size-kept (served .memory) ∙ rw (with-length (w .state) at (w .memory) (o .full) few (o .memory-fits) here (storeAfter c store result) long) (o .memory-fits);
+      state-fits = fits-kept (w .state) at (channelAfter c result) (o .state-fits) new-fits id-kept;
+      memory-fits = memory-kept (w .state) at (channelAfter c result) size-kept (served .memory) ∙ rw (with-length (w .state) at (w .memory) (o .memory-fits) here (storeAfter c store result) long) (o .memory-fits);
     }
 
     with-datalink : served .state .datalink ≡ w .state .datalink
@@ -137,12 +132,12 @@ module _ (count : ℕ) (w : World) (o : InOrder count w) (at : ℕ) (inside : at
 
     -- the channel itself
     pub at-same : channelIn served at ≡ channelAfter c result
-    at-same = at-with-same (w .state) at (channelAfter c result) (o .full) few here
+    at-same = at-with-same (w .state) at (channelAfter c result) here
 
     pub store-same : storeIn served at ≡ storeAfter c store result
     store-same =
-        store-at-kept (w .state) at here (channelAfter c result) size-kept at (served .memory)
-        ∙ store-with-same (w .state) at (w .memory) (o .full) few (o .memory-fits) here (storeAfter c store result) long
+        store-at-kept (w .state) at (channelAfter c result) size-kept at (served .memory)
+        ∙ store-with-same (w .state) at (w .memory) (o .memory-fits) here (storeAfter c store result) long
 
     pub ruled-same : (k : Terms) (st : Condition machine) → AsRuled k (w .state .datalink) c store st
         → AsRuled k (served .state .datalink) (channelIn served at) (storeIn served at) (callAt machine k call st .condition)
@@ -155,14 +150,14 @@ module _ (count : ℕ) (w : World) (o : InOrder count w) (at : ℕ) (inside : at
         })
 
     -- any other channel
-    module _ (other : ℕ) (there : other < w .state .count) (apart : other ≡ at → ⊥) where
+    module _ (other : ℕ) (there : other < length (w .state .channels)) (apart : other ≡ at → ⊥) where
       pub at-other : channelIn served other ≡ channelIn w other
       at-other = at-with-other (w .state) at (channelAfter c result) other apart
 
       pub store-other : storeIn served other ≡ storeIn w other
       store-other =
-          store-at-kept (w .state) at here (channelAfter c result) size-kept other (served .memory)
-          ∙ store-with-other (w .state) at (w .memory) (o .full) few (o .memory-fits) here (storeAfter c store result) long other there apart
+          store-at-kept (w .state) at (channelAfter c result) size-kept other (served .memory)
+          ∙ store-with-other (w .state) at (w .memory) (o .memory-fits) here (storeAfter c store result) long other there apart
 
       pub ruled-other : (k : Terms) (st : Condition machine) → AsRuled k (w .state .datalink) (channelIn w other) (storeIn w other) st
           → AsRuled k (served .state .datalink) (channelIn served other) (storeIn served other) st

@@ -4,14 +4,12 @@ use mathlib.Core.Bool.{true}
 use mathlib.Core.List.{List, [], _∷_, _++_}
 use mathlib.Core.Path.{_≡_, ap, _∙_}
 use lib.ListN.{length}
-use Rattle.quantity.specs.Limits.{MOST-CHANNELS}
 use Rattle.ips_channel_rules.specs.Rules.{Event, Terms, Condition, history, final}
 use Rattle.ips_channel_rules.specs.Simple.{simple}
 use Rattle.ips_channel_rules.proofs.Leaves.{final-append}
 use Rattle.ips_channel_rules.proofs.Fates.{settled-by}
 use Rattle.ips_channel_rules.proofs.Agree.{agrees-history, same-end}
-use Rattle.ips_state.specs.declared.state.Configuration.{Configuration}
-use Rattle.ips_state.specs.Table.{startAt}
+use Rattle.ips_state.specs.State.{Configuration, startAt}
 use Rattle.ips_state.specs.Limits.{configurationFits}
 use Rattle.ips_run.specs.Run.{Call, freshWorld}
 use Rattle.ips_run.specs.Demand.{BytesIn, idAt, reached, ruled, seen, seenSince, happenedSince, freshAt, simplyAt}
@@ -25,7 +23,7 @@ settled-all : (k : Terms) (es : List Event) (st : Condition simple) → SettledA
 settled-all k [] st = nothing
 settled-all k (e ∷ es) st = first (settled-by k e st) (settled-all k es _)
 
-module _ (k : Configuration) (full : length (k .starts) ≡ MOST-CHANNELS) (fits : configurationFits k ≡ true) (index : ℕ) (inside : index < k .count)
+module _ (k : Configuration) (fits : configurationFits k ≡ true) (index : ℕ) (inside : index < length (k .starts))
     (small : startAt k index .first .0 < 2 ^ 32) where
   ledger-on : (cs ds : List Call) → ledgerAt k index (cs ++ ds) ≡ final simple (ruled k index) (seenSince k index cs ds) (final simple (ruled k index) (seen k index cs) (simplyAt k index)) .keeping
   ledger-on cs ds =
@@ -36,8 +34,8 @@ module _ (k : Configuration) (full : length (k .starts) ≡ MOST-CHANNELS) (fits
   pub whole-settled : (cs ds : List Call) → BytesIn cs → BytesIn ds
       → SettledAll (happenedSince k index cs ds) (ledgerAt k index cs) (ledgerAt k index (cs ++ ds))
   whole-settled cs ds bytes more =
-      let before = all-follow (ruled k index) (k .count) index inside cs bytes (freshWorld k) (freshAt k index) (fresh-in k full fits index inside) in
-      let answered = all-follow (ruled k index) (k .count) index inside ds more (reached k cs) _ (before .ruled-in) .history-is in
+      let before = all-follow (ruled k index) (length (k .starts)) index inside cs bytes (freshWorld k) (freshAt k index) (fresh-in k fits index inside) in
+      let answered = all-follow (ruled k index) (length (k .starts)) index inside ds more (reached k cs) _ (before .ruled-in) .history-is in
       let alike = agrees-history (ruled k index) (seenSince k index cs ds) _ _ (same-end (ruled k index) (startAt k index .first) small (seen k index cs)) in
       rw (answered ∙ alike, ledger-on cs ds)
       (settled-all (ruled k index) (seenSince k index cs ds) (final simple (ruled k index) (seen k index cs) (simplyAt k index)))

@@ -9,7 +9,6 @@ use lib.ListN.{length}
 use lib.Dec.{eqb}
 use Rattle.facts.proofs.Tests.{clash}
 use Rattle.quantity.specs.declared.count.FlowWindow.{FlowWindow}
-use Rattle.quantity.specs.Limits.{MOST-CHANNELS}
 use Rattle.quantity.specs.Window.{standingAt}
 use Rattle.wire.specs.Numbers.{Octets}
 use Rattle.meaning.specs.declared.message.Window.{Window}
@@ -28,8 +27,7 @@ use Rattle.ips_channel_rules.specs.Windows.{Within, Under}
 use Rattle.ips_channel_rules.proofs.Within.{within-window, from-arrival, none-sends}
 use Rattle.ips_channel.specs.declared.state.Channel.{Channel}
 use Rattle.ips_channel.specs.Channel.{conditionOf}
-use Rattle.ips_state.specs.declared.state.Configuration.{Configuration}
-use Rattle.ips_state.specs.Table.{startAt}
+use Rattle.ips_state.specs.State.{Configuration, startAt}
 use Rattle.ips_state.specs.Limits.{configurationFits}
 use Rattle.ips_state.proofs.Places.{fit}
 use Rattle.ips_radio.specs.Heard.{statusIn, windowIn}
@@ -82,11 +80,11 @@ counting-of : (c : Channel) (store : List ℕ) → (conditionOf c store .countin
 unfolding conditionOf
 counting-of c store = (refl, refl)
 
-module _ (k : Configuration) (full : length (k .starts) ≡ MOST-CHANNELS) (fits : configurationFits k ≡ true) where
+module _ (k : Configuration) (fits : configurationFits k ≡ true) where
   -- ---- each channel
-  module _ (index : ℕ) (inside : index < k .count) where
-    follows : (cs : List Call) → BytesIn cs → Follows (ruled k index) (k .count) index (reached k cs) (happened k index cs) (seen k index cs) (freshAt k index)
-    follows cs bytes = all-follow (ruled k index) (k .count) index inside cs bytes (freshWorld k) (freshAt k index) (fresh-in k full fits index inside)
+  module _ (index : ℕ) (inside : index < length (k .starts)) where
+    follows : (cs : List Call) → BytesIn cs → Follows (ruled k index) (length (k .starts)) index (reached k cs) (happened k index cs) (seen k index cs) (freshAt k index)
+    follows cs bytes = all-follow (ruled k index) (length (k .starts)) index inside cs bytes (freshWorld k) (freshAt k index) (fresh-in k fits index inside)
 
     module _ (cs : List Call) (bytes : BytesIn cs) where
       -- THE PROJECTION: the channel and its store are what the rules leave of what it saw, and what happened to it is theirs
@@ -102,11 +100,11 @@ module _ (k : Configuration) (full : length (k .starts) ≡ MOST-CHANNELS) (fits
 
       -- what it doesn't see (a call on another channel, a radio message that is not accepted, a query) changes no byte of it
       pub whole-untouched : (d : Call) → sees (idAt k index) d (reached k cs) ≡ [] → Untouched index (reached k cs) (after d (reached k cs))
-      whole-untouched = untouched (ruled k index) (k .count) index inside (reached k cs) _ (follows cs bytes .ruled-in)
+      whole-untouched = untouched (ruled k index) (length (k .starts)) index inside (reached k cs) _ (follows cs bytes .ruled-in)
 
       -- what it saw is a matter of the calls alone
       pub whole-sees : seen k index cs ≡ seesAllWithin (k .datalink) (idAt k index) cs
-      whole-sees = sees-within (ruled k index) (k .count) index inside (idAt k index) cs bytes (freshWorld k) (freshAt k index) (fresh-in k full fits index inside)
+      whole-sees = sees-within (ruled k index) (length (k .starts)) index inside (idAt k index) cs bytes (freshWorld k) (freshAt k index) (fresh-in k fits index inside)
 
     -- ---- and the simple channel
     module _ (small : startAt k index .first .0 < 2 ^ 32) (cs : List Call) (bytes : BytesIn cs) where
@@ -148,7 +146,7 @@ module _ (k : Configuration) (full : length (k .starts) ≡ MOST-CHANNELS) (fits
     -- ---- between two radio messages: calls `ds` after calls `cs`, no radio message accepted among them
     module _ (cs ds : List Call) (bytes : BytesIn cs) (more : BytesIn ds) where
       since-is : happenedSince k index cs ds ≡ history machine (ruled k index) (seenSince k index cs ds) (final machine (ruled k index) (seen k index cs) (freshAt k index))
-      since-is = all-follow (ruled k index) (k .count) index inside ds more (reached k cs) _ (follows cs bytes .ruled-in) .history-is
+      since-is = all-follow (ruled k index) (length (k .starts)) index inside ds more (reached k cs) _ (follows cs bytes .ruled-in) .history-is
 
       module _ (none : acceptedAll ds (reached k cs) ≡ []) where
         -- "While a window is in force no packet goes past it."
@@ -186,10 +184,10 @@ module _ (k : Configuration) (full : length (k .starts) ≡ MOST-CHANNELS) (fits
           (from-arrival (ruled k index) window (seesAll own ds after-it) (calls-seen own ds after-it none) controlled (statusIn m own) st _ (same-end (ruled k index) (startAt k index .first) small (seen k index cs)))
 
   -- ---- every world reached is one that 19 does not refuse, configured as it was
-  primary : 0 < k .count
+  primary : 0 < length (k .starts)
   primary =
-      let some = fit (freshWorld k .state) (fresh-order k full fits .state-fits) .some in
-      omega (arith, fresh-order k full fits .counted)
+      let some = fit (freshWorld k .state) (fresh-order k fits .state-fits) .some in
+      omega (arith, fresh-order k fits .counted)
 
   module _ (cs : List Call) (bytes : BytesIn cs) where
     pub reached-fits : Reached k (reached k cs)
@@ -203,4 +201,4 @@ module _ (k : Configuration) (full : length (k .starts) ≡ MOST-CHANNELS) (fits
 
     -- what was accepted is a matter of the calls alone
     pub whole-accepted : acceptedAll cs (freshWorld k) ≡ acceptedAllWithin (k .datalink) cs
-    whole-accepted = accepted-within (ruled k 0) (k .count) 0 primary cs bytes (freshWorld k) (freshAt k 0) (fresh-in k full fits 0 primary)
+    whole-accepted = accepted-within (ruled k 0) (length (k .starts)) 0 primary cs bytes (freshWorld k) (freshAt k 0) (fresh-in k fits 0 primary)

@@ -8,7 +8,7 @@ use Rattle.ips_channel_rules.specs.Rules.{ChannelCall, Says, Answer, refused, T
 use Rattle.ips_channel_rules.specs.Machine.{machine}
 use Rattle.ips_channel.specs.Channel.{termsOf, conditionOf}
 use Rattle.ips_channel_calls.specs.Calls.{channelAfter, storeAfter, resultOf}
-use Rattle.ips_state.specs.Table.{withChannel}
+use Rattle.ips_state.specs.State.{withChannel}
 use Rattle.ips_state.specs.Memory.{withStore, World, worldFits, isConfigured, indexIn, channelIn, storeIn}
 
 -- ---- the channel at an index of the configuration: how it is configured, the condition that it is in, and what the rules give for a call on it

@@ -5,7 +5,6 @@ use mathlib.Core.List.{List, [], _∷_}
 use mathlib.Core.Path.{_≡_}
 use lib.ListN.{length}
 use Rattle.quantity.specs.declared.count.DatalinkId.{DatalinkId}
-use Rattle.quantity.specs.Limits.{MOST-CHANNELS}
 use Rattle.wire.specs.Numbers.{Octets}
 use Rattle.store.specs.Waiting.{Holds, packetsOf}
 use Rattle.ips_channel_rules.specs.Rules.{Event, Happened, Terms, Condition, history, final}
@@ -13,8 +12,7 @@ use Rattle.ips_channel_rules.specs.Machine.{machine, freshMachine}
 use Rattle.ips_channel_rules.specs.Simple.{simple, freshSimple}
 use Rattle.ips_channel.specs.declared.state.Channel.{Channel}
 use Rattle.ips_channel.specs.Channel.{termsOf, conditionOf}
-use Rattle.ips_state.specs.declared.state.Configuration.{Configuration}
-use Rattle.ips_state.specs.Table.{startAt}
+use Rattle.ips_state.specs.State.{Configuration, startAt}
 use Rattle.ips_state.specs.Limits.{stateFits}
 use Rattle.ips_state.specs.Memory.{memoryFits, World, channelIn, storeIn}
 use Rattle.ips_run.specs.Calling.{termsIn}
@@ -63,8 +61,7 @@ happenedSince k index cs ds = happensAll (idAt k index) ds (reached k cs)
 
 -- ---- a world that 19 does not refuse
 pub record InOrder (count : ℕ) (w : World) : Type 0 where
-  pub full : length (w .state .channels) ≡ MOST-CHANNELS
-  pub counted : w .state .count ≡ count
+  pub counted : length (w .state .channels) ≡ count
   pub state-fits : stateFits (w .state) ≡ true
   pub memory-fits : memoryFits (w .state) (w .memory) ≡ true
 
@@ -99,6 +96,6 @@ pub record Untouched (index : ℕ) (w w′ : World) : Type 0 where
 
 -- where any calls lead from a fresh start: 19 refuses nothing of it, and all that is configured is as it was
 pub record Reached (k : Configuration) (w : World) : Type 0 where
-  pub order : InOrder (k .count) w
+  pub order : InOrder (length (k .starts)) w
   pub datalink : w .state .datalink ≡ k .datalink
-  pub terms : (index : ℕ) → index < k .count → termsIn w index ≡ ruled k index
+  pub terms : (index : ℕ) → index < length (k .starts) → termsIn w index ≡ ruled k index

@@ -11,9 +11,7 @@ use Rattle.reader.specs.Readings.{Verdict, readControl, planeOf}
 use Rattle.reader.specs.declared.answer.PlaneAnswer.{PlaneAnswer}
 use Rattle.ips_channel_rules.specs.Rules as rules
 use Rattle.ips_channel_rules.specs.Rules.{ChannelCall, Event, Happened}
-use Rattle.ips_state.specs.declared.state.Configuration.{Configuration}
-use Rattle.ips_state.specs.declared.state.State.{State}
-use Rattle.ips_state.specs.Table.{freshState, configured}
+use Rattle.ips_state.specs.State.{Configuration, State, freshState}
 use Rattle.ips_state.specs.Limits.{sizes, stateFits}
 use Rattle.ips_state.specs.Memory.{World}
 use Rattle.ips_radio.specs.Heard.{heardBy, statusIn, windowIn}
@@ -61,7 +59,7 @@ afterAll (c ∷ cs) w = afterAll cs (after c w)
 
 -- "from a fresh start", which "fills each store with zeros"
 unfoldable pub freshWorld : Configuration → World
-freshWorld k = record { state = freshState k; memory = replicate (sizes (configured (freshState k))) 0 }
+freshWorld k = record { state = freshState k; memory = replicate (sizes (freshState k .channels)) 0 }
 
 -- the accepted radio control messages of some calls, in order
 abbrev pub acceptedAll : List Call → World → List Control

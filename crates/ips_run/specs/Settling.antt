@@ -4,7 +4,7 @@ use mathlib.Core.List.{List, [], _∷_}
 use Rattle.ips_channel_rules.specs.Rules.{Happened, final}
 use Rattle.ips_channel_rules.specs.Simple.{simple, Entry}
 use Rattle.ips_channel_rules.specs.Fates.{Settles}
-use Rattle.ips_state.specs.declared.state.Configuration.{Configuration}
+use Rattle.ips_state.specs.State.{Configuration}
 use Rattle.ips_run.specs.Run.{Call}
 use Rattle.ips_run.specs.Demand.{ruled, seen, simplyAt}
 

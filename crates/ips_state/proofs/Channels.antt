@@ -1,7 +1,7 @@
 -- Channels as a list: joined to others, one of them replaced, each by its place. Assumes nothing.
 use Prim.Native.Nat.{ℕ, zero, suc, _+_, _*_, _≤_, _<_}
 use mathlib.Core.Bool.{Bool, true, false, cond, not, _&&_, and-assoc, and-eq-true-iff}
-use mathlib.Core.List.{List, [], _∷_, _++_, map-append}
+use mathlib.Core.List.{List, [], _∷_, _++_, map, map-append}
 use mathlib.Core.Logic.{_⊎_, inl, inr, ⊎-elim}
 use mathlib.Core.Path.{_≡_, refl, sym, ap, _∙_}
 use native.Mathlib.Decide.{ℕ-discrete}
@@ -17,7 +17,7 @@ use Rattle.meaning.specs.declared.message.End.the-variants as ends
 use Rattle.writable.specs.Allowed.{statusAllowed}
 use Rattle.store.specs.Waiting.{wellFormed}
 use Rattle.ips_channel.specs.declared.state.Channel.{Channel}
-use Rattle.ips_state.specs.Table.{noChannel}
+use Rattle.ips_state.specs.State.{noChannel}
 use Rattle.ips_state.specs.Limits.{settingFits, flowFits, channelFits, allFit, ids, distinct, sizes, indexOf}
 
 pub same-or-not : (m n : ℕ) → (m ≡ n) ⊎ (m ≡ n → ⊥)
@@ -26,6 +26,12 @@ same-or-not m n = go (ℕ-discrete m n)
     go : Dec (m ≡ n) → (m ≡ n) ⊎ (m ≡ n → ⊥)
     go (yes e) = inl e
     go (no f) = inr f
+
+-- an element of a list that a function goes over
+pub getD-mapped : {A B : Type 0} (f : A → B) (xs : List A) (i : ℕ) (d : A) (e : B) → i < length xs → getD (map f xs) i e ≡ f (getD xs i d)
+getD-mapped f [] i d e h = absurd (omega arith)
+getD-mapped f (x ∷ xs) zero d e h = refl
+getD-mapped f (x ∷ xs) (suc i) d e h = getD-mapped f xs i d e (omega arith)
 
 -- ---- a number among others, and its index
 module _ (n x : ℕ) (xs : List ℕ) where
@@ -189,6 +195,12 @@ sizes-set [] i c n e = refl
 sizes-set (x ∷ cs) i c zero e = refl
 sizes-set (x ∷ cs) zero c (suc n) e = rw e
 sizes-set (x ∷ cs) (suc i) c (suc n) e = rw (sizes-set cs i c n e)
+
+pub sizes-all : (cs : List Channel) (i : ℕ) (c : Channel) → c .setting .size .0 ≡ getD cs i noChannel .setting .size .0 → sizes (set cs i c) ≡ sizes cs
+unfolding sizes
+sizes-all [] i c e = refl
+sizes-all (x ∷ cs) zero c e = rw e
+sizes-all (x ∷ cs) (suc i) c e = rw (sizes-all cs i c e)
 
 -- ---- the parts of `channelFits`, as facts
 pub record ChannelFit (c : Channel) : Type 0 where

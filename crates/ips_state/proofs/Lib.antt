@@ -1,7 +1,5 @@
--- The laws that the proofs of this crate share; `Channels`, `Places` and `WithinLimits` serve those above it.
+-- The laws of a state: its channels, where each and its store stand, its limits, its fresh start.
 pub mod Channels
-pub mod Starting
 pub mod Places
-pub mod Walking
 pub mod WithinLimits
 pub mod Fresh

@@ -9,7 +9,7 @@ use lib.Dec.{leb, ltb}
 use lib.ListN.{length, getD}
 use Rattle.facts.proofs.Tests.{clash}
 use Rattle.quantity.specs.declared.count.LinkInstanceId.{LinkInstanceId}
-use Rattle.quantity.specs.Limits.{MOST-CHANNELS, MOST-WAITING, SHORTEST-PACKET, LONGEST-PACKET, HIGHEST-STATUS, SHORTEST-NAME, LONGEST-NAME}
+use Rattle.quantity.specs.Limits.{MOST-WAITING, SHORTEST-PACKET, LONGEST-PACKET, HIGHEST-STATUS, SHORTEST-NAME, LONGEST-NAME}
 use Rattle.meaning.specs.declared.message.End.the-variants as ends
 use Rattle.meaning.specs.declared.message.Instance.{Instance}
 use Rattle.meaning.specs.declared.message.ContextBytes.{ContextBytes}
@@ -22,12 +22,11 @@ use Rattle.store.specs.declared.queue.Queue.{Queue}
 use Rattle.store.specs.Waiting.{waiting, noEntry, within, allWithin, wellFormed}
 use Rattle.flow.specs.declared.Flow.{Flow}
 use Rattle.ips_channel.specs.declared.state.Channel.{Channel}
-use Rattle.ips_state.specs.declared.state.State.{State}
-use Rattle.ips_state.specs.Table.{configured, channelAt}
+use Rattle.ips_state.specs.State.{State, channelAt}
 use Rattle.ips_state.specs.Limits.{flowFits, channelFits, ids, namesFit, stateFits, indexOf}
 use Rattle.ips_state.specs.WithinLimits.{QueueWithin, ChannelWithin, NameWithin, WithinLimits}
 use Rattle.ips_state.proofs.Channels.{stands-among, distinct-by, all-by, ids-length, ids-at, ChannelFit, fitting-fits}
-use Rattle.ips_state.proofs.Places.{configured-length, configured-at, fit, fit-fits, channel-fitting-at, index-one, found}
+use Rattle.ips_state.proofs.Places.{fit, fit-fits, channel-fitting-at, index-one, found}
 
 -- ---- what waits
 Lengths : List Entry → Type 0
@@ -117,30 +116,25 @@ context-fits Context.Absent h = refl
 context-fits (Context.Given value size) h = name-fits (value .0) size (h value size refl)
 
 -- ---- a state
-module _ (s : State) (full : length (s .channels) ≡ MOST-CHANNELS) where
-  ids-channel : (i : ℕ) → i < s .count → getD (ids (configured s)) i 0 ≡ channelAt s i .setting .id
-  ids-channel i inside = ids-at (configured s) i ∙ rw (configured-at s i inside)
+module _ (s : State) where
+  ids-channel : (i : ℕ) → getD (ids (s .channels)) i 0 ≡ channelAt s i .setting .id
+  unfolding channelAt
+  ids-channel i = ids-at (s .channels) i
 
   pub within-fits : WithinLimits s → stateFits s ≡ true
-  unfolding namesFit
+  unfolding namesFit channelAt
   within-fits w = fit-fits s (record {
     some = w .some;
     few = w .few;
     names = rw (instance-fits (s .instance) (w .instance-within), context-fits (s .context) (w .context-within));
-    each = all-by (configured s) (λ i h. let inside : i < s .count = omega (arith, long) in rw (configured-at s i inside) (channel-fits (channelAt s i) (w .each i inside)));
+    each = all-by (s .channels) (λ i h. channel-fits (channelAt s i) (w .each i h));
     apart =
-        distinct-by (ids (configured s))
-        (λ i j h l e.
-        let a : i < s .count = omega (arith, long, ids-length (configured s)) in
-        let b : j < s .count = omega (arith, long, ids-length (configured s)) in
-        w .apart i j a b (sym (ids-channel i a) ∙ e ∙ ids-channel j b));
+        distinct-by (ids (s .channels))
+        (λ i j h l e. w .apart i j (omega (arith, ids-length (s .channels))) (omega (arith, ids-length (s .channels))) (sym (ids-channel i) ∙ e ∙ ids-channel j));
     primary =
-        stands-among 0 (ids (configured s)) (w .primary)
-        (record { inside = omega (arith, w .primary-inside, long, ids-length (configured s)); is = ids-channel (w .primary) (w .primary-inside) ∙ w .primary-is });
+        stands-among 0 (ids (s .channels)) (w .primary)
+        (record { inside = omega (arith, w .primary-inside, ids-length (s .channels)); is = ids-channel (w .primary) ∙ w .primary-is });
   })
-    where
-      long : length (configured s) ≡ s .count
-      long = configured-length s full (w .few)
 
   pub fits-within : stateFits s ≡ true → WithinLimits s
   unfolding namesFit lengthListed
@@ -150,9 +144,9 @@ module _ (s : State) (full : length (s .channels) ≡ MOST-CHANNELS) where
       record {
         some = f .some;
         few = f .few;
-        each = λ index inside. fits-channel (channelAt s index) (channel-fitting-at s full e index inside);
-        apart = λ i j a b p. sym (index-one s full e i (channelAt s j .setting .id) a p) ∙ index-one s full e j (channelAt s j .setting .id) b refl;
-        primary = indexOf 0 (ids (configured s));
+        each = λ index inside. fits-channel (channelAt s index) (channel-fitting-at s e index inside);
+        apart = λ i j a b p. sym (index-one s e i (channelAt s j .setting .id) a p) ∙ index-one s e j (channelAt s j .setting .id) b refl;
+        primary = indexOf 0 (ids (s .channels));
         primary-inside = found s 0 (f .primary) .0;
         primary-is = found s 0 (f .primary) .1;
         instance-within = λ value size p. fits-name (value .0) size (rw p at (names .0));

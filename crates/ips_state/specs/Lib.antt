@@ -1,4 +1,4 @@
-pub mod Table
+pub mod State
 pub mod Limits
 pub mod Memory
 pub mod WithinLimits

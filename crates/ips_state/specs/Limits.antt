@@ -5,7 +5,7 @@
 use Prim.Native.Nat.{ℕ, suc, _+_}
 use mathlib.Core.Bool.{Bool, true, false, cond, not, _&&_}
 use mathlib.Core.List.{List, [], _∷_, map}
-use lib.ListN.{take}
+use lib.ListN.{length}
 use lib.Dec.{eqb, leb, ltb}
 use Rattle.quantity.specs.Limits.{FEWEST-CHANNELS, MOST-CHANNELS, RESERVED-CHANNEL, SMALLEST-STORE, LARGEST-STORE}
 use Rattle.meaning.specs.declared.message.End.the-variants as ends
@@ -15,11 +15,7 @@ use Rattle.store.specs.Waiting.{wellFormed}
 use Rattle.flow.specs.declared.Flow.{Flow}
 use Rattle.ips_channel.specs.declared.state.Setting.{Setting}
 use Rattle.ips_channel.specs.declared.state.Channel.{Channel}
-use Rattle.ips_state.specs.declared.state.ChannelStart.{ChannelStart}
-use Rattle.ips_state.specs.declared.state.Configuration.{Configuration}
-use Rattle.ips_state.specs.declared.state.State.{State}
-use Rattle.ips_state.specs.declared.survey.Survey.{Survey}
-use Rattle.ips_state.specs.Table.{configured}
+use Rattle.ips_state.specs.State.{ChannelStart, Configuration, State}
 
 -- ---- a setting: "ID 255", "store length"
 abbrev pub settingFits : Setting → Bool
@@ -62,7 +58,7 @@ namesFit s = instanceAllowed ends.Radio (s .instance) && contextAllowed ends.Rad
 
 -- A STATE WITHIN THE LIMITS
 unfoldable pub stateFits : State → Bool
-stateFits s = countFits (s .count) && (namesFit s && channelsFit (configured s))
+stateFits s = countFits (length (s .channels)) && (namesFit s && channelsFit (s .channels))
 
 -- the same of a configuration: "channel count, ID 255, an ID twice, no channel 0, store length"
 unfoldable pub startsFit : List ChannelStart → Bool
@@ -74,8 +70,8 @@ startIds ks = map (λ (k : ChannelStart). k .setting .id) ks
 
 unfoldable pub configurationFits : Configuration → Bool
 configurationFits k =
-    countFits (k .count)
-    && (startsFit (take (k .count) (k .starts)) && (distinct (startIds (take (k .count) (k .starts))) && among 0 (startIds (take (k .count) (k .starts)))))
+    countFits (length (k .starts))
+    && (startsFit (k .starts) && (distinct (startIds (k .starts)) && among 0 (startIds (k .starts))))
 
 -- ---- "one store .. for each channel, all of them end to end in configuration order in one lent memory"
 unfoldable pub sizes : List Channel → ℕ
@@ -86,17 +82,3 @@ sizes (c ∷ cs) = c .setting .size .0 + sizes cs
 unfoldable pub indexOf : ℕ → List ℕ → ℕ
 indexOf id [] = 0
 indexOf id (n ∷ ns) = cond (eqb n id) 0 (suc (indexOf id ns))
-
--- ---- what one pass over the state tells
-unfoldable pub unfit : Survey
-unfit = record { fits = false; total = record { 0 = 0 }; index = 0; start = record { 0 = 0 } }
-
-unfoldable pub surveyed : List Channel → ℕ → Survey
-surveyed cs id =
-    record { fits = true; total = record { 0 = sizes cs }; index = indexOf id (ids cs); start = record { 0 = cond (among id (ids cs)) (sizes (take (indexOf id (ids cs)) cs)) 0 } }
-
-unfoldable pub walked : List Channel → ℕ → Survey
-walked cs id = cond (channelsFit cs) (surveyed cs id) unfit
-
-unfoldable pub surveyOf : State → ℕ → Survey
-surveyOf s id = cond (stateFits s) (surveyed (configured s) id) unfit

@@ -7,16 +7,15 @@ use lib.ListN.{length, take, drop}
 use lib.Dec.{eqb}
 use Rattle.meaning.specs.Kinds.{among}
 use Rattle.ips_channel.specs.declared.state.Channel.{Channel}
-use Rattle.ips_state.specs.declared.state.State.{State}
-use Rattle.ips_state.specs.Table.{configured, channelAt}
+use Rattle.ips_state.specs.State.{State, channelAt}
 use Rattle.ips_state.specs.Limits.{ids, indexOf, sizes, stateFits}
 
 -- "a lent memory whose length isn't the sum of the stores" is refused by 19
 unfoldable pub memoryFits : State → List ℕ → Bool
-memoryFits s memory = eqb (length memory) (sizes (configured s))
+memoryFits s memory = eqb (length memory) (sizes (s .channels))
 
 unfoldable pub startOf : State → ℕ → ℕ
-startOf s index = sizes (take index (configured s))
+startOf s index = sizes (take index (s .channels))
 
 unfoldable pub storeAt : State → ℕ → List ℕ → List ℕ
 storeAt s index memory = take (channelAt s index .setting .size .0) (drop (startOf s index) memory)
@@ -36,10 +35,10 @@ worldFits w = stateFits (w .state) && memoryFits (w .state) (w .memory)
 
 -- a channel is found by its ID, wherever it stands in the configuration
 abbrev pub isConfigured : World → ℕ → Bool
-isConfigured w id = among id (ids (configured (w .state)))
+isConfigured w id = among id (ids (w .state .channels))
 
 abbrev pub indexIn : World → ℕ → ℕ
-indexIn w id = indexOf id (ids (configured (w .state)))
+indexIn w id = indexOf id (ids (w .state .channels))
 
 -- the channel at an index of the configuration, and its store
 abbrev pub channelIn : World → ℕ → Channel

@@ -12,8 +12,7 @@ use Rattle.store.specs.declared.queue.Queue.{Queue}
 use Rattle.store.specs.Waiting.{waiting, total, noEntry}
 use Rattle.flow.specs.declared.Flow.{Flow}
 use Rattle.ips_channel.specs.declared.state.Channel.{Channel}
-use Rattle.ips_state.specs.declared.state.State.{State}
-use Rattle.ips_state.specs.Table.{channelAt}
+use Rattle.ips_state.specs.State.{State, channelAt}
 
 -- "more than 32 waiting, a waiting length outside 40 to 1,500, waiting bytes over the store"
 pub record QueueWithin (queue : Queue) (size : ℕ) : Type 0 where
@@ -38,12 +37,12 @@ pub record NameWithin (value size : ℕ) : Type 0 where
 
 -- "channel count", "an ID twice", "no channel 0"
 pub record WithinLimits (s : State) : Type 0 where
-  pub some : 1 ≤ s .count
-  pub few : s .count ≤ 16
-  pub each : (index : ℕ) → index < s .count → ChannelWithin (channelAt s index)
-  pub apart : (i j : ℕ) → i < s .count → j < s .count → channelAt s i .setting .id ≡ channelAt s j .setting .id → i ≡ j
+  pub some : 1 ≤ length (s .channels)
+  pub few : length (s .channels) ≤ 16
+  pub each : (index : ℕ) → index < length (s .channels) → ChannelWithin (channelAt s index)
+  pub apart : (i j : ℕ) → i < length (s .channels) → j < length (s .channels) → channelAt s i .setting .id ≡ channelAt s j .setting .id → i ≡ j
   pub primary : ℕ
-  pub primary-inside : primary < s .count
+  pub primary-inside : primary < length (s .channels)
   pub primary-is : channelAt s primary .setting .id ≡ 0
   pub instance-within : (value : LinkInstanceId) (size : ℕ) → s .instance ≡ Instance.Given value size → NameWithin (value .0) size
   pub context-within : (value : ContextBytes) (size : ℕ) → s .context ≡ Context.Given value size → NameWithin (value .0) size

@@ -1,4 +1,8 @@
-// The endpoint's state by value: the channels as they are configured, and what number 19 asks of them.
-pub mod limits;
-pub mod state;
-pub mod survey;
+// The endpoint's state is told by specs and laws; code holds it in lent words.
+use quantity::refusal::Refusal;
+
+// 19, or the state has started.
+pub enum StartAnswer {
+    Started,
+    Refused(Refusal),
+}

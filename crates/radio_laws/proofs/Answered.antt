@@ -7,7 +7,6 @@ use mathlib.Core.Path.{_≡_, refl, sym, ap, _∙_}
 use borrow.Author.Tests.{eq-eqb, eqb-true}
 use lib.Dec.{eqb}
 use lib.ListN.{length}
-use Rattle.quantity.specs.Limits.{MOST-CHANNELS}
 use Rattle.wire.specs.Numbers.{Octets, bigEndian}
 use Rattle.wire.specs.Options.{Options}
 use Rattle.meaning.specs.declared.message.End.the-variants as ends
@@ -15,16 +14,15 @@ use Rattle.meaning.specs.declared.message.Plane.the-variants as planes
 use Rattle.meaning.specs.declared.message.ContextBytes.{ContextBytes}
 use Rattle.read_option.specs.Stated.{Table, instanceFrom, contextFrom, controlStated}
 use Rattle.acceptance.specs.Account.{tableOf, Accepts, controlMeaning}
-use Rattle.ips_state.specs.declared.state.State.{State}
+use Rattle.ips_state.specs.State.{State}
 use Rattle.ips_state.specs.Limits.{stateFits}
 use Rattle.ips_radio.specs.declared.RadioAnswer.{RadioAnswer}
 use Rattle.ips_radio.specs.Heard.{keptInstance, keptContext, heardBy, dueOf}
 use Rattle.ips_run.specs.Run.{radio}
-use Rattle.endpoint.specs.declared.radio.AfterRadio.{AfterRadio}
-use Rattle.endpoint.specs.Radio.{handedIn}
-use Rattle.endpoint.specs.Replies.{ofRadio}
-use Rattle.endpoint.specs.Calls.{PerformedWithAny}
-use Rattle.endpoint.proofs.Exactly.{radio-heard}
+use Rattle.ips_calls.specs.Radio.{AfterRadio, handedIn}
+use Rattle.ips_calls.specs.Replies.{ofRadio}
+use Rattle.ips_calls.specs.Calls.{PerformedWithAny}
+use Rattle.ips_calls.proofs.Exactly.{radio-heard}
 use Rattle.radio_laws.specs.OptionByOption.{Holds}
 use Rattle.radio_laws.specs.Answered.{Answers}
 use Rattle.radio_laws.proofs.Holding.{ForMessage, says-once, said-once}
@@ -51,7 +49,7 @@ differs last size content other = go (eqb (bigEndian content) (last .0)) refl (e
 
 module _ (s : State) (fits : stateFits s ≡ true) (datagram : List ℕ) (octets : Octets datagram)
     (f : Options) (a : Accepts planes.Control ends.Radio (s .datalink) datagram f)
-    {answer : RadioAnswer} {s′ : State} (full : length (s .channels) ≡ MOST-CHANNELS) (h : PerformedWithAny (radio datagram) s (ofRadio answer) s′) where
+    {answer : RadioAnswer} {s′ : State} (h : PerformedWithAny (radio datagram) s (ofRadio answer) s′) where
   abbrev table : Table
   table = tableOf planes.Control ends.Radio f
 
@@ -63,11 +61,11 @@ module _ (s : State) (fits : stateFits s ≡ true) (datagram : List ℕ) (octets
 
   context-left : s′ .context ≡ keptContext (s .context) (contextFrom (table 4 0))
   unfolding heardBy controlStated
-  context-left = ap (λ (t : State). t .context) (left s full fits datagram octets f a h)
+  context-left = ap (λ (t : State). t .context) (left s fits datagram octets f a h)
 
   instance-left : s′ .instance ≡ keptInstance (s .instance) (instanceFrom (table 3 0))
   unfolding heardBy controlStated
-  instance-left = ap (λ (t : State). t .instance) (left s full fits datagram octets f a h)
+  instance-left = ap (λ (t : State). t .instance) (left s fits datagram octets f a h)
 
   context-is : (content : List ℕ) → Holds 4 content f → table 4 0 ≡ some content
   context-is = says-once 4 datalink-context (s .datalink) datagram f a

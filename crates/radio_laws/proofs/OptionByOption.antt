@@ -11,7 +11,7 @@ use lib.ListN.{length, getD}
 use Rattle.facts.proofs.Tests.{clash}
 use Rattle.facts.proofs.Tables.{getD-tabulate}
 use Rattle.quantity.specs.declared.count.DatalinkId.{DatalinkId}
-use Rattle.quantity.specs.Limits.{CHANNEL-IDS, MOST-CHANNELS, LONGEST-DATAGRAM}
+use Rattle.quantity.specs.Limits.{CHANNEL-IDS, LONGEST-DATAGRAM}
 use Rattle.wire.specs.Numbers.{Octets, numberFrom}
 use Rattle.wire.specs.Options.{Options, option, bytes}
 use Rattle.meaning.specs.declared.message.End.the-variants as ends
@@ -31,17 +31,16 @@ use Rattle.acceptance.proofs.Control.{control-account}
 use Rattle.flow.specs.declared.Flow.{Flow}
 use Rattle.ips_channel.specs.declared.state.Channel.{Channel}
 use Rattle.ips_channel.specs.Channel.{heardOf}
-use Rattle.ips_state.specs.declared.state.State.{State}
-use Rattle.ips_state.specs.Table.{noChannel, channelAt}
+use Rattle.ips_state.specs.State.{State, noChannel, channelAt}
 use Rattle.ips_state.specs.Limits.{flowFits, stateFits}
 use Rattle.ips_state.specs.Memory.{World}
-use Rattle.ips_state.proofs.Places.{fit, channel-fitting-at}
+use Rattle.ips_state.proofs.Places.{channel-fitting-at}
 use Rattle.ips_radio.specs.Heard.{statusIn, windowIn, heardFrom, heardBy}
-use Rattle.ips_radio.proofs.Hearings.{heard-at}
+use Rattle.ips_radio.proofs.Hearings.{heard-count, heard-at}
 use Rattle.ips_run.specs.Run.{radio, acceptedIn, after}
 use Rattle.ips_run.proofs.Exact.{heard-when, accepted-fits}
-use Rattle.endpoint.specs.Replies.{EndpointReply}
-use Rattle.endpoint.specs.Calls.{lending, PerformedWithAny}
+use Rattle.ips_calls.specs.Replies.{EndpointReply}
+use Rattle.ips_calls.specs.Calls.{lending, PerformedWithAny}
 use Rattle.radio_laws.specs.OptionByOption.{Holds, later, Hears, EachHears}
 use Rattle.radio_laws.proofs.Holding.{ForChannels, elsewhere, holds-listed, says, said, said-alike}
 
@@ -150,35 +149,35 @@ module _ (id : DatalinkId) (datagram : List ℕ) (f : Options) (a : Accepts plan
       let read = control-account ends.Radio id datagram octets .1 f a in
       heard-when id datagram of-plane (ap (λ r. r .verdict) read) ∙ rw read
 
-module _ (s : State) (full : length (s .channels) ≡ MOST-CHANNELS) (fits : stateFits s ≡ true) (datagram : List ℕ) (octets : Octets datagram)
+module _ (s : State) (fits : stateFits s ≡ true) (datagram : List ℕ) (octets : Octets datagram)
     (f : Options) (a : Accepts planes.Control ends.Radio (s .datalink) datagram f) where
   module _ {x : EndpointReply} {s′ : State} (h : PerformedWithAny (radio datagram) s x s′) where
     pub left : s′ ≡ heardBy (controlMeaning ends.Radio f) s
     unfolding after
     left = ap (λ (w : World). w .state) (h [] .world-is) ∙ rw (accepted-fits (lending s []) datagram fits, brings (s .datalink) datagram f a octets)
 
-    after-is : (index : ℕ) → index < s .count → getD (s′ .channels) index noChannel ≡ heardFrom (controlMeaning ends.Radio f) (getD (s .channels) index noChannel)
+    after-is : (index : ℕ) → index < length (s .channels) → getD (s′ .channels) index noChannel ≡ heardFrom (controlMeaning ends.Radio f) (getD (s .channels) index noChannel)
     unfolding channelAt
-    after-is index inside = rw left (heard-at (controlMeaning ends.Radio f) s full (fit s fits .few) index inside)
+    after-is index inside = rw left (heard-at (controlMeaning ends.Radio f) s index inside)
 
     -- THE PROMISE: every configured channel takes what the options of its own Channel ID state
     pub option-by-option : EachHears f s s′
     unfolding channelAt heardBy
     option-by-option = record {
       each = λ index inside.
-          let within = channel-fitting-at s full fits index inside in
+          let within = channel-fitting-at s fits index inside in
           rw (after-is index inside) (hears (s .datalink) datagram f a (getD (s .channels) index noChannel) (within .unreserved) (within .flow-fits));
-      count-stays = rw left;
+      count-stays = rw left (heard-count (controlMeaning ends.Radio f) s);
       datalink-stays = rw left;
     }
 
 -- ---- "Unconfigured channels are skipped."
 
-module _ (s : State) (full : length (s .channels) ≡ MOST-CHANNELS) (fits : stateFits s ≡ true)
+module _ (s : State) (fits : stateFits s ≡ true)
     (datagram other : List ℕ) (octets : Octets datagram) (octets′ : Octets other) (f g : Options)
     (a : Accepts planes.Control ends.Radio (s .datalink) datagram f) (b : Accepts planes.Control ends.Radio (s .datalink) other g)
     {x y : EndpointReply} {s′ t′ : State} (h : PerformedWithAny (radio datagram) s x s′) (k : PerformedWithAny (radio other) s y t′)
-    (index : ℕ) (inside : index < s .count) where
+    (index : ℕ) (inside : index < length (s .channels)) where
   abbrev own : ℕ
   own = getD (s .channels) index noChannel .setting .id
 
@@ -186,16 +185,16 @@ module _ (s : State) (full : length (s .channels) ≡ MOST-CHANNELS) (fits : sta
   pub own-options-only : ((kind : ℕ) (rest : List ℕ) → Holds kind (own ∷ rest) f ↔ Holds kind (own ∷ rest) g) → getD (s′ .channels) index noChannel ≡ getD (t′ .channels) index noChannel
   unfolding heardFrom heardOf channelAt
   own-options-only same =
-      let below : own < CHANNEL-IDS = channel-fitting-at s full fits index inside .unreserved in
+      let below : own < CHANNEL-IDS = channel-fitting-at s fits index inside .unreserved in
       let status : statusIn (controlMeaning ends.Radio f) own ≡ statusIn (controlMeaning ends.Radio g) own =
       status-in (s .datalink) datagram f a own below
       ∙ rw (said-alike 5 channel-status (s .datalink) datagram other f g a b own (same 5)) (sym (status-in (s .datalink) other g b own below)) in
       let window : windowIn (controlMeaning ends.Radio f) own ≡ windowIn (controlMeaning ends.Radio g) own =
       window-in (s .datalink) datagram f a own below
       ∙ rw (said-alike 6 flow-window (s .datalink) datagram other f g a b own (same 6)) (sym (window-in (s .datalink) other g b own below)) in
-      after-is s full fits datagram octets f a h index inside
+      after-is s fits datagram octets f a h index inside
       ∙ ap₂ (heardOf (getD (s .channels) index noChannel)) status window
-      ∙ sym (after-is s full fits other octets′ g b k index inside)
+      ∙ sym (after-is s fits other octets′ g b k index inside)
 
   -- so an option of a channel that isn't configured changes no channel
   pub other-channel-skipped : (kind n : ℕ) (rest : List ℕ) → (n ≡ own → ⊥) → g ≡ option kind (n ∷ rest) f → getD (s′ .channels) index noChannel ≡ getD (t′ .channels) index noChannel

@@ -10,7 +10,7 @@ use Rattle.meaning.specs.declared.message.ContextBytes.{ContextBytes}
 use Rattle.meaning.specs.declared.message.Context.{Context}
 use Rattle.meaning.specs.declared.message.Instance.{Instance}
 use Rattle.ips_radio.specs.declared.RadioAnswer.{RadioAnswer}
-use Rattle.ips_state.specs.declared.state.State.{State}
+use Rattle.ips_state.specs.State.{State}
 use Rattle.radio_laws.specs.OptionByOption.{Holds}
 
 -- Link Instance is type 3, Datalink Context type 4.

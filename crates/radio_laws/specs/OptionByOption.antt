@@ -4,13 +4,12 @@ use Prim.Native.Nat.{ℕ, _+_, _*_, _%_, _<_}
 use mathlib.Core.Bool.{true, false}
 use mathlib.Core.List.{List, [], _∷_}
 use mathlib.Core.Path.{_≡_}
-use lib.ListN.{getD}
+use lib.ListN.{length, getD}
 use Rattle.wire.specs.Options.{Options, option}
 use Rattle.meaning.specs.declared.message.Status.{Status}
 use Rattle.flow.specs.declared.Flow.{Flow}
 use Rattle.ips_channel.specs.declared.state.Channel.{Channel}
-use Rattle.ips_state.specs.declared.state.State.{State}
-use Rattle.ips_state.specs.Table.{noChannel}
+use Rattle.ips_state.specs.State.{State, noChannel}
 
 -- an option of this type with this content stands among the options
 pub data Holds (kind : ℕ) (content : List ℕ) : Options → Type 0 where
@@ -38,6 +37,6 @@ pub record Hears (options : Options) (before after : Channel) : Type 0 where
 
 -- "Radio control message accepted: a configured channel .. Unconfigured channels are skipped."
 pub record EachHears (options : Options) (s s′ : State) : Type 0 where
-  pub each : (index : ℕ) → index < s .count → Hears options (getD (s .channels) index noChannel) (getD (s′ .channels) index noChannel)
-  pub count-stays : s′ .count ≡ s .count
+  pub each : (index : ℕ) → index < length (s .channels) → Hears options (getD (s .channels) index noChannel) (getD (s′ .channels) index noChannel)
+  pub count-stays : length (s′ .channels) ≡ length (s .channels)
   pub datalink-stays : s′ .datalink ≡ s .datalink

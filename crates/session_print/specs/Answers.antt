@@ -6,7 +6,7 @@ use Rattle.text.specs.Strings.{bytesText}
 use Rattle.writer.specs.declared.answer.WriteAnswer.{WriteAnswer}
 use Rattle.ips_channel_calls.specs.declared.offering.OfferAnswer.{OfferAnswer}
 use Rattle.ips_channel_calls.specs.declared.asking.NextAnswer.{NextAnswer}
-use Rattle.ips_state.specs.declared.state.StartAnswer.{StartAnswer}
+use Rattle.ips_state.specs.declared.StartAnswer.{StartAnswer}
 use Rattle.ips_channel_calls.specs.declared.offering.WithdrawAnswer.{WithdrawAnswer}
 use Rattle.ips_radio.specs.declared.RadioAnswer.{RadioAnswer}
 use Rattle.message_words.specs.Phrases.{refusedTexts}

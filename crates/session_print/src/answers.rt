@@ -8,7 +8,7 @@ use ips_channel_calls::asking::NextAnswer;
 use ips_channel_calls::offering::OfferAnswer;
 use ips_channel_calls::offering::WithdrawAnswer;
 use ips_radio::RadioAnswer;
-use ips_state::state::StartAnswer;
+use ips_state::StartAnswer;
 use message_words::whole;
 use text::put;
 use text::put_bytes;

@@ -1,9 +1,7 @@
 -- Lines of docs/SESSION.md, word for word. Assumes nothing.
-use mathlib.Core.Bool.{true, false}
 use mathlib.Core.Path.{_≡_, refl}
 use mathlib.Core.List.{List, [], _∷_, _++_}
 use Prim.Native.Nat.{ℕ}
-use Rattle.quantity.specs.Limits.{MOST-CHANNELS}
 use Rattle.bytes.specs.Bytes.{indexOf}
 use Rattle.text.specs.Words.{headOf, tailOf}
 use Rattle.text.specs.Numbers.{digitOf, stepOf, followOf, bySize, plainOf, parseOf}
@@ -11,76 +9,69 @@ use Rattle.text.specs.Strings.{pairsOf, readableOf, hexedOf}
 use Rattle.line_rows.specs.Rows.{spellsOf, choiceOf, valueOf, bytesOf, behindOf, itemOf, itemsOf, listOf, lastNumber, itemOrListOf, leftOutOf, rowOf, readBy, goodBy}
 use Rattle.line_rows.specs.Tables.{namedOf, itemsLeft, commandOf, keyOf, itemsBehind, saidIn, keyIn}
 use Rattle.meaning.specs.declared.message.End.{End}
-use Rattle.ips_state.specs.declared.state.ChannelStart.{ChannelStart}
 use Rattle.session_read.specs.declared.asked.Asked.{Asked}
 use Rattle.session_read.specs.declared.asked.Command.{Command}
 use Rattle.session_read.specs.declared.start.StartWords.{StartWords}
 use Rattle.session_read.specs.Lines.{shortened, endOf, askedBy, startBy, askedOf, startOf}
-use Rattle.session_read.specs.Start.{channelStarts, storesOf, tabled, memoryOf, startFrom}
+use Rattle.session_read.specs.Start.{storesOf, memoryOf, startFrom}
 
 -- `read radio 7 0102`
 read : askedOf 2 (114 ∷ 101 ∷ 97 ∷ 100 ∷ 32 ∷ 114 ∷ 97 ∷ 100 ∷ 105 ∷ 111 ∷ 32 ∷ 55 ∷ 32 ∷ 48 ∷ 49 ∷ 48 ∷ 50 ∷ []) ≡ Asked.Read End.Radio 7
-unfolding indexOf headOf tailOf digitOf stepOf followOf bySize plainOf parseOf pairsOf readableOf hexedOf spellsOf choiceOf valueOf bytesOf behindOf itemOf itemsOf listOf lastNumber itemOrListOf leftOutOf rowOf readBy goodBy namedOf itemsLeft commandOf keyOf itemsBehind saidIn keyIn shortened endOf askedBy startBy askedOf startOf channelStarts storesOf memoryOf startFrom
+unfolding indexOf headOf tailOf digitOf stepOf followOf bySize plainOf parseOf pairsOf readableOf hexedOf spellsOf choiceOf valueOf bytesOf behindOf itemOf itemsOf listOf lastNumber itemOrListOf leftOutOf rowOf readBy goodBy namedOf itemsLeft commandOf keyOf itemsBehind saidIn keyIn shortened endOf askedBy startBy askedOf startOf storesOf memoryOf startFrom
 read = refl
 
 -- `echo ips 7 - radio 40`
 echo : askedOf 2 (101 ∷ 99 ∷ 104 ∷ 111 ∷ 32 ∷ 105 ∷ 112 ∷ 115 ∷ 32 ∷ 55 ∷ 32 ∷ 45 ∷ 32 ∷ 114 ∷ 97 ∷ 100 ∷ 105 ∷ 111 ∷ 32 ∷ 52 ∷ 48 ∷ []) ≡ Asked.Echo End.Ips 7 End.Radio 40
-unfolding indexOf headOf tailOf digitOf stepOf followOf bySize plainOf parseOf pairsOf readableOf hexedOf spellsOf choiceOf valueOf bytesOf behindOf itemOf itemsOf listOf lastNumber itemOrListOf leftOutOf rowOf readBy goodBy namedOf itemsLeft commandOf keyOf itemsBehind saidIn keyIn shortened endOf askedBy startBy askedOf startOf channelStarts storesOf memoryOf startFrom
+unfolding indexOf headOf tailOf digitOf stepOf followOf bySize plainOf parseOf pairsOf readableOf hexedOf spellsOf choiceOf valueOf bytesOf behindOf itemOf itemsOf listOf lastNumber itemOrListOf leftOutOf rowOf readBy goodBy namedOf itemsLeft commandOf keyOf itemsBehind saidIn keyIn shortened endOf askedBy startBy askedOf startOf storesOf memoryOf startFrom
 echo = refl
 
 -- `offer 3 100 200 0aff`
 offer : askedOf 2 (111 ∷ 102 ∷ 102 ∷ 101 ∷ 114 ∷ 32 ∷ 51 ∷ 32 ∷ 49 ∷ 48 ∷ 48 ∷ 32 ∷ 50 ∷ 48 ∷ 48 ∷ 32 ∷ 48 ∷ 97 ∷ 102 ∷ 102 ∷ []) ≡ Asked.State (Command.Offer 3 100 200)
-unfolding indexOf headOf tailOf digitOf stepOf followOf bySize plainOf parseOf pairsOf readableOf hexedOf spellsOf choiceOf valueOf bytesOf behindOf itemOf itemsOf listOf lastNumber itemOrListOf leftOutOf rowOf readBy goodBy namedOf itemsLeft commandOf keyOf itemsBehind saidIn keyIn shortened endOf askedBy startBy askedOf startOf channelStarts storesOf memoryOf startFrom
+unfolding indexOf headOf tailOf digitOf stepOf followOf bySize plainOf parseOf pairsOf readableOf hexedOf spellsOf choiceOf valueOf bytesOf behindOf itemOf itemsOf listOf lastNumber itemOrListOf leftOutOf rowOf readBy goodBy namedOf itemsLeft commandOf keyOf itemsBehind saidIn keyIn shortened endOf askedBy startBy askedOf startOf storesOf memoryOf startFrom
 offer = refl
 
 -- `offer 3 100 200 0aff`, with room for one byte only
 offer-long : askedOf 1 (111 ∷ 102 ∷ 102 ∷ 101 ∷ 114 ∷ 32 ∷ 51 ∷ 32 ∷ 49 ∷ 48 ∷ 48 ∷ 32 ∷ 50 ∷ 48 ∷ 48 ∷ 32 ∷ 48 ∷ 97 ∷ 102 ∷ 102 ∷ []) ≡ Asked.Bad
-unfolding indexOf headOf tailOf digitOf stepOf followOf bySize plainOf parseOf pairsOf readableOf hexedOf spellsOf choiceOf valueOf bytesOf behindOf itemOf itemsOf listOf lastNumber itemOrListOf leftOutOf rowOf readBy goodBy namedOf itemsLeft commandOf keyOf itemsBehind saidIn keyIn shortened endOf askedBy startBy askedOf startOf channelStarts storesOf memoryOf startFrom
+unfolding indexOf headOf tailOf digitOf stepOf followOf bySize plainOf parseOf pairsOf readableOf hexedOf spellsOf choiceOf valueOf bytesOf behindOf itemOf itemsOf listOf lastNumber itemOrListOf leftOutOf rowOf readBy goodBy namedOf itemsLeft commandOf keyOf itemsBehind saidIn keyIn shortened endOf askedBy startBy askedOf startOf storesOf memoryOf startFrom
 offer-long = refl
 
 -- `next 3 100 1500`
 next : askedOf 0 (110 ∷ 101 ∷ 120 ∷ 116 ∷ 32 ∷ 51 ∷ 32 ∷ 49 ∷ 48 ∷ 48 ∷ 32 ∷ 49 ∷ 53 ∷ 48 ∷ 48 ∷ []) ≡ Asked.State (Command.Next 3 100 1500)
-unfolding indexOf headOf tailOf digitOf stepOf followOf bySize plainOf parseOf pairsOf readableOf hexedOf spellsOf choiceOf valueOf bytesOf behindOf itemOf itemsOf listOf lastNumber itemOrListOf leftOutOf rowOf readBy goodBy namedOf itemsLeft commandOf keyOf itemsBehind saidIn keyIn shortened endOf askedBy startBy askedOf startOf channelStarts storesOf memoryOf startFrom
+unfolding indexOf headOf tailOf digitOf stepOf followOf bySize plainOf parseOf pairsOf readableOf hexedOf spellsOf choiceOf valueOf bytesOf behindOf itemOf itemsOf listOf lastNumber itemOrListOf leftOutOf rowOf readBy goodBy namedOf itemsLeft commandOf keyOf itemsBehind saidIn keyIn shortened endOf askedBy startBy askedOf startOf storesOf memoryOf startFrom
 next = refl
 
 -- `next 256 100 1500`
 next-high : askedOf 0 (110 ∷ 101 ∷ 120 ∷ 116 ∷ 32 ∷ 50 ∷ 53 ∷ 54 ∷ 32 ∷ 49 ∷ 48 ∷ 48 ∷ 32 ∷ 49 ∷ 53 ∷ 48 ∷ 48 ∷ []) ≡ Asked.Bad
-unfolding indexOf headOf tailOf digitOf stepOf followOf bySize plainOf parseOf pairsOf readableOf hexedOf spellsOf choiceOf valueOf bytesOf behindOf itemOf itemsOf listOf lastNumber itemOrListOf leftOutOf rowOf readBy goodBy namedOf itemsLeft commandOf keyOf itemsBehind saidIn keyIn shortened endOf askedBy startBy askedOf startOf channelStarts storesOf memoryOf startFrom
+unfolding indexOf headOf tailOf digitOf stepOf followOf bySize plainOf parseOf pairsOf readableOf hexedOf spellsOf choiceOf valueOf bytesOf behindOf itemOf itemsOf listOf lastNumber itemOrListOf leftOutOf rowOf readBy goodBy namedOf itemsLeft commandOf keyOf itemsBehind saidIn keyIn shortened endOf askedBy startBy askedOf startOf storesOf memoryOf startFrom
 next-high = refl
 
 -- `next 3 100 1500 `, with a space behind it
 next-more : askedOf 0 (110 ∷ 101 ∷ 120 ∷ 116 ∷ 32 ∷ 51 ∷ 32 ∷ 49 ∷ 48 ∷ 48 ∷ 32 ∷ 49 ∷ 53 ∷ 48 ∷ 48 ∷ 32 ∷ []) ≡ Asked.Bad
-unfolding indexOf headOf tailOf digitOf stepOf followOf bySize plainOf parseOf pairsOf readableOf hexedOf spellsOf choiceOf valueOf bytesOf behindOf itemOf itemsOf listOf lastNumber itemOrListOf leftOutOf rowOf readBy goodBy namedOf itemsLeft commandOf keyOf itemsBehind saidIn keyIn shortened endOf askedBy startBy askedOf startOf channelStarts storesOf memoryOf startFrom
+unfolding indexOf headOf tailOf digitOf stepOf followOf bySize plainOf parseOf pairsOf readableOf hexedOf spellsOf choiceOf valueOf bytesOf behindOf itemOf itemsOf listOf lastNumber itemOrListOf leftOutOf rowOf readBy goodBy namedOf itemsLeft commandOf keyOf itemsBehind saidIn keyIn shortened endOf askedBy startBy askedOf startOf storesOf memoryOf startFrom
 next-more = refl
 
 -- `nexta 3 100 1500`
 nexta : askedOf 0 (110 ∷ 101 ∷ 120 ∷ 116 ∷ 97 ∷ 32 ∷ 51 ∷ 32 ∷ 49 ∷ 48 ∷ 48 ∷ 32 ∷ 49 ∷ 53 ∷ 48 ∷ 48 ∷ []) ≡ Asked.Bad
-unfolding indexOf headOf tailOf digitOf stepOf followOf bySize plainOf parseOf pairsOf readableOf hexedOf spellsOf choiceOf valueOf bytesOf behindOf itemOf itemsOf listOf lastNumber itemOrListOf leftOutOf rowOf readBy goodBy namedOf itemsLeft commandOf keyOf itemsBehind saidIn keyIn shortened endOf askedBy startBy askedOf startOf channelStarts storesOf memoryOf startFrom
+unfolding indexOf headOf tailOf digitOf stepOf followOf bySize plainOf parseOf pairsOf readableOf hexedOf spellsOf choiceOf valueOf bytesOf behindOf itemOf itemsOf listOf lastNumber itemOrListOf leftOutOf rowOf readBy goodBy namedOf itemsLeft commandOf keyOf itemsBehind saidIn keyIn shortened endOf askedBy startBy askedOf startOf storesOf memoryOf startFrom
 nexta = refl
 
 -- `start 7 2 0 plain 0 1500 3 flow 4294967000 3000`
 abbrev line : List ℕ
 line = 115 ∷ 116 ∷ 97 ∷ 114 ∷ 116 ∷ 32 ∷ 55 ∷ 32 ∷ 50 ∷ 32 ∷ 48 ∷ 32 ∷ 112 ∷ 108 ∷ 97 ∷ 105 ∷ 110 ∷ 32 ∷ 48 ∷ 32 ∷ 49 ∷ 53 ∷ 48 ∷ 48 ∷ 32 ∷ 51 ∷ 32 ∷ 102 ∷ 108 ∷ 111 ∷ 119 ∷ 32 ∷ 52 ∷ 50 ∷ 57 ∷ 52 ∷ 57 ∷ 54 ∷ 55 ∷ 48 ∷ 48 ∷ 48 ∷ 32 ∷ 51 ∷ 48 ∷ 48 ∷ 48 ∷ []
 
-abbrev both : List ChannelStart
-both =
-    record { setting = record { id = 0; controlled = false; size = record { 0 = 1500 } }; first = record { 0 = 0 } }
-    ∷ record { setting = record { id = 3; controlled = true; size = record { 0 = 3000 } }; first = record { 0 = 4294967000 } }
-    ∷ []
-
 abbrev started : ℕ → StartWords
-started size = record { configuration = record { datalink = record { 0 = 7 }; starts = tabled MOST-CHANNELS both; count = 2 }; size = size }
+started memory = record { words = 10; channels = 2; memory = memory }
 
 stores : startOf 0 line ≡ started 4500
-unfolding indexOf headOf tailOf digitOf stepOf followOf bySize plainOf parseOf pairsOf readableOf hexedOf spellsOf choiceOf valueOf bytesOf behindOf itemOf itemsOf listOf lastNumber itemOrListOf leftOutOf rowOf readBy goodBy namedOf itemsLeft commandOf keyOf itemsBehind saidIn keyIn shortened endOf askedBy startBy askedOf startOf channelStarts storesOf memoryOf startFrom
+unfolding indexOf headOf tailOf digitOf stepOf followOf bySize plainOf parseOf pairsOf readableOf hexedOf spellsOf choiceOf valueOf bytesOf behindOf itemOf itemsOf listOf lastNumber itemOrListOf leftOutOf rowOf readBy goodBy namedOf itemsLeft commandOf keyOf itemsBehind saidIn keyIn shortened endOf askedBy startBy askedOf startOf storesOf memoryOf startFrom
 stores = refl
 
 -- with `memory 10` behind it
 memory : startOf 0 (line ++ (32 ∷ 109 ∷ 101 ∷ 109 ∷ 111 ∷ 114 ∷ 121 ∷ 32 ∷ 49 ∷ 48 ∷ [])) ≡ started 10
-unfolding indexOf headOf tailOf digitOf stepOf followOf bySize plainOf parseOf pairsOf readableOf hexedOf spellsOf choiceOf valueOf bytesOf behindOf itemOf itemsOf listOf lastNumber itemOrListOf leftOutOf rowOf readBy goodBy namedOf itemsLeft commandOf keyOf itemsBehind saidIn keyIn shortened endOf askedBy startBy askedOf startOf channelStarts storesOf memoryOf startFrom
+unfolding indexOf headOf tailOf digitOf stepOf followOf bySize plainOf parseOf pairsOf readableOf hexedOf spellsOf choiceOf valueOf bytesOf behindOf itemOf itemsOf listOf lastNumber itemOrListOf leftOutOf rowOf readBy goodBy namedOf itemsLeft commandOf keyOf itemsBehind saidIn keyIn shortened endOf askedBy startBy askedOf startOf storesOf memoryOf startFrom
 memory = refl
 
 -- with a word too many
 more : askedOf 0 (line ++ (32 ∷ 49 ∷ 48 ∷ [])) ≡ Asked.Bad
-unfolding indexOf headOf tailOf digitOf stepOf followOf bySize plainOf parseOf pairsOf readableOf hexedOf spellsOf choiceOf valueOf bytesOf behindOf itemOf itemsOf listOf lastNumber itemOrListOf leftOutOf rowOf readBy goodBy namedOf itemsLeft commandOf keyOf itemsBehind saidIn keyIn shortened endOf askedBy startBy askedOf startOf channelStarts storesOf memoryOf startFrom
+unfolding indexOf headOf tailOf digitOf stepOf followOf bySize plainOf parseOf pairsOf readableOf hexedOf spellsOf choiceOf valueOf bytesOf behindOf itemOf itemsOf listOf lastNumber itemOrListOf leftOutOf rowOf readBy goodBy namedOf itemsLeft commandOf keyOf itemsBehind saidIn keyIn shortened endOf askedBy startBy askedOf startOf storesOf memoryOf startFrom
 more = refl

@@ -37,11 +37,12 @@ module _ (line : List ℕ) {given lent : List ℕ} {told : Told} {numbers lent�
   pub read-bounded : Bounded (told .key) numbers
   read-bounded = record { within = subst (λ (n : ℕ → ℕ). Within (writtenOut 0 0 (rowOfKey (told .key) COMMANDS) n) n) (sym said-as) (reads-within read-as refl no-command) }
 
-  pub read-asks : {asked : Asked} {start : StartWords} → asked ≡ askedBy (told .key) (numbersIn numbers) → start ≡ startBy (told .key) (numbersIn numbers) → Asks lent line (record { asked = asked; bytes = told .bytes; start = start }) lent′
+  pub read-asks : {asked : Asked} {start : StartWords} → asked ≡ askedBy (told .key) (numbersIn numbers) → start ≡ startBy (told .key) (numbersIn numbers) → Asks lent line (record { asked = asked; bytes = told .bytes; start = start }) numbers lent′
   unfolding askedOf startOf
   read-asks f g = record {
     asked = f ∙ ap (λ (n : ℕ → ℕ). askedBy (told .key) n) said-as ∙ ap (λ (i : ℕ). askedBy i (numbersIn (saidBy (length lent) line .numbers))) (read-as .key);
     count = read-as .count;
     start = g ∙ ap (λ (n : ℕ → ℕ). startBy (told .key) n) said-as ∙ ap (λ (i : ℕ). startBy i (numbersIn (saidBy (length lent) line .numbers))) (read-as .key);
+    numbers = read-as .numbers;
     bytes = read-as .bytes;
   }

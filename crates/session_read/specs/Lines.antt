@@ -2,9 +2,9 @@
 use mathlib.Core.Bool.{cond}
 use mathlib.Core.List.{List, [], _∷_, _++_}
 use mathlib.Core.Path.{_≡_}
-use Prim.Native.Nat.{ℕ, _-_, _^_}
+use Prim.Native.Nat.{ℕ, _-_, _^_, _<_, _≤_}
 use lib.Dec.{eqb, ltb}
-use lib.ListN.{length, getD}
+use lib.ListN.{length, getD, replicate}
 use Rattle.line_rows.specs.Rows.{NUMBER, BYTES, LIST, OPTIONAL, keyText, Said, over}
 use Rattle.line_rows.specs.Tables.{command, saidIn, keyIn}
 use Rattle.line_rows.specs.Places.{rowOfKey, writtenOut, Within}
@@ -13,7 +13,8 @@ use Rattle.session_read.specs.declared.asked.Asked.{Asked}
 use Rattle.session_read.specs.declared.asked.Command.{Command}
 use Rattle.session_read.specs.declared.start.StartWords.{StartWords}
 use Rattle.session_read.specs.declared.line.Line.{Line}
-use Rattle.session_read.specs.Start.{startFrom, noStart}
+use Rattle.ips_words_start.specs.Start.{CONFIGURED-COUNT}
+use Rattle.session_read.specs.Start.{storeSaid, startFrom, noStart}
 
 -- ---- the words that a line may have
 -- `ips`
@@ -157,7 +158,7 @@ askedBy key n =
     (cond (eqb key KEPT) (Asked.State Command.Kept)
     Asked.Bad))))))))))
 
--- the configuration that `start` says; none for another line
+-- what the numbers of a `start` are; nothing for another line
 unfoldable pub startBy : ℕ → (ℕ → ℕ) → StartWords
 startBy key n = cond (eqb key START) (startFrom n) noStart
 
@@ -177,13 +178,19 @@ askedOf size line = askedBy (keyBy size line) (numbersIn (saidBy size line .numb
 unfoldable pub startOf : ℕ → List ℕ → StartWords
 startOf size line = startBy (keyBy size line) (numbersIn (saidBy size line .numbers))
 
--- what a line asks for; the bytes that it says stand at the start of the lent memory, which is as it was behind them
-pub record Asks (lent line : List ℕ) (r : Line) (lent′ : List ℕ) : Type 0 where
+-- what a line asks for; the numbers that it says stand at the start of the lent numbers, with zeros behind them, and the bytes at the start of the lent memory,
+-- which is as it was behind them
+pub record Asks (lent line : List ℕ) (r : Line) (numbers′ lent′ : List ℕ) : Type 0 where
   pub asked : r .asked ≡ askedOf (length lent) line
   pub count : r .bytes ≡ length (saidBy (length lent) line .bytes)
   pub start : r .start ≡ startOf (length lent) line
+  pub numbers : numbers′ ≡ over (saidBy (length lent) line .numbers) (replicate PLACES 0)
   pub bytes : lent′ ≡ over (saidBy (length lent) line .bytes) lent
 
 -- the numbers of a command are within their bounds
 pub record Bounded (key : ℕ) (numbers : List ℕ) : Type 0 where
   pub within : Within (writtenOut 0 0 (rowOfKey key COMMANDS) (numbersIn numbers)) (numbersIn numbers)
+
+pub record StartFits (n : ℕ → ℕ) : Type 0 where
+  pub few : n CONFIGURED-COUNT ≤ MOST-SETTINGS
+  pub each : (index : ℕ) → index < n CONFIGURED-COUNT → storeSaid n index ≤ MOST-ROOM

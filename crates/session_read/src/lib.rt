@@ -9,3 +9,4 @@ pub use asked::Command;
 pub use line::Line;
 pub use line::read;
 pub use start::StartWords;
+pub use table::PLACES;

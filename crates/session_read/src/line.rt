@@ -11,7 +11,7 @@ use crate::table::PLACES;
 // "It may be 140,000 bytes long."
 const LONGEST_LINE: usize = 140000;
 
-// What a line asks for, how many bytes it says, and the configuration that it says if it is a `start`.
+// What a line asks for, how many bytes it says, and what its numbers are if it is a `start`.
 pub struct Line {
     pub asked: Asked,
     pub bytes: usize,
@@ -28,14 +28,14 @@ fn short(line: &[u8]) -> &[u8]
     line
 }
 
-// Reads a line; the bytes that it says are laid at the start of the lent memory.
-pub fn read(line: &[u8], lent: &mut [u8]) -> Line
-    ensures { λ r. ⌜ Asks (now (lent .entry)) (now (line .entry)) r (now (lent .exit)) ⌝ }
+// Reads a line. The numbers that it says stand at the start of the lent numbers, zeros behind them; the bytes stand at the start of the lent memory.
+pub fn read(line: &[u8], numbers: &mut [u64; PLACES], lent: &mut [u8]) -> Line
+    ensures { λ r. ⌜ Asks (now (lent .entry)) (now (line .entry)) r (now (numbers .exit)) (now (lent .exit)) ⌝ }
 {
-    let mut numbers = [0u64; PLACES];
-    let told = line_rows::read(short(line), &COMMANDS, &mut numbers, lent);
-    let asked = asks(told.key, &numbers);
-    let start = starts(told.key, &numbers);
+    *numbers = [0u64; PLACES];
+    let told = line_rows::read(short(line), &COMMANDS, numbers, lent);
+    let asked = asks(told.key, numbers);
+    let start = starts(told.key, numbers);
     Line {
         asked,
         bytes: told.bytes,

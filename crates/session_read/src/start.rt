@@ -1,138 +1,70 @@
-// The configuration that `start` says.
+// What the numbers of a `start` line are: the configuration's words, and behind them the length of the memory if it is said.
 ghost use mathlib.Core.Path.{_≡_};
-ghost use Prim.Native.Nat.{_+_, _^_, _<_, _≤_};
-ghost use mathlib.Core.List.{[]};
-ghost use Rattle.session_read.specs.Lines.{numbersIn, startBy, PLACES, Bounded};
-ghost use Rattle.session_read.specs.Start.{channelStart, ChannelStartFits, noChannelStart, joinedOf, gatheredOf, channelsSaid, StartFits, memoryOf, startFrom, noStart};
+ghost use Rattle.ips_words_start.specs.Start.{CONFIGURED-COUNT, configurationLength};
+ghost use Rattle.session_read.specs.Lines.{numbersIn, startBy, Bounded, StartFits};
+ghost use Rattle.session_read.specs.Start.{storesOf, memoryOf, startFrom, noStart};
 use crate::table::PLACES;
 use crate::table::START;
-use ips_channel::state::Setting;
-use ips_state::state::ChannelStart;
-use ips_state::state::Configuration;
-use quantity::count::ByteCount;
-use quantity::count::DatalinkId;
-use quantity::count::FlowSequence;
-use quantity::limit::MOST_CHANNELS;
+use ips_words_start::layout::CONFIGURATION_HEAD;
+use ips_words_start::layout::CONFIGURATION_SLOT;
+use ips_words_start::layout::CONFIGURED_COUNT;
+use ips_words_start::layout::START_SIZE;
 
-// The channels' words: the first of them, and the length of all stores together.
-struct Gathered {
-    starts: [ChannelStart; MOST_CHANNELS],
-    total: usize,
-}
-
-// The configuration and the length of the lent memory.
+// How many of the line's numbers are the configuration's words, how many channels they have, and how long the lent memory is.
 pub struct StartWords {
-    pub configuration: Configuration,
-    pub size: usize,
+    pub words: usize,
+    pub channels: usize,
+    pub memory: usize,
 }
 
-// `CHANNEL KIND FIRST STORE`, from a place on.
-fn channel(n: &[u64; PLACES], at: usize) -> ChannelStart
-    requires { ⌜ at + 4 ≤ PLACES ⌝ }
-    requires { ⌜ ChannelStartFits (numbersIn (now n)) at ⌝ }
-    ensures { λ r. ⌜ r ≡ channelStart (numbersIn (now (n .entry))) at ⌝ }
-{
-    ChannelStart {
-        setting: Setting {
-            id: n[at] as u8,
-            controlled: n[at + 1] == 1,
-            size: ByteCount(n[at + 3] as usize),
-        },
-        first: FlowSequence(n[at + 2] as u32),
-    }
-}
-
-// A place that no channel has.
-fn no_channel() -> ChannelStart
-    ensures { λ r. ⌜ r ≡ noChannelStart ⌝ }
-{
-    ChannelStart {
-        setting: Setting {
-            id: 0,
-            controlled: false,
-            size: ByteCount(0),
-        },
-        first: FlowSequence(0),
-    }
-}
-
-// No channel yet.
-fn none() -> Gathered
-    ensures { λ r. ⌜ r ≡ gatheredOf [] ⌝ }
-{
-    let starts = [no_channel(); MOST_CHANNELS];
-    Gathered { starts, total: 0 }
-}
-
-// One channel more; the table keeps those that it has a place for.
-fn joined(before: Gathered, index: usize, channel: ChannelStart) -> Gathered
-    requires { ⌜ before .total + channel .setting .size .0 < 2 ^ 64 ⌝ }
-    ensures { λ r. ⌜ r ≡ joinedOf before index channel ⌝ }
-{
-    let mut after = before;
-    let size = channel.setting.size;
-    after.total = before.total + size.0;
-    if index < MOST_CHANNELS {
-        after.starts[index] = channel;
-    }
-    after
-}
-
-// The channels, one behind another.
-fn gather(n: &[u64; PLACES]) -> Gathered
+// The length of all stores together.
+fn stores(n: &[u64; PLACES]) -> usize
     requires { ⌜ StartFits (numbersIn (now n)) ⌝ }
-    ensures { λ r. ⌜ r ≡ gatheredOf (channelsSaid (numbersIn (now (n .entry)))) ⌝ }
+    ensures { λ r. ⌜ r ≡ storesOf (numbersIn (now (n .entry))) (numbersIn (now (n .entry)) CONFIGURED-COUNT) ⌝ }
 {
-    let count = n[1] as usize;
-    let mut gathered = none();
+    let count = n[CONFIGURED_COUNT] as usize;
+    let mut total: usize = 0;
     let mut index = 0;
     while index < count {
-        gathered = joined(gathered, index, channel(n, index * 4 + 2));
+        let from = CONFIGURATION_HEAD + CONFIGURATION_SLOT * index;
+        total += n[from + START_SIZE] as usize;
         index += 1;
     }
-    gathered
+    total
 }
 
-// The length of the lent memory.
-fn memory(n: &[u64; PLACES], total: usize) -> usize
+// The length of the lent memory: behind the configuration's words stands whether the line says it, and then what it says.
+fn memory(n: &[u64; PLACES], words: usize) -> usize
     requires { ⌜ StartFits (numbersIn (now n)) ⌝ }
-    ensures { λ r. ⌜ r ≡ memoryOf (numbersIn (now (n .entry))) total ⌝ }
+    requires { ⌜ words ≡ configurationLength (numbersIn (now n) CONFIGURED-COUNT) ⌝ }
+    ensures { λ r. ⌜ r ≡ memoryOf (numbersIn (now (n .entry))) ⌝ }
 {
-    let at = n[1] as usize * 4 + 2;
-    if n[at] == 1 {
-        return n[at + 1] as usize;
+    if n[words] == 1 {
+        return n[words + 1] as usize;
     }
-    total
+    stores(n)
 }
 
 fn started(n: &[u64; PLACES]) -> StartWords
     requires { ⌜ StartFits (numbersIn (now n)) ⌝ }
     ensures { λ r. ⌜ r ≡ startFrom (numbersIn (now (n .entry))) ⌝ }
 {
-    let gathered = gather(n);
-    let starts = gathered.starts;
-    let size = memory(n, gathered.total);
+    let channels = n[CONFIGURED_COUNT] as usize;
+    let words = CONFIGURATION_HEAD + CONFIGURATION_SLOT * channels;
     StartWords {
-        configuration: Configuration {
-            datalink: DatalinkId(n[0] as u8),
-            starts,
-            count: n[1] as usize,
-        },
-        size,
+        words,
+        channels,
+        memory: memory(n, words),
     }
 }
 
 fn not_started() -> StartWords
     ensures { λ r. ⌜ r ≡ noStart ⌝ }
 {
-    let starts = [no_channel(); MOST_CHANNELS];
     StartWords {
-        configuration: Configuration {
-            datalink: DatalinkId(0),
-            starts,
-            count: 0,
-        },
-        size: 0,
+        words: 0,
+        channels: 0,
+        memory: 0,
     }
 }
 

@@ -58,7 +58,7 @@ const MOST_ROOM: u64 = 1048576;
 const MOST_SETTINGS: u64 = 80;
 
 // No line says more numbers.
-pub(crate) const PLACES: usize = 324;
+pub const PLACES: usize = 324;
 
 pub(crate) const COMMANDS: [u64; 82] = [
     // read END ID HEX

@@ -124,7 +124,7 @@ module _ (t : ℕ) (q : Queue) (index start : ℕ) (i : Seeking t (waiting q) (d
       none : (s : List ℕ) → alive t (cut (waiting q) s) ≡ []
       none s = sym (i .passed s) ∙ rw d
 
--- ---- `well_formed`
+-- ---- a queue judged entry by entry, as number 19 asks
 pub record Judging (es left : List Entry) (bytes index : ℕ) : Type 0 where
   pub most : bytes ≤ LONGEST-PACKET * index
   pub summed : bytes + total left ≡ total es

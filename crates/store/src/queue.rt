@@ -5,12 +5,10 @@ ghost use Prim.Native.Nat.{_≤_, _<_};
 ghost use lib.ListN.{drop};
 ghost use Rattle.quantity.specs.Limits.{MOST-WAITING};
 ghost use Rattle.store.specs.Packets.{lastsAt};
-ghost use Rattle.store.specs.Waiting.{waiting, listed, queueOf, within, wellFormed};
+ghost use Rattle.store.specs.Waiting.{waiting, listed, queueOf};
 ghost use Rattle.store.specs.Parts.{kept, appended, amountOf, Countable, IsFirst};
 use quantity::count::ByteCount;
-use quantity::limit::LONGEST_PACKET;
 use quantity::limit::MOST_WAITING;
-use quantity::limit::SHORTEST_PACKET;
 
 pub struct Entry {
     pub length: ByteCount,
@@ -52,13 +50,6 @@ pub(crate) fn lasts(entry: Entry, time: u64) -> bool
     ensures { λ r. ⌜ r ≡ lastsAt time (entry .expiry) ⌝ }
 {
     time < entry.expiry
-}
-
-// Whether a length is within the limits of a packet.
-fn is_within(bytes: ByteCount) -> bool
-    ensures { λ r. ⌜ r ≡ within (bytes .0) ⌝ }
-{
-    SHORTEST_PACKET <= bytes.0 && bytes.0 <= LONGEST_PACKET
 }
 
 // One entry more.
@@ -140,26 +131,4 @@ pub(crate) fn first(queue: Queue, time: u64) -> Front
         end: start,
         behind: at,
     }
-}
-
-// Whether a queue is one that a store of this size can have.
-pub fn well_formed(queue: Queue, size: ByteCount) -> bool
-    ensures { λ r. ⌜ r ≡ wellFormed queue (size .0) ⌝ }
-{
-    let count = queue.count;
-    if count > MOST_WAITING {
-        return false;
-    }
-    let mut bytes = 0;
-    let mut at = 0;
-    while at < count {
-        let entry = queue.entries[at];
-        let length = entry.length;
-        if !is_within(length) {
-            return false;
-        }
-        bytes += length.0;
-        at += 1;
-    }
-    bytes <= size.0
 }

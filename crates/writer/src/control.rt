@@ -17,7 +17,7 @@ use write_option::size;
 use write_option::table;
 
 // Version 1, the control plane.
-const HEADER: u8 = 16;
+pub const HEADER: u8 = 16;
 
 // The message's length: nothing is written before it is known to fit.
 fn size(message: Control) -> usize

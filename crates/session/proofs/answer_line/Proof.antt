@@ -13,7 +13,7 @@ about-state-requires : tie.Need-about-state-requires
 about-state-requires c κs = search needs
 
 first-requires : tie.Need-first-requires
-first-requires c κs = bytes-within (c .before .before .before .before .before .before .before .read .ensures)
+first-requires c κs = bytes-within (c .before .before .before .before .before .before .before .before .read .ensures)
 
 state-line-requires : tie.Need-state-line-requires
 state-line-requires c κs = search needs
@@ -30,11 +30,16 @@ same-length-3 c = search needs
 same-length-4 : tie.Need-same-length-4
 same-length-4 c = search needs
 
+same-length-5 : tie.Need-same-length-5
+same-length-5 c = search needs
+
 returns : tie.Need-returns
-returns c = answers-state (c .before .before .before .before .before .before .before .before .before .before .before .before .before .before .before .before .before .read .ensures) _ (sym (c .before .before .before .before .before .before .before .before .before .before .before .before .before .about-state .ensures) ∙ c .before .before .before .before .before .before .before .before .before .before .before .before .if1 .taken)
+returns c =
+    let tested = c .before .before .before .before .before .before .before .before .before .before .before .before .before .before .before .before in
+    answers-state (tested .before .before .before .before .read .ensures) _ (sym (tested .before .about-state .ensures) ∙ tested .if1 .taken)
 
 first-requires-2 : tie.Need-first-requires-2
-first-requires-2 c κs = bytes-within (c .before .before .before .before .before .before .read .ensures)
+first-requires-2 c κs = bytes-within (c .before .before .before .before .before .read .ensures)
 
 message-requires : tie.Need-message-requires
 message-requires c κs = search needs
@@ -42,17 +47,20 @@ message-requires c κs = search needs
 kept-requires : tie.Need-kept-requires
 kept-requires c κs = search needs
 
-same-length-5 : tie.Need-same-length-5
-same-length-5 c = search needs
-
 same-length-6 : tie.Need-same-length-6
 same-length-6 c = search needs
 
 same-length-7 : tie.Need-same-length-7
 same-length-7 c = search needs
 
+same-length-8 : tie.Need-same-length-8
+same-length-8 c = search needs
+
 returns-2 : tie.Need-returns-2
-returns-2 c = rw (c .kept .ensures) (answers-message (c .before .before .before .before .before .before .before .before .before .before .before .before .before .before .before .read .ensures) _ (c .before .before .before .before .before .before .before .before .first2 .ensures) (c .before .before .before .before .before .message .ensures))
+returns-2 c =
+    let message = c .before .before .before .before .before in
+    let first = message .before .before .before in
+    rw (c .kept .ensures) (answers-message (first .before .before .before .before .before .before .read .ensures) _ (first .first2 .ensures) (message .message .ensures))
 
 pub answer-line-spec : {M : Type 1} → statement M
 answer-line-spec =
@@ -66,11 +74,12 @@ answer-line-spec =
     same-length-2
     same-length-3
     same-length-4
+    same-length-5
     returns
     first-requires-2
     message-requires
     kept-requires
-    same-length-5
     same-length-6
     same-length-7
+    same-length-8
     returns-2)

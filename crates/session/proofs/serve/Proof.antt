@@ -8,11 +8,11 @@ use Rattle.session.proofs.serve.Statement.{statement}
 use Rattle.session.proofs.serve.Tie as tie
 
 abbrev Inv-loop : tie.InvT-loop
-Inv-loop buffer₀ memory₀ lent₀ output₀ out₀ held₀ input₀ turns₀ t13 buffer memory lent output out held input turns =
-    (length buffer ≡ length buffer₀) × (length memory ≡ length memory₀) × (length lent ≡ length lent₀) × (length output ≡ length output₀) × (length out ≡ length out₀)
+Inv-loop buffer₀ words₀ memory₀ lent₀ output₀ out₀ held₀ input₀ turns₀ t14 buffer words memory lent output out held input turns =
+    (length buffer ≡ length buffer₀) × (length words ≡ length words₀) × (length memory ≡ length memory₀) × (length lent ≡ length lent₀) × (length output ≡ length output₀) × (length out ≡ length out₀)
 
 abbrev μ-loop : tie.MeasureT-loop
-μ-loop buffer₀ memory₀ lent₀ output₀ out₀ held₀ input₀ turns₀ t13 buffer memory lent output out held input turns =
+μ-loop buffer₀ words₀ memory₀ lent₀ output₀ out₀ held₀ input₀ turns₀ t14 buffer words memory lent output out held input turns =
     turns
 
 inside : (c : tie.After-known-told Inv-loop μ-loop) → let line = c .before .from .given .0 in (line .0 ≤ line .1 .0) × (line .1 .0 ≤ length (c .before .before .before .before .before .before .loop .buffer))
@@ -63,6 +63,9 @@ same-length-4 c = search needs
 same-length-5 : tie.Need-same-length-5 Inv-loop μ-loop
 same-length-5 c = search needs
 
+same-length-6 : tie.Need-same-length-6 Inv-loop μ-loop
+same-length-6 c = search needs
+
 returns : tie.Need-returns Inv-loop μ-loop
 returns c = search needs
 
@@ -70,13 +73,13 @@ enum-known-from : tie.Need-enum-known-from Inv-loop μ-loop
 enum-known-from c = search needs
 
 sub-say : tie.Need-sub-say Inv-loop μ-loop
-sub-say c = inside (c .before) .0
+sub-say c = inside (c .before .before) .0
 
 part-say-start : tie.Need-part-say-start Inv-loop μ-loop
-part-say-start c = inside (c .before .before) .0
+part-say-start c = inside (c .before .before .before) .0
 
 part-say-end : tie.Need-part-say-end Inv-loop μ-loop
-part-say-end c = inside (c .before .before) .1
+part-say-end c = inside (c .before .before .before) .1
 
 say-requires : tie.Need-say-requires Inv-loop μ-loop
 say-requires c κs = search needs
@@ -102,9 +105,6 @@ loop-less-3 c = search needs
 loop-again-3 : tie.Need-loop-again-3 Inv-loop μ-loop
 loop-again-3 c = search needs
 
-same-length-6 : tie.Need-same-length-6 Inv-loop μ-loop
-same-length-6 c = search needs
-
 same-length-7 : tie.Need-same-length-7 Inv-loop μ-loop
 same-length-7 c = search needs
 
@@ -116,6 +116,12 @@ same-length-9 c = search needs
 
 same-length-10 : tie.Need-same-length-10 Inv-loop μ-loop
 same-length-10 c = search needs
+
+same-length-11 : tie.Need-same-length-11 Inv-loop μ-loop
+same-length-11 c = search needs
+
+same-length-12 : tie.Need-same-length-12 Inv-loop μ-loop
+same-length-12 c = search needs
 
 returns-2 : tie.Need-returns-2 Inv-loop μ-loop
 returns-2 c = search needs
@@ -141,6 +147,7 @@ serve-spec =
     same-length-3
     same-length-4
     same-length-5
+    same-length-6
     returns
     enum-known-from
     sub-say
@@ -154,9 +161,10 @@ serve-spec =
     say-requires-2
     loop-less-3
     loop-again-3
-    same-length-6
     same-length-7
     same-length-8
     same-length-9
     same-length-10
+    same-length-11
+    same-length-12
     returns-2)

@@ -1,66 +1,79 @@
 -- `call::next_at` meets its contract. Assumes nothing.
-use Prim.Native.Nat.{_+_, _≤_, _<_}
-use mathlib.Core.Path.{_≡_, refl}
+use Prim.Native.Nat.{_+_, _≤_}
+use mathlib.Core.Path.{_≡_, sym, _∙_}
 use native.Mathlib.Omega.{arith}
 use borrow.Author.Needs.{needs}
-use lib.ListN.{length, getD}
-use Rattle.facts.proofs.Lists.{length-mapped}
-use Rattle.quantity.specs.Limits.{MOST-CHANNELS}
-use Rattle.ips_state.specs.Table.{noChannel, withChannel}
-use Rattle.endpoint.proofs.Calling.{read, inside-table, store-ends, ready, performed-at}
+use lib.ListN.{length}
+use Rattle.ips_state.specs.State.{State}
+use Rattle.ips_words.specs.Words.{stateIn}
+use Rattle.endpoint.proofs.Placing.{head-told, says-so}
+use Rattle.endpoint.proofs.Calling.{state-fits, placed, store-ends, ready, kept-at, saved-at}
 use Rattle.endpoint.proofs.call.next_at.Statement.{statement}
 use Rattle.endpoint.proofs.call.next_at.Tie as tie
 
-full : (c : tie.Start) → length (c .args .state .channels) ≡ MOST-CHANNELS
-full c = search (length-mapped, needs)
+abbrev start : tie.After-load → tie.Start
+start c = c .before .before .before .before .before .before .before
 
-inside : (c : tie.Start) → c .args .found .index < MOST-CHANNELS
-inside c = inside-table _ _ (c .pre) (full c)
+datalink-requires : tie.Need-datalink-requires
+datalink-requires c κs = head-told _ (state-fits _ _ (c .before .before .before .before .pre))
 
-ends : (c : tie.Start) → c .args .found .start + getD (c .args .state .channels) (c .args .found .index) noChannel .setting .size .0 ≤ length (c .args .memory .now)
-ends c = store-ends _ _ (c .pre) (full c) _ (read _ _)
+named : (c : tie.After-datalink) → let start = c .before .before .before .before .before in c .datalink .result ≡ stateIn (start .args .words .now) .datalink
+named c = says-so _ (state-fits _ _ (c .before .before .before .before .before .pre)) (λ (s : State). s .datalink) _ (c .datalink .ensures)
 
-mul-channel : tie.Need-mul-channel
-mul-channel c = omega (arith, inside (c .before .before))
+load-requires : tie.Need-load-requires
+load-requires c κs = placed _ _ (c .before .before .before .before .before .before .pre)
 
-element-copy-out-channel : tie.Need-element-copy-out-channel
-element-copy-out-channel c = inside (c .before .before)
+ends : (c : tie.After-load) → start c .args .found .start + c .load .result .setting .size .0 ≤ length (start c .args .memory .now)
+ends c = store-ends _ _ (start c .pre) _ (c .load .ensures)
 
 add-end : tie.Need-add-end
-add-end c = omega (arith, ends (c .before .before .before .before .before .before))
+add-end c = omega (arith, ends (c .before .before))
 
 part-next-end : tie.Need-part-next-end
-part-next-end c = ends (c .before .before .before .before .before .before .before)
+part-next-end c = ends (c .before .before)
 
 next-requires : tie.Need-next-requires
-next-requires c κs = let start = c .before .before .before .before .before .before .before .before .before in ready _ _ (start .pre) (full start) _ (read _ _)
-
-mul-after : tie.Need-mul-after
-mul-after c = omega (arith, inside (c .before .before .before .before .before .before .before .before .before .before .before .before .before .before .before))
-
-element-set-from-after : tie.Need-element-set-from-after
-element-set-from-after c = inside (c .before .before .before .before .before .before .before .before .before .before .before .before .before .before .before)
+next-requires c κs = let loaded = c .before .before .before .before in ready _ _ (start loaded .pre) _ (loaded .load .ensures)
 
 returns : tie.Need-returns
-unfolding withChannel
 returns c =
-    let called = c .before .before .before .before .before in
-    let start = called .before .before .before .before .before .before .before .before .before .before in
-    performed-at _ _ (start .pre) (full start) _ (read _ _) _ _ _ _ (called .next .ensures) _ refl
+    let told = c .before in
+    let asked = told .before .before .before .before .before in
+    let loaded = asked .before .before .before .before .before in
+    let datalink = named (loaded .before .before) in
+    kept-at _ _ (start loaded .pre) _ (loaded .load .ensures) _ _ _ _ (rw datalink at (asked .next .ensures)) (sym (told .next-refused .ensures) ∙ c .if1 .taken)
+
+save-requires : tie.Need-save-requires
+save-requires c κs = placed _ _ (start (c .before .before .before .before .before .before .before .before .before .before .before .before .before) .pre)
+
+returns-2 : tie.Need-returns-2
+returns-2 c =
+    let saved = c .before .before in
+    let other = saved .before .before .before in
+    let told = other .before in
+    let asked = told .before .before .before .before .before in
+    let loaded = asked .before .before .before .before .before in
+    let datalink = named (loaded .before .before) in
+    saved-at _ _ (start loaded .pre) _ (loaded .load .ensures) _ _ _ _ (rw datalink at (asked .next .ensures)) (sym (told .next-refused .ensures) ∙ other .if1 .left) _ (saved .save .ensures)
 
 pub next-at-spec : {M : Type 1} → statement M
 next-at-spec =
     tie.close
     (tie.spec
-    mul-channel
-    element-copy-out-channel
+    datalink-requires
+    load-requires
     add-end
     (λ c. search needs)
     (λ c. search needs)
     part-next-end
     next-requires
-    mul-after
-    element-set-from-after
+    (λ c κs. search needs)
     (λ c. search needs)
     (λ c. search needs)
-    returns)
+    (λ c. search needs)
+    returns
+    save-requires
+    (λ c. search needs)
+    (λ c. search needs)
+    (λ c. search needs)
+    returns-2)

@@ -2,28 +2,39 @@
 use mathlib.Core.Path.{sym, _∙_}
 use borrow.Author.Needs.{needs}
 use denote.Ref.{now}
-use Rattle.endpoint.proofs.Finding.{Finds, place-found}
-use Rattle.endpoint.specs.Calls.{lending}
+use Rattle.endpoint.specs.Lent.{lent, worldIn}
+use Rattle.ips_words_survey.proofs.Finding.{Finds, place-found}
 use Rattle.endpoint.proofs.Calling.{performed-found, performed-refused}
 use Rattle.endpoint.proofs.call.withdraw.Statement.{statement}
 use Rattle.endpoint.proofs.call.withdraw.Tie as tie
 
 abbrev start : tie.After-find → tie.Start
-start c = c .before .before
+start c = c .before .before .before .before
 
-finds : (c : tie.After-found) → let begun = start (c .before .before) .args in Finds (lending (begun .state) (now (begun .memory))) (begun .id) (c .found .given .0 .0)
+finds : (c : tie.After-found) → let begun = start (c .before .before) .args in Finds (worldIn (lent (now (begun .words)) (now (begun .memory)))) (begun .id) (c .found .given .0 .0)
 finds c = place-found _ _ _ (sym (c .before .before .find .ensures) ∙ c .found .given .1)
 
 withdraw-at-requires : tie.Need-withdraw-at-requires
-withdraw-at-requires c κs = finds (c .before .before) .located
+withdraw-at-requires c κs = finds (c .before .before .before) .located
 
 returns : tie.Need-returns
 returns c =
-    let called = c .before .before in
-    performed-found _ _ _ (finds (called .before .before .before)) _ _ _ (called .withdraw-at .ensures)
+    let called = c .before .before .before .before in
+    performed-found _ _ _ (finds (called .before .before .before .before)) _ _ _ (called .withdraw-at .ensures)
 
 returns-2 : tie.Need-returns-2
 returns-2 c = performed-refused _ _ _ (sym (c .before .before .before .find .ensures) ∙ c .before .number .given .1) _
 
 pub withdraw-spec : {M : Type 1} → statement M
-withdraw-spec = tie.close (tie.spec (λ c κs. search needs) (λ c. search needs) withdraw-at-requires (λ c. search needs) (λ c. search needs) returns returns-2)
+withdraw-spec =
+    tie.close
+    (tie.spec
+    (λ c κs. search needs)
+    (λ c. search needs)
+    withdraw-at-requires
+    (λ c. search needs)
+    (λ c. search needs)
+    (λ c. search needs)
+    returns
+    (λ c. search needs)
+    returns-2)

@@ -3,35 +3,25 @@ use mathlib.Core.Bool.{true}
 use mathlib.Core.Path.{_≡_}
 use borrow.Author.Needs.{needs}
 use borrow.Author.Tests.{not-true, not-false}
+use denote.Ref.{now}
 use Rattle.ips_state.specs.Limits.{stateFits}
-use Rattle.endpoint.proofs.Finding.{survey-unfit, survey-fits}
-use Rattle.endpoint.proofs.Querying.{query-unfit, query-written}
+use Rattle.ips_words.specs.Words.{stateIn}
+use Rattle.ips_words_survey.proofs.Finding.{survey-unfit, survey-fits}
+use Rattle.endpoint.proofs.Hearing.{asked-unfit, asked-written}
 use Rattle.endpoint.proofs.queries.query.Statement.{statement}
 use Rattle.endpoint.proofs.queries.query.Tie as tie
 
-fits : (c : tie.Else1) → stateFits (c .before .before .before .before .args .state) ≡ true
-fits c = survey-fits _ _ _ (c .before .before .survey-state .ensures) (not-false _ (c .if1 .left))
+fits : (c : tie.Else1) → stateFits (stateIn (now (c .before .before .before .before .before .args .words))) ≡ true
+fits c = survey-fits _ _ _ (c .before .before .survey-words .ensures) (not-false _ (c .if1 .left))
 
 returns : tie.Need-returns
-returns c memory = query-unfit _ _ _ memory (survey-unfit _ _ _ (c .before .before .before .survey-state .ensures) (not-true _ (c .before .if1 .taken))) (c .refused .ensures)
+returns c = asked-unfit _ _ _ (survey-unfit _ _ _ (c .before .before .before .survey-words .ensures) (not-true _ (c .before .if1 .taken))) (c .refused .ensures)
 
-message-requires : tie.Need-message-requires
-message-requires c κs = fits c
+write-requires : tie.Need-write-requires
+write-requires c κs = fits (c .before)
 
 returns-2 : tie.Need-returns-2
-returns-2 c memory =
-    let written = c .before .before in
-    let asked = written .before .before in
-    query-written _ _ _ memory (fits (asked .before)) _ (asked .message .ensures) _ (written .write .ensures)
+returns-2 c = let written = c .before .before in asked-written _ _ _ (fits (written .before .before)) _ (written .write .ensures)
 
 pub query-spec : {M : Type 1} → statement M
-query-spec =
-    tie.close
-    (tie.spec
-    (λ c κs. search needs)
-    (λ c κs. search needs)
-    returns
-    message-requires
-    (λ c κs. search needs)
-    (λ c. search needs)
-    returns-2)
+query-spec = tie.close (tie.spec (λ c κs. search needs) (λ c κs. search needs) returns write-requires (λ c. search needs) returns-2)

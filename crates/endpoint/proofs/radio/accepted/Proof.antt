@@ -1,14 +1,26 @@
 -- `radio::accepted` meets its contract. Assumes nothing.
-use mathlib.Core.Path.{sym, _∙_}
 use borrow.Author.Needs.{needs}
+use Rattle.endpoint.proofs.Placing.{head-told}
+use Rattle.endpoint.proofs.Hearing.{message-heard}
 use Rattle.endpoint.proofs.radio.accepted.Statement.{statement}
 use Rattle.endpoint.proofs.radio.accepted.Tie as tie
 
+context-requires : tie.Need-context-requires
+context-requires c κs = head-told _ (c .before .before .pre) .0
+
 returns : tie.Need-returns
-returns c = let due = c .before in rw (sym (due .is-due .ensures) ∙ c .if1 .taken, due .before .hear .ensures)
+returns c =
+    let due = c .before in
+    let heard = due .before .before .before in
+    let last = heard .before .before in
+    message-heard _ _ (last .before .before .before .pre) _ (last .context .ensures) _ (due .is-due .ensures) _ (rw (c .if1 .taken)) _ (heard .hear .ensures)
 
 returns-2 : tie.Need-returns-2
-returns-2 c = let due = c .before in rw (sym (due .is-due .ensures) ∙ c .if1 .left, due .before .hear .ensures)
+returns-2 c =
+    let due = c .before in
+    let heard = due .before .before .before in
+    let last = heard .before .before in
+    message-heard _ _ (last .before .before .before .pre) _ (last .context .ensures) _ (due .is-due .ensures) _ (rw (c .if1 .left)) _ (heard .hear .ensures)
 
 pub accepted-spec : {M : Type 1} → statement M
-accepted-spec = tie.close (tie.spec (λ c κs. search needs) (λ c κs. search needs) returns returns-2)
+accepted-spec = tie.close (tie.spec context-requires (λ c κs. search needs) (λ c κs. search needs) (λ c. search needs) returns (λ c. search needs) returns-2)

@@ -4,24 +4,18 @@ use Rattle.endpoint.proofs.radio.control.Statement.{statement}
 use Rattle.endpoint.proofs.radio.control.Tie as tie
 
 returns : tie.Need-returns
-returns c = rw (c .before .enum-told .given .1) (c .accepted .ensures)
+returns c =
+    let heard = c .before .before in
+    let told = heard .before .before .enum-told .given .1 in
+    record { answer-is = rw told (heard .accepted .ensures .answer-is); words-are = rw told (heard .accepted .ensures .words-are) }
 
 returns-2 : tie.Need-returns-2
-returns-2 c = rw (c .before .enum-told2 .given .1) (c .passed .ensures)
+returns-2 c = let told = c .enum-told2 .given .1 in record { answer-is = rw told; words-are = rw told }
 
 returns-3 : tie.Need-returns-3
-returns-3 c = rw (c .before .before .verdict .given .1) (c .refused .ensures)
+returns-3 c = let told = c .before .verdict .given .1 in record { answer-is = rw told; words-are = rw told }
 
 pub control-spec : {M : Type 1} → statement M
 control-spec =
     tie.close
-    (tie.spec
-    (λ c. search needs)
-    (λ c κs. search needs)
-    (λ c. search needs)
-    (λ c κs. search needs)
-    (λ c. search needs)
-    (λ c κs. search needs)
-    returns
-    returns-2
-    returns-3)
+    (tie.spec (λ c. search needs) (λ c κs. search needs) (λ c. search needs) (λ c. search needs) (λ c. search needs) returns returns-2 returns-3)

@@ -10,23 +10,30 @@ short-requires c κs = search needs
 slice-aggregate-read : tie.Need-slice-aggregate-read
 slice-aggregate-read c = search needs
 
-slice-aggregate-read-2 : tie.Need-slice-aggregate-read-2
-slice-aggregate-read-2 c = search needs
-
 read-requires : tie.Need-read-requires
 read-requires c κs = search needs
 
 asks-requires : tie.Need-asks-requires
-asks-requires c κs = read-bounded (c .before .before .before .before .before .before .before .before .before .before .before .args .line .now) (c .before .before .before .before .before .before .before .before .short .ensures) (c .before .before .before .before .read .ensures)
+asks-requires c κs =
+    let read = c .before .before .before in
+    let short = read .before .before .before .before in
+    read-bounded (short .before .before .before .before .args .line .now) (short .short .ensures) (read .read .ensures)
 
 starts-requires : tie.Need-starts-requires
-starts-requires c κs = read-bounded (c .before .before .before .before .before .before .before .before .before .before .before .before .before .args .line .now) (c .before .before .before .before .before .before .before .before .before .before .short .ensures) (c .before .before .before .before .before .before .read .ensures)
+starts-requires c κs =
+    let read = c .before .before .before .before .before in
+    let short = read .before .before .before .before in
+    read-bounded (short .before .before .before .before .args .line .now) (short .short .ensures) (read .read .ensures)
 
 same-length : tie.Need-same-length
 same-length c = search needs
 
 returns : tie.Need-returns
-returns c = read-asks (c .before .before .before .before .before .before .before .before .before .before .before .before .before .before .args .line .now) (c .before .before .before .before .before .before .before .before .before .before .before .short .ensures) (c .before .before .before .before .before .before .before .read .ensures) (c .before .before .asks .ensures) (c .starts .ensures)
+returns c =
+    let asks = c .before .before in
+    let read = asks .before .before .before .before in
+    let short = read .before .before .before .before in
+    read-asks (short .before .before .before .before .args .line .now) (short .short .ensures) (read .read .ensures) (asks .asks .ensures) (c .starts .ensures)
 
 pub read-spec : {M : Type 1} → statement M
 read-spec =
@@ -34,7 +41,6 @@ read-spec =
     (tie.spec
     short-requires
     slice-aggregate-read
-    slice-aggregate-read-2
     read-requires
     asks-requires
     starts-requires

@@ -1,0 +1,233 @@
+// A plain endpoint by document 01: a Vec of channels, the plain reader. It shares no code with the proved one, but its writer knew that one.
+#![allow(dead_code)]
+use super::channel::{Channel, Next};
+use super::library::*;
+use super::message::{read_control, read_data, End, OtherPlane, Refused};
+use super::script::{Calls, Setup};
+
+const MOST_CHANNELS: usize = 16;
+
+struct Endpoint {
+    datalink: u8,
+    // In configuration order, and the same by rising Channel ID.
+    channels: Vec<Channel>,
+    rising: Vec<usize>,
+    instance: Option<(u64, usize)>,
+    context: Option<(u64, usize)>,
+    // Whether each call looks for number 19. Nobody else can change what is in here, so that a Rust program would leave the test out.
+    tests: bool,
+}
+
+fn name_fits(name: Option<(u64, usize)>) -> bool {
+    name.is_none_or(|(number, length)| (1..=8).contains(&length) && (length == 8 || number >> (8 * length) == 0))
+}
+
+// No call is put into its caller, as none of the linked library is.
+impl Endpoint {
+    fn start(setup: &Setup, memory: &mut [u8], tests: bool) -> Result<Endpoint, u8> {
+        let channels: Vec<Channel> = setup.starts.iter().map(|start| Channel::new(start.id, start.controlled, start.size, start.first)).collect();
+        let mut rising: Vec<usize> = (0..channels.len()).collect();
+        rising.sort_by_key(|at| channels[*at].id);
+        let endpoint = Endpoint { datalink: setup.datalink, channels, rising, instance: None, context: None, tests };
+        if !endpoint.fits() || endpoint.size() != memory.len() {
+            return Err(19);
+        }
+        memory.fill(0);
+        Ok(endpoint)
+    }
+
+    fn size(&self) -> usize {
+        self.channels.iter().map(|channel| channel.size).sum()
+    }
+
+    fn fits(&self) -> bool {
+        let mut seen = [false; 256];
+        for channel in &self.channels {
+            if !channel.fits() || seen[channel.id as usize] {
+                return false;
+            }
+            seen[channel.id as usize] = true;
+        }
+        (1..=MOST_CHANNELS).contains(&self.channels.len()) && seen[0] && name_fits(self.instance) && name_fits(self.context)
+    }
+
+    // 19, 12, then the channel with its store.
+    fn find<'a>(&mut self, id: u8, memory: &'a mut [u8]) -> Result<(&mut Channel, &'a mut [u8]), u8> {
+        if self.tests && !self.fits() {
+            return Err(19);
+        }
+        let mut found = None;
+        let mut total = 0;
+        for (at, channel) in self.channels.iter().enumerate() {
+            if channel.id == id {
+                found = Some((at, total));
+            }
+            total += channel.size;
+        }
+        if total != memory.len() {
+            return Err(19);
+        }
+        let Some((at, start)) = found else {
+            return Err(12);
+        };
+        let channel = &mut self.channels[at];
+        let size = channel.size;
+        Ok((channel, &mut memory[start..start + size]))
+    }
+
+    #[inline(never)]
+    fn offer(&mut self, memory: &mut [u8], id: u8, packet: &[u8], expiry: u64, time: u64) -> Result<(), u8> {
+        let (channel, store) = self.find(id, memory)?;
+        channel.offer(store, packet, expiry, time)
+    }
+
+    #[inline(never)]
+    fn next(&mut self, memory: &mut [u8], id: u8, time: u64, out: &mut [u8]) -> Result<Next, u8> {
+        let datalink = self.datalink;
+        let (channel, store) = self.find(id, memory)?;
+        channel.next(store, datalink, time, out)
+    }
+
+    #[inline(never)]
+    fn withdraw(&mut self, memory: &mut [u8], id: u8) -> Result<(), u8> {
+        let (channel, store) = self.find(id, memory)?;
+        channel.withdraw(store);
+        Ok(())
+    }
+
+    // Whether a mobility message is due; or a number with its place.
+    #[inline(never)]
+    fn hand_in(&mut self, datagram: &[u8]) -> Result<bool, (u8, usize)> {
+        if self.tests && !self.fits() {
+            return Err((19, 0));
+        }
+        match read_control(datagram, End::Radio, self.datalink) {
+            Ok(message) => {
+                for channel in &mut self.channels {
+                    let at = channel.id as usize;
+                    channel.hear(message.statuses[at], message.windows[at]);
+                }
+                if message.instance.is_some() {
+                    self.instance = message.instance;
+                }
+                let due = message.context.is_some() && message.context != self.context;
+                if due {
+                    self.context = message.context;
+                }
+                Ok(due)
+            }
+            Err(Refused(number, place)) => Err((number, place)),
+            Err(OtherPlane) => match read_data(datagram, End::Radio, self.datalink) {
+                Err(Refused(number, place)) => Err((number, place)),
+                _ => Ok(false),
+            },
+        }
+    }
+
+    #[inline(never)]
+    fn query(&self, out: &mut [u8]) -> Result<usize, u8> {
+        if self.tests && !self.fits() {
+            return Err(19);
+        }
+        let length = 5 + 8 * self.channels.iter().filter(|channel| channel.controlled).count();
+        if length > out.len() {
+            return Err(18);
+        }
+        out[..5].copy_from_slice(&[16, 1, 0, 1, self.datalink]);
+        let mut at = 5;
+        for channel in self.rising.iter().map(|place| &self.channels[*place]).filter(|channel| channel.controlled) {
+            out[at..at + 4].copy_from_slice(&[134, 0, 5, channel.id]);
+            out[at + 4..at + 8].copy_from_slice(&channel.sequence.to_be_bytes());
+            at += 8;
+        }
+        Ok(length)
+    }
+}
+
+// ---- its answers as the library's numbers
+
+fn plainly(kind: u64) -> Answer {
+    Answer { kind, value: 0 }
+}
+
+fn refused(number: u8, place: usize) -> Answer {
+    Answer { kind: REFUSED + number as u64, value: place as u64 }
+}
+
+pub struct Plain {
+    setup: Setup,
+    tests: bool,
+    // None where the start was refused: every call is refused by 19 then.
+    started: Option<Endpoint>,
+}
+
+impl Plain {
+    pub fn new(setup: &Setup, tests: bool) -> Plain {
+        Plain { setup: setup.clone(), tests, started: None }
+    }
+}
+
+impl Calls for Plain {
+    fn start(&mut self, memory: &mut [u8]) -> Answer {
+        match Endpoint::start(&self.setup, memory, self.tests) {
+            Ok(endpoint) => {
+                self.started = Some(endpoint);
+                plainly(STARTED)
+            }
+            Err(number) => refused(number, 0),
+        }
+    }
+
+    fn offer(&mut self, memory: &mut [u8], id: u8, packet: &[u8], expiry: u64, time: u64) -> Answer {
+        match &mut self.started {
+            Some(endpoint) => match endpoint.offer(memory, id, packet, expiry, time) {
+                Ok(()) => plainly(TAKEN),
+                Err(number) => refused(number, 0),
+            },
+            None => refused(19, 0),
+        }
+    }
+
+    fn next(&mut self, memory: &mut [u8], id: u8, time: u64, out: &mut [u8]) -> Answer {
+        match &mut self.started {
+            Some(endpoint) => match endpoint.next(memory, id, time, out) {
+                Ok(Next::Sent(length)) => Answer { kind: SENT, value: length as u64 },
+                Ok(Next::NothingWaiting) => plainly(NOTHING_WAITING),
+                Ok(Next::NotOperational) => plainly(NOT_OPERATIONAL),
+                Ok(Next::WindowShut) => plainly(WINDOW_SHUT),
+                Err(number) => refused(number, 0),
+            },
+            None => refused(19, 0),
+        }
+    }
+
+    fn withdraw(&mut self, memory: &mut [u8], id: u8) -> Answer {
+        match &mut self.started {
+            Some(endpoint) => match endpoint.withdraw(memory, id) {
+                Ok(()) => plainly(WITHDRAWN),
+                Err(number) => refused(number, 0),
+            },
+            None => refused(19, 0),
+        }
+    }
+
+    fn radio(&mut self, datagram: &[u8]) -> Answer {
+        match &mut self.started {
+            Some(endpoint) => match endpoint.hand_in(datagram) {
+                Ok(due) => plainly(if due { DUE } else { ACCEPTED }),
+                Err((number, place)) => refused(number, place),
+            },
+            None => refused(19, 0),
+        }
+    }
+
+    fn query(&mut self, out: &mut [u8]) -> Answer {
+        match &self.started {
+            Some(endpoint) => match endpoint.query(out) {
+                Ok(length) => Answer { kind: WROTE, value: length as u64 },
+                Err(number) => refused(number, 0),
+            },
+            None => refused(19, 0),
+        }
+    }
+}

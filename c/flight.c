@@ -1,0 +1,131 @@
+/*
+ * flight: the sample flight of docs/FLIGHT.md by calls of the library, as a router makes them. Three channels, 0 and 5
+ * plain, 3 flow-controlled; it prints what each call comes to, in the session page's words. No memory but what stands here.
+ */
+#include <inttypes.h>
+#include <stdio.h>
+
+#include "nespovarda.h"
+
+#define COUNT(array) (sizeof(array) / sizeof *(array))
+#define CHANNELS 3
+#define STORE NESPOVARDA_SMALLEST_STORE
+
+static uint64_t words[NESPOVARDA_STATE_WORDS(CHANNELS)];
+static uint8_t memory[CHANNELS * STORE];
+static uint8_t out[100];
+
+static void say(nespovarda_answer answer)
+{
+    static const char *const kinds[] = {
+        [NESPOVARDA_STARTED] = "started", [NESPOVARDA_TAKEN] = "taken", [NESPOVARDA_SENT] = "sent ",
+        [NESPOVARDA_NOTHING_WAITING] = "nothing waiting", [NESPOVARDA_NOT_OPERATIONAL] = "not operational",
+        [NESPOVARDA_WINDOW_SHUT] = "window shut", [NESPOVARDA_WITHDRAWN] = "withdrawn",
+        [NESPOVARDA_ACCEPTED] = "accepted", [NESPOVARDA_DUE] = "accepted due", [NESPOVARDA_WROTE] = "query ",
+    };
+    if (answer.kind > NESPOVARDA_REFUSED)
+        printf("refused %" PRIu64 " %" PRIu64, answer.kind - NESPOVARDA_REFUSED, answer.value);
+    else if (answer.kind < COUNT(kinds) && kinds[answer.kind] != NULL)
+        fputs(kinds[answer.kind], stdout);
+    if (answer.kind == NESPOVARDA_SENT || answer.kind == NESPOVARDA_WROTE)
+        for (uint64_t i = 0; i < answer.value; i++)
+            printf("%02x", out[i]);
+    putchar('\n');
+}
+
+static void start(void)
+{
+    static const uint64_t configuration[] = {
+        7, CHANNELS, /* the Datalink ID; then Channel ID, kind, first Flow Sequence and length of its store */
+        0, NESPOVARDA_PLAIN, 0, STORE,
+        3, NESPOVARDA_CONTROLLED, 4294967230, STORE,
+        5, NESPOVARDA_PLAIN, 0, STORE,
+    };
+    say(nespovarda_start(words, COUNT(words), memory, sizeof memory, configuration, COUNT(configuration)));
+}
+
+/* A bare IPv6 header, told from the others by its last byte. */
+static void offer(uint8_t channel, uint64_t time, uint64_t expiry, uint8_t last)
+{
+    const uint8_t packet[40] = {0x60, [6] = 59, [7] = 64, [8] = 0xfd, [23] = 1, [24] = 0xfd, [39] = last};
+    say(nespovarda_offer(words, COUNT(words), memory, sizeof memory, channel, packet, sizeof packet, expiry, time));
+}
+
+static void next(uint8_t channel, uint64_t time, size_t room)
+{
+    say(nespovarda_next(words, COUNT(words), memory, sizeof memory, channel, time, out, room));
+}
+
+static void show(uint8_t channel)
+{
+    uint64_t at[NESPOVARDA_CHANNEL_NUMBERS], packet[NESPOVARDA_WAITING_NUMBERS];
+    nespovarda_answer answer = nespovarda_show(words, COUNT(words), channel, at);
+    if (answer.kind != NESPOVARDA_SHOWN) {
+        say(answer);
+        return;
+    }
+    printf("channel %d ", channel);
+    if (at[NESPOVARDA_SHOWN_REPORTED])
+        printf("%" PRIu64 " ", at[NESPOVARDA_SHOWN_STATUS]);
+    else
+        fputs("- ", stdout);
+    if (at[NESPOVARDA_SHOWN_FLOW] == NESPOVARDA_IN_FORCE)
+        printf("%" PRIu64 " ", at[NESPOVARDA_SHOWN_WINDOW]);
+    else
+        fputs(at[NESPOVARDA_SHOWN_FLOW] == NESPOVARDA_FREE ? "free " : "none ", stdout);
+    printf("%" PRIu64 " %" PRIu64 " %" PRIu64, at[NESPOVARDA_SHOWN_SEQUENCE], at[NESPOVARDA_SHOWN_LATEST],
+           at[NESPOVARDA_SHOWN_WAITING]);
+    for (uint64_t i = 0; nespovarda_waiting(words, COUNT(words), channel, i, packet).kind == NESPOVARDA_SHOWN; i++)
+        printf(" %" PRIu64 " %" PRIu64, packet[NESPOVARDA_WAITING_LENGTH], packet[NESPOVARDA_WAITING_EXPIRY]);
+    putchar('\n');
+}
+
+/* A radio control message of Datalink 7, and the options behind it: type, length in two bytes, content. */
+#define RADIO(options) \
+    say(nespovarda_radio(words, COUNT(words), (const uint8_t *)("\x10\1\0\1\7" options), sizeof("\x10\1\0\1\7" options) - 1))
+#define CONTEXT(letters) "\4\0\2" letters
+#define STATUS(channel, status) "\5\0\2" channel status
+#define WINDOW(channel, window) "\6\0\5" channel window
+#define WINDOW_WITHDRAWN(channel) "\6\0\1" channel
+
+int main(void)
+{
+    start();
+    offer(0, 1000, 9000, 1);
+    next(0, 1000, 100);
+    RADIO(CONTEXT("EU") STATUS("\0", "\7") STATUS("\3", "\x08") STATUS("\5", "\xf3") WINDOW("\3", "\0\0\0\x2c"));
+    next(0, 1010, 100);
+    show(5);
+    offer(3, 1010, 9000, 2);
+    next(3, 1020, 100);
+    RADIO(CONTEXT("EU") STATUS("\0", "\7") STATUS("\3", "\7") WINDOW("\3", "\0\0\0\x2c"));
+    show(5);
+
+    offer(3, 1030, 9000, 3);
+    offer(3, 1030, 9000, 4);
+    next(3, 1040, 100);
+    next(3, 1050, 100);
+    show(3);
+    next(3, 1060, 100);
+    RADIO(STATUS("\0", "\7") STATUS("\3", "\7") WINDOW("\3", "\xff\xff\xff\xfa"));
+    next(3, 1070, 100);
+    RADIO(STATUS("\0", "\7") STATUS("\3", "\7") WINDOW("\3", "\0\0\0\x36"));
+    next(3, 1080, 59);
+    next(3, 1080, 60);
+
+    offer(3, 2000, 9000, 5);
+    offer(3, 2000, 2500, 6);
+    offer(3, 2000, 9000, 7);
+    RADIO(STATUS("\0", "\7") STATUS("\3", "\7") WINDOW("\3", "\0\0\4\x1e"));
+    next(3, 2010, 100);
+    RADIO(STATUS("\0", "\7") STATUS("\3", "\7") WINDOW_WITHDRAWN("\3"));
+    next(3, 2500, 100);
+    show(3);
+    RADIO(STATUS("\0", "\7") STATUS("\3", "\7") WINDOW("\3", "\0\0\0\x64"));
+    next(3, 2510, 100);
+    RADIO(CONTEXT("US") STATUS("\0", "\7") STATUS("\3", "\7"));
+    next(3, 2520, 100);
+    show(3);
+    say(nespovarda_query(words, COUNT(words), out, sizeof out));
+    return 0;
+}

@@ -1,0 +1,631 @@
+/*
+ * replay: answers a script of the session page (docs/SESSION.md) as the program `session` does, each line by calls of the
+ * library alone. c/replay-stored compares the two on the stored script.
+ */
+#define _POSIX_C_SOURCE 200809L /* getline */
+
+#include <inttypes.h>
+#include <stdbool.h>
+#include <stdio.h>
+#include <stdlib.h>
+#include <string.h>
+
+#include "nespovarda.h"
+
+/* What a line may hold. */
+#define LONGEST_LINE 140000
+#define LARGEST_ID 255
+#define LARGEST_SEQUENCE 4294967295u
+#define LARGEST_LENGTH 1048576
+#define MOST_READ 80 /* channels of a start */
+#define START_WORDS 2
+#define MEMORY_WORDS 2
+#define MOST_WORDS (START_WORDS + NESPOVARDA_CONFIGURATION_SLOT * MOST_READ + MEMORY_WORDS) /* behind the first */
+
+struct word {
+    const char *text;
+    size_t length;
+};
+
+struct bytes {
+    uint8_t *at;
+    size_t length;
+};
+
+/* A state and its memory: no words before the first start. */
+struct session {
+    uint64_t *words;
+    size_t words_length;
+    uint8_t *memory;
+    size_t memory_length;
+};
+
+/* ---- Memory for one line, each piece as long as asked and no longer, so that a memory checker sees a byte too far ---- */
+
+#define MOST_LENT 4
+
+static void *lent[MOST_LENT];
+static size_t lent_count;
+
+static void *allocate(size_t size)
+{
+    void *memory = malloc(size == 0 ? 1 : size);
+    if (memory == NULL) {
+        fputs("replay: no memory\n", stderr);
+        exit(2);
+    }
+    return memory;
+}
+
+static void *lend(size_t size)
+{
+    if (lent_count == MOST_LENT)
+        abort();
+    return lent[lent_count++] = allocate(size);
+}
+
+static void take_back(void)
+{
+    while (lent_count > 0)
+        free(lent[--lent_count]);
+}
+
+/* ---- Words of a line: false where a word isn't as the page has it ---- */
+
+static bool is(struct word word, const char *text)
+{
+    return word.length == strlen(text) && memcmp(word.text, text, word.length) == 0;
+}
+
+/* A decimal number from 0 to the largest, without needless zeros in front. */
+static bool read_number(struct word word, uint64_t largest, uint64_t *number)
+{
+    if (word.length == 0 || (word.length > 1 && word.text[0] == '0'))
+        return false;
+    *number = 0;
+    for (size_t i = 0; i < word.length; i++) {
+        if (word.text[i] < '0' || word.text[i] > '9')
+            return false;
+        uint64_t digit = (uint64_t)(word.text[i] - '0');
+        if (digit > largest || *number > (largest - digit) / 10)
+            return false;
+        *number = *number * 10 + digit;
+    }
+    return true;
+}
+
+static bool read_id(struct word word, uint8_t *id)
+{
+    uint64_t number;
+    if (!read_number(word, LARGEST_ID, &number))
+        return false;
+    *id = (uint8_t)number;
+    return true;
+}
+
+/* The value of a hexadecimal digit, or -1. */
+static int digit_of(char character)
+{
+    if (character >= '0' && character <= '9')
+        return character - '0';
+    if (character >= 'a' && character <= 'f')
+        return character - 'a' + 10;
+    return -1;
+}
+
+static bool read_bytes(struct word word, struct bytes *bytes)
+{
+    bool none = is(word, "-");
+    if (!none && (word.length == 0 || word.length % 2 != 0))
+        return false;
+    bytes->length = none ? 0 : word.length / 2;
+    bytes->at = lend(bytes->length);
+    for (size_t i = 0; i < bytes->length; i++) {
+        int high = digit_of(word.text[2 * i]);
+        int low = digit_of(word.text[2 * i + 1]);
+        if (high < 0 || low < 0)
+            return false;
+        bytes->at[i] = (uint8_t)(16 * high + low);
+    }
+    return true;
+}
+
+/* An output of so many bytes. */
+static bool read_room(struct word word, struct bytes *out)
+{
+    uint64_t room;
+    if (!read_number(word, LARGEST_LENGTH, &room))
+        return false;
+    out->length = (size_t)room;
+    out->at = lend(out->length);
+    return true;
+}
+
+static bool read_end(struct word word, uint8_t *end)
+{
+    *end = is(word, "radio") ? NESPOVARDA_RADIO_END : NESPOVARDA_IPS_END;
+    return is(word, "ips") || is(word, "radio");
+}
+
+static bool read_kind(struct word word, uint64_t *kind)
+{
+    *kind = is(word, "flow") ? NESPOVARDA_CONTROLLED : NESPOVARDA_PLAIN;
+    return is(word, "plain") || is(word, "flow");
+}
+
+/* ---- Answers ---- */
+
+static void say_bytes(const uint8_t *bytes, size_t length)
+{
+    static const char digits[] = "0123456789abcdef";
+    if (length == 0)
+        putchar('-');
+    for (size_t i = 0; i < length; i++) {
+        putchar(digits[bytes[i] >> 4]);
+        putchar(digits[bytes[i] & 15]);
+    }
+}
+
+/* An answer without a message; one that no line has an answer for shows as its numbers. */
+static void say(nespovarda_answer answer)
+{
+    static const char *const words[] = {
+        [NESPOVARDA_STARTED] = "started",
+        [NESPOVARDA_TAKEN] = "taken",
+        [NESPOVARDA_NOTHING_WAITING] = "nothing waiting",
+        [NESPOVARDA_NOT_OPERATIONAL] = "not operational",
+        [NESPOVARDA_WINDOW_SHUT] = "window shut",
+        [NESPOVARDA_WITHDRAWN] = "withdrawn",
+        [NESPOVARDA_ACCEPTED] = "accepted",
+        [NESPOVARDA_DUE] = "accepted due",
+    };
+    if (answer.kind > NESPOVARDA_REFUSED)
+        printf("refused %" PRIu64 " %" PRIu64, answer.kind - NESPOVARDA_REFUSED, answer.value);
+    else if (answer.kind < sizeof words / sizeof *words && words[answer.kind] != NULL && answer.value == 0)
+        fputs(words[answer.kind], stdout);
+    else
+        printf("answer %" PRIu64 " %" PRIu64, answer.kind, answer.value);
+}
+
+/* An answer of a kind that has a message in the output, behind a word; or another one. */
+static void say_message(nespovarda_answer answer, uint64_t kind, const char *word, struct bytes out)
+{
+    if (answer.kind != kind || answer.value > out.length) {
+        say(answer);
+        return;
+    }
+    printf("%s ", word);
+    say_bytes(out.at, (size_t)answer.value);
+}
+
+static void say_link(uint64_t length, uint64_t value)
+{
+    printf(" link %" PRIu64 " %" PRIu64, length, value);
+}
+
+/* A Context is given as the number that its bytes spell, big-endian. */
+static void say_context(uint64_t length, uint64_t value)
+{
+    uint8_t bytes[NESPOVARDA_LONGEST_NAME];
+    if (length > sizeof bytes)
+        abort();
+    for (uint64_t i = 0; i < length; i++)
+        bytes[i] = (uint8_t)(value >> 8 * (length - 1 - i));
+    fputs(" context ", stdout);
+    say_bytes(bytes, (size_t)length);
+}
+
+/* ---- Lines about messages ---- */
+
+/* A message that was read: its meaning, or its parts where it is a data message. */
+struct message {
+    struct bytes datagram;
+    uint8_t end;
+    uint8_t datalink;
+    bool is_data;
+    uint64_t *meaning;
+    uint64_t *parts;
+};
+
+/* `END ID HEX` */
+static bool read_words(const struct word *words, struct message *message)
+{
+    return read_end(words[0], &message->end) && read_id(words[1], &message->datalink) &&
+           read_bytes(words[2], &message->datagram);
+}
+
+static nespovarda_answer read_message(struct message *message)
+{
+    struct bytes datagram = message->datagram;
+    message->meaning = lend(NESPOVARDA_CONTROL_WORDS * sizeof(uint64_t));
+    message->parts = lend(NESPOVARDA_DATA_WORDS * sizeof(uint64_t));
+    nespovarda_answer answer = nespovarda_read_control(datagram.at, datagram.length, message->end, message->datalink,
+                                                       message->meaning, NESPOVARDA_CONTROL_WORDS);
+    message->is_data = answer.kind == NESPOVARDA_OTHER_PLANE;
+    if (!message->is_data)
+        return answer;
+    return nespovarda_read_data(datagram.at, datagram.length, message->end, message->datalink, message->parts,
+                                NESPOVARDA_DATA_WORDS);
+}
+
+/* The packet of a data message that was read: a stretch of its datagram. */
+static struct bytes packet_of(const struct message *message)
+{
+    uint64_t start = message->parts[NESPOVARDA_PACKET_START];
+    uint64_t length = message->parts[NESPOVARDA_PACKET_LENGTH];
+    if (start > message->datagram.length || length > message->datagram.length - start)
+        abort();
+    return (struct bytes){message->datagram.at + start, (size_t)length};
+}
+
+/* What is stated of each Channel ID under one tag. */
+static void say_channels(const uint64_t *meaning, const char *word, size_t tag, size_t value, bool is_window)
+{
+    const uint64_t *of = meaning + NESPOVARDA_CONTROL_HEAD;
+    for (int id = 0; id < NESPOVARDA_CHANNEL_IDS; id++, of += NESPOVARDA_CHANNEL_WORDS) {
+        if (of[tag] == NESPOVARDA_ABSENT)
+            continue;
+        if (is_window && of[tag] == NESPOVARDA_FIELD_EMPTY)
+            printf(" %s %d none", word, id);
+        else
+            printf(" %s %d %" PRIu64, word, id, of[value]);
+    }
+}
+
+static void say_control(const uint64_t *meaning)
+{
+    printf("control %" PRIu64, meaning[NESPOVARDA_DATALINK_VALUE]);
+    if (meaning[NESPOVARDA_INSTANCE_TAG] == NESPOVARDA_GIVEN)
+        say_link(meaning[NESPOVARDA_INSTANCE_LENGTH], meaning[NESPOVARDA_INSTANCE_VALUE]);
+    if (meaning[NESPOVARDA_CONTEXT_TAG] == NESPOVARDA_GIVEN)
+        say_context(meaning[NESPOVARDA_CONTEXT_LENGTH], meaning[NESPOVARDA_CONTEXT_VALUE]);
+    say_channels(meaning, "status", NESPOVARDA_STATUS_TAG, NESPOVARDA_STATUS_VALUE, false);
+    say_channels(meaning, "sequence", NESPOVARDA_SEQUENCE_TAG, NESPOVARDA_SEQUENCE_VALUE, false);
+    say_channels(meaning, "window", NESPOVARDA_WINDOW_TAG, NESPOVARDA_WINDOW_VALUE, true);
+}
+
+static void say_data(const struct message *message)
+{
+    const uint64_t *parts = message->parts;
+    struct bytes packet = packet_of(message);
+    printf("data %" PRIu64, parts[NESPOVARDA_DATALINK_VALUE]);
+    if (parts[NESPOVARDA_COUNTED_TAG] == NESPOVARDA_GIVEN)
+        printf(" sequence %" PRIu64 " %" PRIu64, parts[NESPOVARDA_COUNTED_CHANNEL], parts[NESPOVARDA_COUNTED_SEQUENCE]);
+    if (parts[NESPOVARDA_CHANNEL_TAG] == NESPOVARDA_GIVEN)
+        printf(" channel %" PRIu64, parts[NESPOVARDA_CHANNEL_VALUE]);
+    if (parts[NESPOVARDA_EXPIRATION_TAG] == NESPOVARDA_GIVEN)
+        printf(" expiration %" PRIu64, parts[NESPOVARDA_EXPIRATION_VALUE]);
+    fputs(" packet ", stdout);
+    say_bytes(packet.at, packet.length);
+}
+
+/* `read END ID HEX` */
+static bool answer_read(struct session *session, const struct word *words, size_t count)
+{
+    (void)session, (void)count;
+    struct message message;
+    if (!read_words(words, &message))
+        return false;
+    nespovarda_answer answer = read_message(&message);
+    if (answer.kind != NESPOVARDA_ACCEPTED)
+        say(answer);
+    else if (message.is_data)
+        say_data(&message);
+    else
+        say_control(message.meaning);
+    return true;
+}
+
+static nespovarda_answer write_message(const struct message *message, uint8_t end, struct bytes out)
+{
+    if (!message->is_data)
+        return nespovarda_write_control(end, message->meaning, NESPOVARDA_CONTROL_WORDS, out.at, out.length);
+    struct bytes packet = packet_of(message);
+    return nespovarda_write_data(end, message->parts, NESPOVARDA_DATA_WORDS, packet.at, packet.length, out.at, out.length);
+}
+
+/* `echo END ID HEX END2 ROOM` */
+static bool answer_echo(struct session *session, const struct word *words, size_t count)
+{
+    (void)session, (void)count;
+    struct message message;
+    uint8_t end;
+    struct bytes out;
+    if (!read_words(words, &message) || !read_end(words[3], &end) || !read_room(words[4], &out))
+        return false;
+    nespovarda_answer answer = read_message(&message);
+    if (answer.kind == NESPOVARDA_ACCEPTED)
+        answer = write_message(&message, end, out);
+    say_message(answer, NESPOVARDA_WROTE, "written", out);
+    return true;
+}
+
+/* ---- Lines about a state ---- */
+
+/* `CHANNEL KIND FIRST STORE` */
+static bool read_channel(const struct word *words, uint64_t *start)
+{
+    return read_number(words[0], LARGEST_ID, &start[NESPOVARDA_START_ID]) &&
+           read_kind(words[1], &start[NESPOVARDA_START_KIND]) &&
+           read_number(words[2], LARGEST_SEQUENCE, &start[NESPOVARDA_START_FIRST]) &&
+           read_number(words[3], LARGEST_LENGTH, &start[NESPOVARDA_START_SIZE]);
+}
+
+/* Nothing, or `memory LEN` */
+static bool read_memory(const struct word *words, size_t count, uint64_t *length)
+{
+    return count == 0 || (count == MEMORY_WORDS && is(words[0], "memory") && read_number(words[1], LARGEST_LENGTH, length));
+}
+
+/* `ID COUNT`, the channels, and perhaps `memory LEN`: how long the memory is. */
+static bool read_configuration(const struct word *words, size_t count, uint64_t *configuration, uint64_t *memory)
+{
+    if (!read_number(words[0], LARGEST_ID, &configuration[NESPOVARDA_CONFIGURED_DATALINK]) ||
+        !read_number(words[1], MOST_READ, &configuration[NESPOVARDA_CONFIGURED_COUNT]))
+        return false;
+    size_t behind = START_WORDS + NESPOVARDA_CONFIGURATION_SLOT * (size_t)configuration[NESPOVARDA_CONFIGURED_COUNT];
+    if (count < behind)
+        return false;
+    *memory = 0;
+    uint64_t *start = configuration + NESPOVARDA_CONFIGURATION_HEAD;
+    for (size_t at = START_WORDS; at < behind; at += NESPOVARDA_CONFIGURATION_SLOT) {
+        if (!read_channel(words + at, start))
+            return false;
+        *memory += start[NESPOVARDA_START_SIZE];
+        start += NESPOVARDA_CONFIGURATION_SLOT;
+    }
+    return read_memory(words + behind, count - behind, memory);
+}
+
+static void forget(struct session *session)
+{
+    free(session->words);
+    free(session->memory);
+}
+
+/* A refused start leaves the state before it. */
+static bool answer_start(struct session *session, const struct word *words, size_t count)
+{
+    uint64_t configuration[NESPOVARDA_CONFIGURATION_WORDS(MOST_READ)];
+    uint64_t memory;
+    if (!read_configuration(words, count, configuration, &memory))
+        return false;
+    size_t channels = (size_t)configuration[NESPOVARDA_CONFIGURED_COUNT];
+    struct session fresh = {.words_length = (size_t)nespovarda_words(channels), .memory_length = (size_t)memory};
+    fresh.words = allocate(fresh.words_length * sizeof(uint64_t));
+    fresh.memory = allocate(fresh.memory_length);
+    nespovarda_answer answer = nespovarda_start(fresh.words, fresh.words_length, fresh.memory, fresh.memory_length,
+                                                configuration, NESPOVARDA_CONFIGURATION_WORDS(channels));
+    if (answer.kind == NESPOVARDA_STARTED) {
+        forget(session);
+        *session = fresh;
+    } else {
+        forget(&fresh);
+    }
+    say(answer);
+    return true;
+}
+
+/* `offer CHANNEL NOW EXPIRY HEX` */
+static bool answer_offer(struct session *session, const struct word *words, size_t count)
+{
+    (void)count;
+    uint8_t channel;
+    uint64_t now, expiry;
+    struct bytes packet;
+    if (!read_id(words[0], &channel) || !read_number(words[1], UINT64_MAX, &now) ||
+        !read_number(words[2], UINT64_MAX, &expiry) || !read_bytes(words[3], &packet))
+        return false;
+    say(nespovarda_offer(session->words, session->words_length, session->memory, session->memory_length, channel, packet.at,
+                         packet.length, expiry, now));
+    return true;
+}
+
+/* `next CHANNEL NOW ROOM` */
+static bool answer_next(struct session *session, const struct word *words, size_t count)
+{
+    (void)count;
+    uint8_t channel;
+    uint64_t now;
+    struct bytes out;
+    if (!read_id(words[0], &channel) || !read_number(words[1], UINT64_MAX, &now) || !read_room(words[2], &out))
+        return false;
+    nespovarda_answer answer = nespovarda_next(session->words, session->words_length, session->memory,
+                                               session->memory_length, channel, now, out.at, out.length);
+    say_message(answer, NESPOVARDA_SENT, "sent", out);
+    return true;
+}
+
+/* `withdraw CHANNEL` */
+static bool answer_withdraw(struct session *session, const struct word *words, size_t count)
+{
+    (void)count;
+    uint8_t channel;
+    if (!read_id(words[0], &channel))
+        return false;
+    say(nespovarda_withdraw(session->words, session->words_length, session->memory, session->memory_length, channel));
+    return true;
+}
+
+/* `radio HEX` */
+static bool answer_radio(struct session *session, const struct word *words, size_t count)
+{
+    (void)count;
+    struct bytes datagram;
+    if (!read_bytes(words[0], &datagram))
+        return false;
+    say(nespovarda_radio(session->words, session->words_length, datagram.at, datagram.length));
+    return true;
+}
+
+/* `query ROOM` */
+static bool answer_query(struct session *session, const struct word *words, size_t count)
+{
+    (void)count;
+    struct bytes out;
+    if (!read_room(words[0], &out))
+        return false;
+    nespovarda_answer answer = nespovarda_query(session->words, session->words_length, out.at, out.length);
+    say_message(answer, NESPOVARDA_WROTE, "query", out);
+    return true;
+}
+
+static void say_status_and_flow(const uint64_t *shown)
+{
+    if (shown[NESPOVARDA_SHOWN_REPORTED] == NESPOVARDA_GIVEN)
+        printf(" %" PRIu64, shown[NESPOVARDA_SHOWN_STATUS]);
+    else
+        fputs(" -", stdout);
+    if (shown[NESPOVARDA_SHOWN_FLOW] == NESPOVARDA_IN_FORCE)
+        printf(" %" PRIu64, shown[NESPOVARDA_SHOWN_WINDOW]);
+    else
+        fputs(shown[NESPOVARDA_SHOWN_FLOW] == NESPOVARDA_FREE ? " free" : " none", stdout);
+}
+
+/* Each waiting packet; the position behind the last must be one where none waits. */
+static void say_waiting(const struct session *session, uint8_t channel, uint64_t count)
+{
+    uint64_t packet[NESPOVARDA_WAITING_NUMBERS];
+    for (uint64_t position = 0; position <= count; position++) {
+        nespovarda_answer answer =
+            nespovarda_waiting(session->words, session->words_length, channel, position, packet);
+        if (answer.kind != (position < count ? NESPOVARDA_SHOWN : NESPOVARDA_NONE_THERE))
+            say(answer);
+        else if (position < count)
+            printf(" %" PRIu64 " %" PRIu64, packet[NESPOVARDA_WAITING_LENGTH], packet[NESPOVARDA_WAITING_EXPIRY]);
+    }
+}
+
+/* `show CHANNEL` */
+static bool answer_show(struct session *session, const struct word *words, size_t count)
+{
+    (void)count;
+    uint8_t channel;
+    uint64_t shown[NESPOVARDA_CHANNEL_NUMBERS];
+    if (!read_id(words[0], &channel))
+        return false;
+    nespovarda_answer answer = nespovarda_show(session->words, session->words_length, channel, shown);
+    if (answer.kind != NESPOVARDA_SHOWN) {
+        say(answer);
+        return true;
+    }
+    printf("channel %d", channel);
+    say_status_and_flow(shown);
+    printf(" %" PRIu64 " %" PRIu64 " %" PRIu64, shown[NESPOVARDA_SHOWN_SEQUENCE], shown[NESPOVARDA_SHOWN_LATEST],
+           shown[NESPOVARDA_SHOWN_WAITING]);
+    say_waiting(session, channel, shown[NESPOVARDA_SHOWN_WAITING]);
+    return true;
+}
+
+/* `store CHANNEL` */
+static bool answer_store(struct session *session, const struct word *words, size_t count)
+{
+    (void)count;
+    uint8_t channel;
+    uint64_t shown[NESPOVARDA_CHANNEL_NUMBERS];
+    if (!read_id(words[0], &channel))
+        return false;
+    nespovarda_answer answer = nespovarda_show(session->words, session->words_length, channel, shown);
+    if (answer.kind != NESPOVARDA_SHOWN) {
+        say(answer);
+        return true;
+    }
+    uint64_t start = shown[NESPOVARDA_SHOWN_STORE_START];
+    uint64_t length = shown[NESPOVARDA_SHOWN_STORE_LENGTH];
+    if (start > session->memory_length || length > session->memory_length - start)
+        abort();
+    fputs("store ", stdout);
+    say_bytes(session->memory + start, (size_t)length);
+    return true;
+}
+
+/* `kept` */
+static bool answer_kept(struct session *session, const struct word *words, size_t count)
+{
+    (void)words, (void)count;
+    uint64_t kept[NESPOVARDA_KEPT_NUMBERS];
+    nespovarda_answer answer = nespovarda_kept(session->words, session->words_length, kept);
+    if (answer.kind != NESPOVARDA_KEPT) {
+        say(answer);
+        return true;
+    }
+    fputs("kept", stdout);
+    if (kept[NESPOVARDA_KEPT_LINK_LENGTH] != 0)
+        say_link(kept[NESPOVARDA_KEPT_LINK_LENGTH], kept[NESPOVARDA_KEPT_LINK]);
+    if (kept[NESPOVARDA_KEPT_CONTEXT_LENGTH] != 0)
+        say_context(kept[NESPOVARDA_KEPT_CONTEXT_LENGTH], kept[NESPOVARDA_KEPT_CONTEXT]);
+    return true;
+}
+
+/* ---- The session ---- */
+
+/* A line's first word, how many may stand behind it, and its answer, which is false for a bad line. */
+static const struct {
+    const char *first;
+    size_t least, most;
+    bool needs_state;
+    bool (*answer)(struct session *session, const struct word *words, size_t count);
+} LINES[] = {
+    {"read", 3, 3, false, answer_read},
+    {"echo", 5, 5, false, answer_echo},
+    {"start", START_WORDS, MOST_WORDS, false, answer_start},
+    {"offer", 4, 4, true, answer_offer},
+    {"next", 3, 3, true, answer_next},
+    {"withdraw", 1, 1, true, answer_withdraw},
+    {"radio", 1, 1, true, answer_radio},
+    {"query", 1, 1, true, answer_query},
+    {"show", 1, 1, true, answer_show},
+    {"store", 1, 1, true, answer_store},
+    {"kept", 0, 0, true, answer_kept},
+};
+
+/* The words of a line, one space between two; those behind the last place aren't gone through. */
+static size_t split(const char *line, size_t length, struct word *words, size_t places)
+{
+    const char *end = line + length;
+    size_t count = 0;
+    while (count < places) {
+        const char *space = memchr(line, ' ', (size_t)(end - line));
+        const char *stop = space == NULL ? end : space;
+        words[count++] = (struct word){line, (size_t)(stop - line)};
+        if (space == NULL)
+            break;
+        line = space + 1;
+    }
+    return count;
+}
+
+static bool answer_line(struct session *session, const char *line, size_t length)
+{
+    struct word words[1 + MOST_WORDS + 1];
+    if (length > LONGEST_LINE)
+        return false;
+    size_t behind = split(line, length, words, sizeof words / sizeof *words) - 1;
+    for (size_t i = 0; i < sizeof LINES / sizeof *LINES; i++) {
+        if (!is(words[0], LINES[i].first))
+            continue;
+        if (behind < LINES[i].least || behind > LINES[i].most || (LINES[i].needs_state && session->words == NULL))
+            return false;
+        return LINES[i].answer(session, words + 1, behind);
+    }
+    return false;
+}
+
+int main(void)
+{
+    struct session session = {0};
+    char *line = NULL;
+    size_t room = 0;
+    ssize_t length;
+    while ((length = getline(&line, &room, stdin)) > 0) {
+        if (line[length - 1] == '\n')
+            length--;
+        if (!answer_line(&session, line, (size_t)length))
+            fputs("bad line", stdout);
+        putchar('\n');
+        take_back();
+    }
+    free(line);
+    forget(&session);
+    return ferror(stdin) || fflush(stdout) != 0 || ferror(stdout);
+}

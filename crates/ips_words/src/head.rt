@@ -1,0 +1,67 @@
+// The endpoint's own words: Datalink ID, Link Instance and Context.
+ghost use mathlib.Core.Path.{_≡_};
+ghost use Prim.Native.Nat.{_≤_, _<_};
+ghost use lib.ListN.{length};
+ghost use Rattle.ips_words.specs.Words.{HEAD, DATALINK-WORD, word, instanceOf, contextOf, stateOf};
+use crate::layout::ABSENT;
+use crate::layout::CONTEXT_LENGTH;
+use crate::layout::CONTEXT_TAG;
+use crate::layout::CONTEXT_VALUE;
+use crate::layout::DATALINK_WORD;
+use crate::layout::INSTANCE_LENGTH;
+use crate::layout::INSTANCE_TAG;
+use crate::layout::INSTANCE_VALUE;
+use crate::slot;
+use crate::waiting;
+use meaning::message::Context;
+use meaning::message::ContextBytes;
+use meaning::message::Instance;
+use quantity::count::DatalinkId;
+use quantity::count::LinkInstanceId;
+
+pub fn datalink(words: &[u64]) -> DatalinkId
+    requires { ⌜ (HEAD ≤ length (now words)) × (word (now words) DATALINK-WORD < 256) ⌝ }
+    ensures { λ r. ⌜ r ≡ stateOf (now (words .entry)) .datalink ⌝ }
+{
+    DatalinkId(slot::byte(words[DATALINK_WORD]))
+}
+
+fn instance_of(tag: u64, value: u64, size: u64) -> Instance
+    ensures { λ r. ⌜ r ≡ instanceOf tag value size ⌝ }
+{
+    if tag == ABSENT {
+        return Instance::Absent;
+    }
+    Instance::Given(LinkInstanceId(value), waiting::narrow(size))
+}
+
+fn context_of(tag: u64, value: u64, size: u64) -> Context
+    ensures { λ r. ⌜ r ≡ contextOf tag value size ⌝ }
+{
+    if tag == ABSENT {
+        return Context::Absent;
+    }
+    Context::Given(ContextBytes(value), waiting::narrow(size))
+}
+
+pub fn instance(words: &[u64]) -> Instance
+    requires { ⌜ HEAD ≤ length (now words) ⌝ }
+    ensures { λ r. ⌜ r ≡ stateOf (now (words .entry)) .instance ⌝ }
+{
+    instance_of(
+        words[INSTANCE_TAG],
+        words[INSTANCE_VALUE],
+        words[INSTANCE_LENGTH],
+    )
+}
+
+pub fn context(words: &[u64]) -> Context
+    requires { ⌜ HEAD ≤ length (now words) ⌝ }
+    ensures { λ r. ⌜ r ≡ stateOf (now (words .entry)) .context ⌝ }
+{
+    context_of(
+        words[CONTEXT_TAG],
+        words[CONTEXT_VALUE],
+        words[CONTEXT_LENGTH],
+    )
+}

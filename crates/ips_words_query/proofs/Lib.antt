@@ -1,0 +1,6 @@
+pub mod Inserting
+pub mod Laying
+pub mod Rising
+pub mod Asking
+pub mod Gathering
+pub mod Writing

@@ -1,0 +1,59 @@
+-- Document 01, "A channel's life": "Radio control message accepted", in the lent words: which of them are written, and that every other one stands.
+use Prim.Native.Nat.{ℕ, zero, suc, _^_, _<_}
+use mathlib.Core.Bool.{cond}
+use mathlib.Core.List.{List, [], _∷_}
+use lib.ListN.{set}
+use lib.Dec.{eqb}
+use Rattle.meaning.specs.declared.message.Status.{Status}
+use Rattle.meaning.specs.declared.message.Window.{Window}
+use Rattle.meaning.specs.declared.message.Instance.{Instance}
+use Rattle.meaning.specs.declared.message.Context.{Context}
+use Rattle.meaning.specs.declared.message.Control.{Control}
+use Rattle.flow.specs.Counting.{flowAfter}
+use Rattle.ips_radio.specs.Heard.{statusIn, windowIn}
+use Rattle.ips_words.specs.Words.{ID, KIND, CONTROLLED, STATUS-TAG, STATUS-VALUE, FLOW-TAG, FLOW-WINDOW, COUNT-WORD, GIVEN, INSTANCE-TAG, INSTANCE-VALUE, INSTANCE-LENGTH, CONTEXT-TAG, CONTEXT-VALUE, CONTEXT-LENGTH, word, slot, putSlot, statusTag, statusValue, flowTag, flowWindow}
+
+-- ---- one channel's words: "a configured channel that it names takes its Status; one that it doesn't name is not reported"
+abbrev pub statusHeard : Status → List ℕ → List ℕ
+statusHeard status w = set (set w STATUS-TAG (statusTag status)) STATUS-VALUE (statusValue status)
+
+-- "For each flow-controlled channel: no Flow Window option makes it free; .."
+abbrev pub flowHeard : Window → List ℕ → List ℕ
+flowHeard window w =
+    cond (eqb (word w KIND) CONTROLLED) (set (set w FLOW-TAG (flowTag (flowAfter window))) FLOW-WINDOW (flowWindow (flowAfter window))) w
+
+unfoldable pub heardPart : Status → Window → List ℕ → List ℕ
+heardPart status window w = flowHeard window (statusHeard status w)
+
+-- what the message states of the channel's own Channel ID
+abbrev pub heardSlot : Control → List ℕ → List ℕ
+heardSlot message w = heardPart (statusIn message (word w ID)) (windowIn message (word w ID)) w
+
+-- the first channels, so many: "Unconfigured channels are skipped."
+unfoldable pub heardSlots : Control → List ℕ → ℕ → List ℕ
+heardSlots message words zero = words
+heardSlots message words (suc n) = let before = heardSlots message words n in putSlot before n (heardSlot message (slot before n))
+
+-- ---- the endpoint's own words: "Link Instance is kept when given."
+abbrev pub instanceHeard : Instance → List ℕ → List ℕ
+instanceHeard Instance.Absent words = words
+instanceHeard (Instance.Given id size) words = set (set (set words INSTANCE-TAG GIVEN) INSTANCE-VALUE (id .0)) INSTANCE-LENGTH size
+
+-- "the last Context received"
+abbrev pub contextHeard : Context → List ℕ → List ℕ
+contextHeard Context.Absent words = words
+contextHeard (Context.Given bytes size) words = set (set (set words CONTEXT-TAG GIVEN) CONTEXT-VALUE (bytes .0)) CONTEXT-LENGTH size
+
+-- THE WORDS AFTER AN ACCEPTED RADIO CONTROL MESSAGE
+unfoldable pub heardWords : Control → List ℕ → List ℕ
+heardWords message words = contextHeard (message .context) (instanceHeard (message .instance) (heardSlots message words (word words COUNT-WORD)))
+
+-- the messages that a datagram brings: none, or one
+abbrev pub hearEachIn : List Control → List ℕ → List ℕ
+hearEachIn [] words = words
+hearEachIn (message ∷ messages) words = hearEachIn messages (heardWords message words)
+
+-- ---- a message whose numbers are no wider than their words are read
+pub record Slender (message : Control) : Type 0 where
+  pub statuses : (id : ℕ) → statusValue (statusIn message id) < 256
+  pub windows : (id : ℕ) → flowWindow (flowAfter (windowIn message id)) < 2 ^ 32

@@ -1,0 +1,45 @@
+// A fresh start on words: the configuration is lent as words, and the state is written into words.
+ghost use mathlib.Core.Path.{_≡_};
+ghost use Rattle.ips_words_start.specs.Start.{notStarted, StartedIn};
+use crate::layout::CONFIGURED_COUNT;
+use ips_state::StartAnswer;
+use ips_words::layout::HEAD;
+use ips_words::layout::SLOT;
+use ips_words::waiting;
+use quantity::refusal;
+use quantity::refusal::Refusal;
+use store::stretch;
+
+pub mod fresh;
+pub mod judge;
+pub mod layout;
+
+fn refused() -> StartAnswer
+    ensures { λ r. ⌜ r ≡ notStarted ⌝ }
+{
+    StartAnswer::Refused(Refusal {
+        number: refusal::OUTSIDE_LIMITS,
+        place: 0,
+    })
+}
+
+// 19 before anything is written; else the words of the fresh state, and zeros in each store. What stood in words and memory does not matter.
+pub fn begin(words: &mut [u64], memory: &mut [u8], configuration: &[u64]) -> StartAnswer
+    ensures { λ r. ⌜ StartedIn (now (configuration .entry)) (now (words .entry)) (now (memory .entry)) r (now (words .exit)) (now (memory .exit)) ⌝ }
+{
+    let judged = judge::judge(configuration);
+    if !judged.fits {
+        return refused();
+    }
+    let total = judged.total;
+    if total.0 != memory.len() {
+        return refused();
+    }
+    let count = waiting::narrow(configuration[CONFIGURED_COUNT]);
+    if words.len() != HEAD + SLOT * count {
+        return refused();
+    }
+    fresh::write(words, configuration, count);
+    stretch::fill_zeros(memory);
+    StartAnswer::Started
+}

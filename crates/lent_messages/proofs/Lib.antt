@@ -1,0 +1,3 @@
+pub mod Saving
+pub mod Saying
+pub mod Back

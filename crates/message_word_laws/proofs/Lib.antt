@@ -1,0 +1,4 @@
+pub mod Plain
+pub mod Spelled
+pub mod Free
+pub mod Says

@@ -1,0 +1,1 @@
+// No code: the words of a message in plain numbers, and which words say something.

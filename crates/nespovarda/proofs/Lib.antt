@@ -1,0 +1,5 @@
+pub mod Exporting
+pub mod Showing
+pub mod Numbers
+pub mod Coincide
+pub mod Whole

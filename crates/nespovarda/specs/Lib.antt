@@ -1,0 +1,4 @@
+pub mod Outcomes
+pub mod Exports
+pub mod Shown
+pub mod Numbers

@@ -1,0 +1,3 @@
+pub mod WordsWithin
+pub mod RadioLeaves
+pub mod ConfigurationSays

@@ -1,0 +1,13 @@
+-- Document 01, "Radio control message accepted", in literal numbers: which words no datagram from the radio changes.
+use Prim.Native.Nat.{ℕ, _+_, _*_, _<_}
+use mathlib.Core.Path.{_≡_}
+use lib.ListN.{length, getD}
+use Rattle.endpoint.specs.Lent.{Lent}
+
+-- Datalink ID and count; of each channel its setting, and all behind the four words of status and flow state: sequence, latest time, and what waits; every lent byte
+pub record RadioLeaves (l l′ : Lent) : Type 0 where
+  pub long : length (l′ .words) ≡ length (l .words)
+  pub head : (k : ℕ) → k < 2 → getD (l′ .words) k 0 ≡ getD (l .words) k 0
+  pub setting : (i j : ℕ) → i < getD (l .words) 1 0 → j < 3 → getD (l′ .words) (8 + 74 * i + j) 0 ≡ getD (l .words) (8 + 74 * i + j) 0
+  pub rest : (i j : ℕ) → i < getD (l .words) 1 0 → 6 < j → j < 74 → getD (l′ .words) (8 + 74 * i + j) 0 ≡ getD (l .words) (8 + 74 * i + j) 0
+  pub memory : l′ .memory ≡ l .memory

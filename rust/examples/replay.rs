@@ -1,0 +1,339 @@
+//! Answers a script of the session page (docs/SESSION.md) through the safe interface alone: one call a line from standard input, one answer a line.
+use nespovarda::{control, data};
+use nespovarda::{words_for, Configuration, Context, DatalinkId, End, Endpoint, Flow, FlowSequence, Heard, Kind, LinkInstance};
+use nespovarda::{Next, Offered, Read, Refusal, Withdrawn, Written};
+use std::fmt::Write as _;
+use std::io::{self, BufRead, Write};
+
+const LONGEST_LINE: usize = 140_000;
+const LARGEST_LENGTH: u64 = 1_048_576;
+const MOST_CHANNELS: u64 = 80;
+const WORDS_OF_A_CHANNEL: usize = 4;
+
+/// Why a line has no other answer.
+enum Fault {
+    BadLine,
+    Refused(Refusal),
+}
+
+impl From<Refusal> for Fault {
+    fn from(refusal: Refusal) -> Fault {
+        Fault::Refused(refusal)
+    }
+}
+
+type Answered = Result<String, Fault>;
+
+// ---- Words ----
+
+/// A decimal number up to the largest, with no needless zero in front.
+fn number(word: &[u8], largest: u64) -> Result<u64, Fault> {
+    let plain = !word.is_empty() && word.iter().all(u8::is_ascii_digit) && (word.len() == 1 || word[0] != b'0');
+    let text = std::str::from_utf8(word).map_err(|_| Fault::BadLine)?;
+    match text.parse() {
+        Ok(value) if plain && value <= largest => Ok(value),
+        _ => Err(Fault::BadLine),
+    }
+}
+
+fn byte(word: &[u8]) -> Result<u8, Fault> {
+    number(word, u64::from(u8::MAX)).map(|value| value as u8)
+}
+
+fn time(word: &[u8]) -> Result<u64, Fault> {
+    number(word, u64::MAX)
+}
+
+fn length(word: &[u8]) -> Result<usize, Fault> {
+    number(word, LARGEST_LENGTH).map(|value| value as usize)
+}
+
+fn digit(letter: u8) -> Result<u8, Fault> {
+    match letter {
+        b'0'..=b'9' => Ok(letter - b'0'),
+        b'a'..=b'f' => Ok(letter - b'a' + 10),
+        _ => Err(Fault::BadLine),
+    }
+}
+
+/// Pairs of lowercase hexadecimal digits; `-` is the empty byte string.
+fn bytes(word: &[u8]) -> Result<Vec<u8>, Fault> {
+    if word == b"-" {
+        return Ok(Vec::new());
+    }
+    if word.is_empty() || word.len() % 2 != 0 {
+        return Err(Fault::BadLine);
+    }
+    word.chunks_exact(2).map(|pair| Ok(digit(pair[0])? << 4 | digit(pair[1])?)).collect()
+}
+
+fn end(word: &[u8]) -> Result<End, Fault> {
+    match word {
+        b"ips" => Ok(End::Ips),
+        b"radio" => Ok(End::Radio),
+        _ => Err(Fault::BadLine),
+    }
+}
+
+fn kind(word: &[u8]) -> Result<Kind, Fault> {
+    match word {
+        b"plain" => Ok(Kind::Plain),
+        b"flow" => Ok(Kind::FlowControlled),
+        _ => Err(Fault::BadLine),
+    }
+}
+
+fn hexadecimal(bytes: &[u8]) -> String {
+    if bytes.is_empty() {
+        return "-".to_string();
+    }
+    bytes.iter().fold(String::with_capacity(2 * bytes.len()), |mut text, byte| {
+        let _ = write!(text, "{byte:02x}");
+        text
+    })
+}
+
+/// Each where there is one.
+fn link_and_context(link: Option<LinkInstance>, context: Option<Context>) -> String {
+    let link = link.map(|link| format!(" link {} {}", link.length, link.id)).unwrap_or_default();
+    let context = context.map(|context| format!(" context {}", hexadecimal(context.as_bytes()))).unwrap_or_default();
+    link + &context
+}
+
+// ---- Lines about messages ----
+
+fn control_words() -> Box<[u64; control::WORDS]> {
+    Box::new([0; control::WORDS])
+}
+
+fn control_line(meaning: &control::Meaning<'_>) -> String {
+    let mut line = format!("control {}", meaning.datalink().0) + &link_and_context(meaning.link(), meaning.context());
+    let channels = 0..control::CHANNEL_IDS;
+    for (id, status) in channels.clone().filter_map(|id| Some((id, meaning.status(id)?))) {
+        let _ = write!(line, " status {id} {status}");
+    }
+    for (id, sequence) in channels.clone().filter_map(|id| Some((id, meaning.sequence(id)?))) {
+        let _ = write!(line, " sequence {id} {}", sequence.0);
+    }
+    for (id, window) in channels.filter_map(|id| Some((id, meaning.window(id)?))) {
+        let _ = match window {
+            control::Window::NoWindow => write!(line, " window {id} none"),
+            control::Window::Given(window) => write!(line, " window {id} {}", window.0),
+        };
+    }
+    line
+}
+
+fn data_line(meaning: &data::Meaning<'_>) -> String {
+    let counted = meaning.counted.map(|counted| format!(" sequence {} {}", counted.channel, counted.sequence.0)).unwrap_or_default();
+    let channel = meaning.channel.map(|channel| format!(" channel {channel}")).unwrap_or_default();
+    let expiration = meaning.expiration.map(|expiration| format!(" expiration {expiration}")).unwrap_or_default();
+    format!("data {}{counted}{channel}{expiration} packet {}", meaning.datalink.0, hexadecimal(meaning.packet))
+}
+
+/// Reads a datagram as a message of either plane, and answers by its meaning.
+fn by_meaning(
+    from: End,
+    datalink: DatalinkId,
+    datagram: &[u8],
+    of_control: impl FnOnce(&control::Meaning<'_>) -> Answered,
+    of_data: impl FnOnce(&data::Meaning<'_>) -> Answered,
+) -> Answered {
+    match control::read(datagram, from, datalink, &mut control_words()) {
+        Read::Accepted(meaning) => of_control(&meaning),
+        Read::Refused(refusal) => Err(refusal.into()),
+        Read::OtherPlane => match data::read(datagram, from, datalink) {
+            Read::Accepted(meaning) => of_data(&meaning),
+            Read::Refused(refusal) => Err(refusal.into()),
+            Read::OtherPlane => unreachable!("a message is of one plane"),
+        },
+    }
+}
+
+fn read(words: [&[u8]; 3]) -> Answered {
+    let [from, datalink, datagram] = words;
+    let (from, datalink, datagram) = (end(from)?, DatalinkId(byte(datalink)?), bytes(datagram)?);
+    by_meaning(from, datalink, &datagram, |meaning| Ok(control_line(meaning)), |meaning| Ok(data_line(meaning)))
+}
+
+fn written(answer: Written<'_>) -> Answered {
+    match answer {
+        Written::Wrote(message) => Ok(format!("written {}", hexadecimal(message))),
+        Written::Refused(refusal) => Err(refusal.into()),
+    }
+}
+
+fn echo(words: [&[u8]; 5]) -> Answered {
+    let [from, datalink, datagram, to, room] = words;
+    let (from, datalink, datagram) = (end(from)?, DatalinkId(byte(datalink)?), bytes(datagram)?);
+    let (to, room) = (end(to)?, length(room)?);
+    let mut of_control = vec![0; room];
+    let mut of_data = vec![0; room];
+    by_meaning(
+        from,
+        datalink,
+        &datagram,
+        |meaning| written(control::write(to, meaning, &mut of_control)),
+        |meaning| written(data::write(to, meaning, &mut of_data)),
+    )
+}
+
+// ---- Lines about a state ----
+
+/// The words and the memory of the state, once started.
+struct State {
+    words: Vec<u64>,
+    memory: Vec<u8>,
+}
+
+/// `CHANNEL KIND FIRST STORE`
+fn configure<'c>(configuration: Configuration<'c>, words: &[&[u8]]) -> Result<Configuration<'c>, Fault> {
+    let first = number(words[2], u64::from(u32::MAX))? as u32;
+    configuration.channel(byte(words[0])?, kind(words[1])?, FlowSequence(first), length(words[3])?).map_err(|_| Fault::BadLine)
+}
+
+/// The words behind `start`: a state, whose start was not refused.
+fn start(words: &[&[u8]]) -> Result<State, Fault> {
+    if words.len() < 2 {
+        return Err(Fault::BadLine);
+    }
+    let (datalink, count) = (DatalinkId(byte(words[0])?), number(words[1], MOST_CHANNELS)? as usize);
+    let behind = &words[2..];
+    if behind.len() < WORDS_OF_A_CHANNEL * count {
+        return Err(Fault::BadLine);
+    }
+    let (channels, rest) = behind.split_at(WORDS_OF_A_CHANNEL * count);
+    let mut configuration = vec![0; Configuration::words_for(count)];
+    let configuration = Configuration::new(&mut configuration, datalink).map_err(|_| Fault::BadLine)?;
+    let configuration = channels.chunks_exact(WORDS_OF_A_CHANNEL).try_fold(configuration, configure)?;
+    let memory_length = match rest {
+        [] => configuration.memory_length(),
+        [b"memory", given] => length(given)?,
+        _ => return Err(Fault::BadLine),
+    };
+    let mut state = State { words: vec![0; words_for(count)], memory: vec![0; memory_length] };
+    Endpoint::start(&mut state.words, &mut state.memory, &configuration)?;
+    Ok(state)
+}
+
+fn offer(endpoint: &mut Endpoint<'_>, words: [&[u8]; 4]) -> Answered {
+    let [channel, now, expiry, packet] = words;
+    let (channel, now, expiry, packet) = (byte(channel)?, time(now)?, time(expiry)?, bytes(packet)?);
+    match endpoint.offer(channel, &packet, expiry, now) {
+        Offered::Taken => Ok("taken".to_string()),
+        Offered::Refused(refusal) => Err(refusal.into()),
+    }
+}
+
+fn next(endpoint: &mut Endpoint<'_>, words: [&[u8]; 3]) -> Answered {
+    let [channel, now, room] = words;
+    let (channel, now, room) = (byte(channel)?, time(now)?, length(room)?);
+    match endpoint.next(channel, now, &mut vec![0; room]) {
+        Next::Sent(message) => Ok(format!("sent {}", hexadecimal(message))),
+        Next::NothingWaiting => Ok("nothing waiting".to_string()),
+        Next::NotOperational => Ok("not operational".to_string()),
+        Next::WindowShut => Ok("window shut".to_string()),
+        Next::Refused(refusal) => Err(refusal.into()),
+    }
+}
+
+fn withdraw(endpoint: &mut Endpoint<'_>, channel: &[u8]) -> Answered {
+    match endpoint.withdraw(byte(channel)?) {
+        Withdrawn::Withdrawn => Ok("withdrawn".to_string()),
+        Withdrawn::Refused(refusal) => Err(refusal.into()),
+    }
+}
+
+fn radio(endpoint: &mut Endpoint<'_>, datagram: &[u8]) -> Answered {
+    match endpoint.radio(&bytes(datagram)?) {
+        Heard::Accepted => Ok("accepted".to_string()),
+        Heard::Due => Ok("accepted due".to_string()),
+        Heard::Refused(refusal) => Err(refusal.into()),
+    }
+}
+
+fn query(endpoint: &mut Endpoint<'_>, room: &[u8]) -> Answered {
+    match endpoint.query(&mut vec![0; length(room)?]) {
+        Written::Wrote(message) => Ok(format!("query {}", hexadecimal(message))),
+        Written::Refused(refusal) => Err(refusal.into()),
+    }
+}
+
+fn show(endpoint: &mut Endpoint<'_>, channel: &[u8]) -> Answered {
+    let id = byte(channel)?;
+    let shown = endpoint.show(id)?;
+    let status = shown.status.map_or("-".to_string(), |status| status.to_string());
+    let flow = match shown.flow {
+        Flow::Free => "free".to_string(),
+        Flow::NoWindow => "none".to_string(),
+        Flow::InForce(window) => window.0.to_string(),
+    };
+    let mut line = format!("channel {id} {status} {flow} {} {} {}", shown.sequence.0, shown.latest, shown.waiting);
+    let mut position = 0;
+    while let Some(waiting) = endpoint.waiting(id, position)? {
+        let _ = write!(line, " {} {}", waiting.length, waiting.expiry);
+        position += 1;
+    }
+    Ok(line)
+}
+
+fn store(endpoint: &mut Endpoint<'_>, channel: &[u8]) -> Answered {
+    Ok(format!("store {}", hexadecimal(endpoint.store(byte(channel)?)?)))
+}
+
+fn kept(endpoint: &mut Endpoint<'_>) -> Answered {
+    let kept = endpoint.kept()?;
+    Ok("kept".to_string() + &link_and_context(kept.link, kept.context))
+}
+
+// ---- The script ----
+
+/// The answer to a line of a state that was started.
+fn on_state(state: &mut State, words: &[&[u8]]) -> Answered {
+    let endpoint = &mut Endpoint::resume(&mut state.words, &mut state.memory);
+    match *words {
+        [b"offer", channel, now, expiry, packet] => offer(endpoint, [channel, now, expiry, packet]),
+        [b"next", channel, now, room] => next(endpoint, [channel, now, room]),
+        [b"withdraw", channel] => withdraw(endpoint, channel),
+        [b"radio", datagram] => radio(endpoint, datagram),
+        [b"query", room] => query(endpoint, room),
+        [b"show", channel] => show(endpoint, channel),
+        [b"store", channel] => store(endpoint, channel),
+        [b"kept"] => kept(endpoint),
+        _ => Err(Fault::BadLine),
+    }
+}
+
+/// The answer to a line without its newline. A refused start leaves the state before it.
+fn answer(state: &mut Option<State>, line: &[u8]) -> Answered {
+    if line.len() > LONGEST_LINE {
+        return Err(Fault::BadLine);
+    }
+    let words: Vec<&[u8]> = line.split(|&letter| letter == b' ').collect();
+    match words[..] {
+        [b"read", from, datalink, datagram] => read([from, datalink, datagram]),
+        [b"echo", from, datalink, datagram, to, room] => echo([from, datalink, datagram, to, room]),
+        [b"start", ref behind @ ..] => {
+            *state = Some(start(behind)?);
+            Ok("started".to_string())
+        }
+        _ => on_state(state.as_mut().ok_or(Fault::BadLine)?, &words),
+    }
+}
+
+fn main() -> io::Result<()> {
+    let mut input = io::stdin().lock();
+    let mut output = io::BufWriter::new(io::stdout().lock());
+    let mut state = None;
+    let mut line = Vec::new();
+    while input.read_until(b'\n', &mut line)? > 0 {
+        let words = line.strip_suffix(b"\n").unwrap_or(&line);
+        match answer(&mut state, words) {
+            Ok(answer) => writeln!(output, "{answer}")?,
+            Err(Fault::BadLine) => writeln!(output, "bad line")?,
+            Err(Fault::Refused(refusal)) => writeln!(output, "refused {} {}", refusal.number(), refusal.place())?,
+        }
+        line.clear();
+    }
+    output.flush()
+}

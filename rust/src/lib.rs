@@ -1,0 +1,53 @@
+//! The Airborne IPS System's end of CIRI (ARINC 858 Part 3): safe calls on the proved library.
+//!
+//! An [`Endpoint`] works on words and on a memory that the caller owns; there is no heap and nothing is kept between two calls but what stands in those.
+//! A refused call changes neither. [`control`] and [`data`] read and write single messages of either end.
+//!
+//! ```
+//! use nespovarda::{words_for, Configuration, DatalinkId, Endpoint, FlowSequence, Heard, Kind, Next, Offered};
+//!
+//! let mut configuration = [0; Configuration::words_for(2)];
+//! let configuration = Configuration::new(&mut configuration, DatalinkId(7))
+//!     .and_then(|configuration| configuration.channel(0, Kind::Plain, FlowSequence(0), 1500))
+//!     .and_then(|configuration| configuration.channel(3, Kind::FlowControlled, FlowSequence(4294967230), 1500))
+//!     .expect("the words are for two channels");
+//! let mut words = vec![0; words_for(configuration.channels())];
+//! let mut memory = vec![0; configuration.memory_length()];
+//! let mut endpoint = Endpoint::start(&mut words, &mut memory, &configuration).expect("the configuration is within the limits");
+//!
+//! let mut packet = [0; 40];
+//! packet[0] = 0x60;
+//! assert_eq!(endpoint.offer(3, &packet, 9000, 1000), Offered::Taken);
+//!
+//! // Channels 0 and 3 have status 7, channel 3 the window 44.
+//! let report = [0x10, 1, 0, 1, 7, 5, 0, 2, 0, 7, 5, 0, 2, 3, 7, 6, 0, 5, 3, 0, 0, 0, 44];
+//! assert_eq!(endpoint.radio(&report), Heard::Accepted);
+//!
+//! let mut out = [0; 100];
+//! match endpoint.next(3, 1010, &mut out) {
+//!     Next::Sent(message) => assert_eq!(message.len(), 60),
+//!     other => panic!("{other:?}"),
+//! }
+//! ```
+#![no_std]
+#![deny(unsafe_code)]
+#![warn(missing_docs)]
+
+#[cfg(not(target_pointer_width = "64"))]
+compile_error!("the library's lengths are numbers of 64 bits");
+
+mod answer;
+mod configuration;
+pub mod control;
+pub mod data;
+mod endpoint;
+#[allow(unsafe_code)]
+mod library;
+mod quantity;
+mod refusal;
+
+pub use answer::{Heard, Next, Offered, Read, Withdrawn, Written};
+pub use configuration::{Configuration, Kind, NoRoom};
+pub use endpoint::{words_for, Channel, Endpoint, Flow, Kept, Waiting};
+pub use quantity::{Context, DatalinkId, End, FlowSequence, FlowWindow, LinkInstance};
+pub use refusal::Refusal;
