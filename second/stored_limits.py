@@ -59,6 +59,17 @@ def expiries():
     yield from ("show 4", "next 4 5 51", "show 4", "next 4 90 0", "show 4", "next 4 91 0", "show 4", "store 4")
 
 
+def many_expire():
+    """Thirty of 32 packets expire together, by an Offer, where the first lasts, and by a Next, where it does not."""
+    yield start((0, "plain", 0, 3000), (2, "plain", 0, 3000))
+    yield radio({0: 7, 2: 7})
+    for channel, lasting in ((0, (0, 20)), (2, (7, 31))):
+        yield from (offer(channel, 1, NEVER if mark in lasting else 50, packet(40 + 3 * mark, mark))
+                    for mark in range(32))
+    yield from ("store 0", offer(0, 50, NEVER, packet(1500, 99)), "show 0", "store 0")
+    yield from ("store 2", f"next 2 50 {ROOMY}", "show 2", "store 2", f"next 2 50 {ROOMY}", "store 2")
+
+
 def times():
     """The least and the greatest time; the latest time is each channel's own."""
     yield start((0, "plain", 0, 1500), (5, "plain", 0, 1500))
@@ -124,6 +135,7 @@ def limit_lines():
     yield from start_limits()
     yield from full_stores()
     yield from expiries()
+    yield from many_expire()
     yield from times()
     yield from orders()
     yield from contexts()

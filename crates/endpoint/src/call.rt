@@ -130,7 +130,8 @@ fn withdraw_at(words: &mut [u64], memory: &mut [u8], found: Found) -> WithdrawAn
     let before = channel::load(words, index);
     let size = before.setting.size;
     let end = start + size.0;
-    let after = offering::withdraw(before, &mut memory[start..end]);
+    let emptied = offering::withdraw(before, &mut memory[start..end]);
+    let after = emptied.channel;
     channel::save(words, index, after);
     WithdrawAnswer::Withdrawn
 }

@@ -2,7 +2,7 @@
 -- Assumes nothing.
 use Prim.Native.Nat.{ℕ, _+_, _<_, _≤_}
 use mathlib.Core.Bool.{Bool, true, false, cond, _&&_, and-eq-true-iff}
-use mathlib.Core.Path.{_≡_, refl, sym, ap₂, _∙_}
+use mathlib.Core.Path.{_≡_, refl, sym, _∙_}
 use mathlib.Core.List.{List, []}
 use borrow.Author.Tests.{le-leb}
 use lib.Dec.{leb, eqb}
@@ -24,12 +24,10 @@ use Rattle.ips_channel_rules.proofs.Exact.{offered, asked, withdraw-is}
 use Rattle.ips_channel.specs.declared.state.Setting.{Setting}
 use Rattle.ips_channel.specs.declared.state.Channel.{Channel}
 use Rattle.ips_channel.specs.Channel.{termsOf, conditionOf, withCondition, heardOf, freshChannel}
-use Rattle.ips_channel_calls.specs.declared.offering.OfferAnswer.{OfferAnswer}
 use Rattle.ips_channel_calls.specs.declared.offering.OfferOutcome.{OfferOutcome}
-use Rattle.ips_channel_calls.specs.declared.asking.NextAnswer.{NextAnswer}
 use Rattle.ips_channel_calls.specs.declared.asking.NextOutcome.{NextOutcome}
 use Rattle.ips_channel_calls.specs.Calls as replies
-use Rattle.ips_channel_calls.specs.Calls.{Reply, channelAfter, storeAfter, Ready, resultOf, Serves, ServesAnywhere}
+use Rattle.ips_channel_calls.specs.Calls.{Reply, channelAfter, storeAfter, Ready, resultOf, Serves, ServesAnywhere, Moves, MovesAnywhere}
 use Rattle.ips_channel_calls.proofs.Leaving.{ready-alive}
 
 -- what a call on a channel leaves: a condition of the rules, ready for the next call, configured as before
@@ -148,15 +146,23 @@ serves-one h k = (h .reply-is ∙ sym (k .reply-is), h .channel-is ∙ sym (k .c
 -- and so do the results of Offer and of Next, as the code has them
 module _ {call : ChannelCall} {c : Channel} {store s s′ : List ℕ} where
   pub offers-one : (r r′ : OfferOutcome) → ServesAnywhere call c store (replies.offered (r .answer)) (r .channel) s
-      → ServesAnywhere call c store (replies.offered (r′ .answer)) (r′ .channel) s′ → (r ≡ r′) × (s ≡ s′)
-  offers-one r r′ h k =
+      → ServesAnywhere call c store (replies.offered (r′ .answer)) (r′ .channel) s′ → MovesAnywhere call c store (r .moved) → MovesAnywhere call c store (r′ .moved)
+      → (r ≡ r′) × (s ≡ s′)
+  offers-one r r′ h k m n =
       let one = serves-one (h (record { 0 = 0 })) (k (record { 0 = 0 })) in
       let said = one .0 in
-      (ap₂ (λ (answer : OfferAnswer) (channel : Channel). record { answer = answer; channel = channel }) (cc) (one .1), one .2)
+      let answers : r .answer ≡ r′ .answer = cc in
+      let moves : r .moved ≡ r′ .moved = m (record { 0 = 0 }) ∙ sym (n (record { 0 = 0 })) in
+      let same : record { answer = r .answer; channel = r .channel; moved = r .moved } ≡ r′ = rw (answers, one .1, moves) in
+      (same, one .2)
 
   pub asks-one : {datalink : DatalinkId} {out out′ : List ℕ} (r r′ : NextOutcome) → Serves datalink call c store (replies.asked (r .answer) out) (r .channel) s
-      → Serves datalink call c store (replies.asked (r′ .answer) out′) (r′ .channel) s′ → (r ≡ r′) × (s ≡ s′) × (out ≡ out′)
-  asks-one r r′ h k =
+      → Serves datalink call c store (replies.asked (r′ .answer) out′) (r′ .channel) s′ → Moves datalink call c store (r .moved) → Moves datalink call c store (r′ .moved)
+      → (r ≡ r′) × (s ≡ s′) × (out ≡ out′)
+  asks-one r r′ h k m n =
       let one = serves-one h k in
       let said = one .0 in
-      (ap₂ (λ (answer : NextAnswer) (channel : Channel). record { answer = answer; channel = channel }) (cc) (one .1), one .2, (cc))
+      let answers : r .answer ≡ r′ .answer = cc in
+      let moves : r .moved ≡ r′ .moved = m ∙ sym n in
+      let same : record { answer = r .answer; channel = r .channel; moved = r .moved } ≡ r′ = rw (answers, one .1, moves) in
+      (same, one .2, (cc))

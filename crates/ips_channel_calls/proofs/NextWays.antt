@@ -14,8 +14,10 @@ use Rattle.meaning.specs.Statuses.{operational}
 use Rattle.writer.specs.declared.answer.WriteAnswer.{WriteAnswer}
 use Rattle.writer.specs.Written.{noRoom, Outcome}
 use Rattle.store.specs.Packets.{Packet, alive, firstBytes}
+use Rattle.store.specs.Moves.{expiring, sending}
 use Rattle.store.specs.Waiting.{packetsOf}
 use Rattle.store.proofs.Held.{first-none}
+use Rattle.store.proofs.Moved.{displaced-unchanging}
 use Rattle.flow.specs.Counting.{mayGo, sequenceOn, carriedBy}
 use Rattle.ips_channel_rules.specs.Rules.{next, refusal, messageBytes}
 use Rattle.ips_channel_rules.specs.Machine.{machine}
@@ -24,12 +26,12 @@ use Rattle.ips_channel.specs.declared.state.Channel.{Channel}
 use Rattle.ips_channel_calls.specs.declared.asking.NextAnswer.{NextAnswer}
 use Rattle.ips_channel_calls.specs.declared.asking.NextOutcome.{NextOutcome}
 use Rattle.ips_channel.specs.Channel.{termsOf, conditionOf}
-use Rattle.ips_channel_calls.specs.Calls.{refusedWith, asked, channelAfter, storeAfter, Ready, resultOf, Serves, LeftWith}
+use Rattle.ips_channel_calls.specs.Calls.{refusedWith, asked, channelAfter, storeAfter, Ready, resultOf, Serves, Moves, AnsweredWith}
 use Rattle.ips_channel_calls.proofs.Leaving.{ready-alive}
 
 -- a refusal, as the code gives it
 abbrev pub Refused : Channel → ℕ → NextOutcome → Type 0
-Refused c number r = r ≡ record { answer = NextAnswer.Refused (refusedWith number); channel = c }
+Refused c number r = r ≡ record { answer = NextAnswer.Refused (refusedWith number); channel = c; moved = record { 0 = 0 } }
 
 -- the first of the packets that wait
 record Some (ps : List Packet) : Type 0 where
@@ -59,26 +61,29 @@ room-wrote false n m e = (refl, (cc))
 
 module _ (c : Channel) (store : List ℕ) (datalink : DatalinkId) (time : ℕ) (out : List ℕ) where
   abbrev pub Asks : NextOutcome → (store′ out′ : List ℕ) → Type 0
-  Asks r store′ out′ = Serves datalink (next time out) c store (asked (r .answer) out′) (r .channel) store′
+  Asks r store′ out′ = Serves datalink (next time out) c store (asked (r .answer) out′) (r .channel) store′ × Moves datalink (next time out) c store (r .moved)
 
   refuses : (number : ℕ) (r : NextOutcome) → Refused c number r → resultOf datalink (next time out) c store ≡ refusal machine number (conditionOf c store)
       → Asks r store out
   unfolding channelAfter storeAfter
-  refuses number r k e = record { reply-is = rw (k, e); channel-is = rw (k, e); store-is = rw e }
+  refuses number r k e = (record { reply-is = rw (k, e); channel-is = rw (k, e); store-is = rw e }, rw (k, e, displaced-unchanging (packetsOf (c .queue) store)))
 
   pub asks-early : time < c .latest → (r : NextOutcome) → Refused c EARLIER-TIME r → Asks r store out
   unfolding conditionOf
   asks-early t r k = refuses EARLIER-TIME r k (next-early machine (termsOf datalink (c .setting)) time (length out) (conditionOf c store) t)
 
+  -- the expired packets have left, and no other
+  abbrev pub Expired : NextAnswer → NextOutcome → List ℕ → Type 0
+  Expired answer r store′ = AnsweredWith c answer (alive time (packetsOf (c .queue) store)) (c .sequence) time (expiring time (packetsOf (c .queue) store)) r store′
+
   -- the packets that are not expired, and the bytes of the first
   module _ (t : c .latest ≤ time) (bytes : ByteCount) (b : bytes ≡ record { 0 = length (firstBytes (alive time (packetsOf (c .queue) store))) }) where
-    pub asks-nothing : bytes .0 ≡ 0 → Ready c store → (d : Channel) (store′ : List ℕ) → LeftWith c (alive time (packetsOf (c .queue) store)) (c .sequence) time d store′
-        → Asks (record { answer = NextAnswer.NothingWaiting; channel = d }) store′ out
+    pub asks-nothing : bytes .0 ≡ 0 → Ready c store → (r : NextOutcome) (store′ : List ℕ) → Expired NextAnswer.NothingWaiting r store′ → Asks r store′ out
     unfolding conditionOf channelAfter storeAfter
-    asks-nothing n ready d store′ left =
+    asks-nothing n ready r store′ x =
         let none = first-none (c .setting .size .0) (alive time (packetsOf (c .queue) store)) (ready-alive c store ready time) (ap (λ (x : ByteCount). x .0) (sym b) ∙ n) in
         let result = next-nothing machine (termsOf datalink (c .setting)) time (length out) (conditionOf c store) t none in
-        record { reply-is = rw result; channel-is = rw result (left .channel-is); store-is = rw result (left .store-is) }
+        (record { reply-is = rw (result, x .answer-is); channel-is = rw result (x .left .channel-is); store-is = rw result (x .left .store-is) }, rw result (x .moved-is))
 
     module _ (n : bytes .0 ≡ 0 → ⊥) where
       here : Some (alive time (packetsOf (c .queue) store))
@@ -87,20 +92,18 @@ module _ (c : Channel) (store : List ℕ) (datalink : DatalinkId) (time : ℕ) (
       bytes-here : bytes ≡ record { 0 = length (here .first .bytes) }
       bytes-here = rw (here .bytes-are) b
 
-      pub asks-not-operational : operational (c .status) ≡ false → (d : Channel) (store′ : List ℕ) → LeftWith c (alive time (packetsOf (c .queue) store)) (c .sequence) time d store′
-          → Asks (record { answer = NextAnswer.NotOperational; channel = d }) store′ out
+      pub asks-not-operational : operational (c .status) ≡ false → (r : NextOutcome) (store′ : List ℕ) → Expired NextAnswer.NotOperational r store′ → Asks r store′ out
       unfolding conditionOf channelAfter storeAfter
-      asks-not-operational o d store′ left =
+      asks-not-operational o r store′ x =
           let result = next-not-operational machine (termsOf datalink (c .setting)) time (length out) (conditionOf c store) t (here .first) (here .rest) (here .is) o in
-          record { reply-is = rw result; channel-is = rw result (left .channel-is); store-is = rw result (left .store-is) }
+          (record { reply-is = rw (result, x .answer-is); channel-is = rw result (x .left .channel-is); store-is = rw result (x .left .store-is) }, rw result (x .moved-is))
 
       module _ (o : operational (c .status) ≡ true) where
-        pub asks-shut : mayGo (c .flow) (c .sequence) bytes ≡ false → (d : Channel) (store′ : List ℕ) → LeftWith c (alive time (packetsOf (c .queue) store)) (c .sequence) time d store′
-            → Asks (record { answer = NextAnswer.WindowShut; channel = d }) store′ out
+        pub asks-shut : mayGo (c .flow) (c .sequence) bytes ≡ false → (r : NextOutcome) (store′ : List ℕ) → Expired NextAnswer.WindowShut r store′ → Asks r store′ out
         unfolding conditionOf channelAfter storeAfter
-        asks-shut f d store′ left =
+        asks-shut f r store′ x =
             let result = next-shut machine (termsOf datalink (c .setting)) time (length out) (conditionOf c store) t (here .first) (here .rest) (here .is) o (rw bytes-here at f) in
-            record { reply-is = rw result; channel-is = rw result (left .channel-is); store-is = rw result (left .store-is) }
+            (record { reply-is = rw (result, x .answer-is); channel-is = rw result (x .left .channel-is); store-is = rw result (x .left .store-is) }, rw result (x .moved-is))
 
         -- the sequence after the packet, the one that is carried, and what was written
         module _ (f : mayGo (c .flow) (c .sequence) bytes ≡ true) (after : FlowSequence) (a : after ≡ sequenceOn (c .flow) (c .sequence) bytes)
@@ -120,14 +123,16 @@ module _ (c : Channel) (store : List ℕ) (datalink : DatalinkId) (time : ℕ) (
               rw same
               (refuses NO-ROOM r e (next-no-room machine (termsOf datalink (c .setting)) time (length out) (conditionOf c store) t (here .first) (here .rest) (here .is) o (rw bytes-here at f) full))
 
-          pub asks-sent : (m : ByteCount) → w ≡ WriteAnswer.Wrote m → (d : Channel) (store′ : List ℕ) → LeftWith c (tail (alive time (packetsOf (c .queue) store))) after time d store′
-              → Asks (record { answer = NextAnswer.Sent m; channel = d }) store′ out′
+          pub asks-sent : (m : ByteCount) → w ≡ WriteAnswer.Wrote m → (r : NextOutcome) (store′ : List ℕ)
+              → AnsweredWith c (NextAnswer.Sent m) (tail (alive time (packetsOf (c .queue) store))) after time (sending time (packetsOf (c .queue) store)) r store′ → Asks r store′ out′
           unfolding conditionOf channelAfter storeAfter answered
-          asks-sent m k d store′ left =
+          asks-sent m k r store′ x =
               let room = room-wrote (noRoom (length Sent) (length out)) (record { 0 = length Sent }) m (sym k ∙ written .answers) in
-              let result = next-sent machine (termsOf datalink (c .setting)) time (length out) (conditionOf c store) t (here .first) (here .rest) (here .is) o (rw bytes-here at f) (room .0) in
-              record {
-                reply-is = rw (result, room .1, rw (room .0) at (written .bytes-are));
-                channel-is = rw result (rw (a, bytes-here) at (left .channel-is));
-                store-is = rw result (left .store-is);
-              }
+              let result = next-sent machine (termsOf datalink (c .setting)) time (length out) (conditionOf c store) t (here .first) (here .rest) (here .is) o (rw bytes-here at f) (room .0) in (
+                record {
+                  reply-is = rw (result, x .answer-is, room .1, rw (room .0) at (written .bytes-are));
+                  channel-is = rw result (rw (a, bytes-here) at (x .left .channel-is));
+                  store-is = rw result (x .left .store-is);
+                },
+                rw result (x .moved-is),
+              )

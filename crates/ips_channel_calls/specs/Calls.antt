@@ -4,13 +4,15 @@ use mathlib.Core.Bool.{true}
 use mathlib.Core.List.{List}
 use mathlib.Core.Path.{_≡_}
 use lib.ListN.{length}
+use Rattle.quantity.specs.declared.count.ByteCount.{ByteCount}
 use Rattle.quantity.specs.declared.count.DatalinkId.{DatalinkId}
 use Rattle.quantity.specs.declared.count.FlowSequence.{FlowSequence}
 use Rattle.quantity.specs.declared.refusal.Refusal.{Refusal}
 use Rattle.quantity.specs.Limits.{RESERVED-CHANNEL}
 use Rattle.wire.specs.Options.{over}
 use Rattle.store.specs.Packets.{Packet}
-use Rattle.store.specs.Waiting.{storeOf, wellFormed}
+use Rattle.store.specs.Moves.{Stretch, displaced, expiring, sending, withdrawing, unchanging}
+use Rattle.store.specs.Waiting.{packetsOf, storeOf, wellFormed}
 use Rattle.ips_channel_rules.specs.Rules.{ChannelCall, offer, next, withdraw, Taken, taken, Tried, nothingWaiting, notOperational, windowShut, sent, Emptied, emptied, Says, Answer, refused, answered, unlessRefused, Terms, Result, messageBytes, callAt}
 use Rattle.ips_channel_rules.specs.Machine.{machine}
 use Rattle.ips_channel.specs.declared.state.Channel.{Channel}
@@ -18,6 +20,7 @@ use Rattle.ips_channel.specs.Channel.{termsOf, conditionOf, withCondition}
 use Rattle.ips_channel_calls.specs.declared.offering.OfferAnswer.{OfferAnswer}
 use Rattle.ips_channel_calls.specs.declared.offering.WithdrawAnswer.{WithdrawAnswer}
 use Rattle.ips_channel_calls.specs.declared.asking.NextAnswer.{NextAnswer}
+use Rattle.ips_channel_calls.specs.declared.asking.NextOutcome.{NextOutcome}
 
 -- ---- each answer of the rules as the code gives it
 
@@ -85,7 +88,34 @@ pub record Serves (datalink : DatalinkId) (call : ChannelCall) (c : Channel) (st
 abbrev pub ServesAnywhere : ChannelCall → Channel → List ℕ → Reply → Channel → List ℕ → Type 0
 ServesAnywhere call c store reply c′ store′ = (datalink : DatalinkId) → Serves datalink call c store reply c′ store′
 
+-- ---- how many bytes a call moves within the store
+
+-- which of the packets that wait leave by a call that is so answered
+abbrev pub leavingBy : (call : ChannelCall) → Answer (Says call) → List Packet → List Stretch
+leavingBy (offer packet time) (refused number) ps = unchanging ps
+leavingBy (offer packet time) (answered taken) ps = expiring time ps
+leavingBy (next time out) (refused number) ps = unchanging ps
+leavingBy (next time out) (answered nothingWaiting) ps = expiring time ps
+leavingBy (next time out) (answered notOperational) ps = expiring time ps
+leavingBy (next time out) (answered windowShut) ps = expiring time ps
+leavingBy (next time out) (answered (sent packet sequence)) ps = sending time ps
+leavingBy withdraw (refused number) ps = unchanging ps
+leavingBy withdraw (answered emptied) ps = withdrawing ps
+
+-- no more than has to move: `least-moves` of `store_moves`
+abbrev pub Moves : DatalinkId → ChannelCall → Channel → List ℕ → ByteCount → Type 0
+Moves datalink call c store moved = moved ≡ record { 0 = displaced (leavingBy call (resultOf datalink call c store .answer) (packetsOf (c .queue) store)) }
+
+abbrev pub MovesAnywhere : ChannelCall → Channel → List ℕ → ByteCount → Type 0
+MovesAnywhere call c store moved = (datalink : DatalinkId) → Moves datalink call c store moved
+
 -- ---- what the functions behind Next leave
 pub record LeftWith (c : Channel) (ps : List Packet) (sequence : FlowSequence) (time : ℕ) (c′ : Channel) (store′ : List ℕ) : Type 0 where
   pub channel-is : c′ ≡ withCondition c (record { counting = record { flow = c .flow; sequence = sequence }; keeping = ps; status = c .status; latest = time })
   pub store-is : store′ ≡ storeOf (c .setting .size .0) ps
+
+-- with the answer, and the bytes moved where these packets leave
+pub record AnsweredWith (c : Channel) (answer : NextAnswer) (ps : List Packet) (sequence : FlowSequence) (time : ℕ) (gone : List Stretch) (r : NextOutcome) (store′ : List ℕ) : Type 0 where
+  pub answer-is : r .answer ≡ answer
+  pub left : LeftWith c ps sequence time (r .channel) store′
+  pub moved-is : r .moved ≡ record { 0 = displaced gone }

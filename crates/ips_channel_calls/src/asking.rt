@@ -5,11 +5,12 @@ ghost use mathlib.Core.List.{tail};
 ghost use lib.ListN.{length};
 ghost use Rattle.writer.specs.Written.{Outcome};
 ghost use Rattle.store.specs.Packets.{alive, firstBytes};
+ghost use Rattle.store.specs.Moves.{expiring, sending};
 ghost use Rattle.store.specs.Waiting.{packetsOf};
 ghost use Rattle.ips_channel_rules.specs.Rules as rules;
 ghost use Rattle.ips_channel_rules.specs.Rules.{countedOn, messageOf, messageBytes};
 ghost use Rattle.ips_channel.specs.Channel.{termsOf};
-ghost use Rattle.ips_channel_calls.specs.Calls.{refusedWith, asked, Ready, Serves, LeftWith};
+ghost use Rattle.ips_channel_calls.specs.Calls.{refusedWith, asked, Ready, Serves, Moves, AnsweredWith};
 use ips_channel::state;
 use ips_channel::state::Channel;
 use ips_channel::state::Setting;
@@ -38,18 +39,20 @@ pub enum NextAnswer {
     Refused(Refusal),
 }
 
-// The answer, and the channel then.
+// The answer, the channel then, and how many bytes were moved within the store.
 pub struct NextOutcome {
     pub answer: NextAnswer,
     pub channel: Channel,
+    pub moved: ByteCount,
 }
 
 fn refused(channel: Channel, number: u8) -> NextOutcome
-    ensures { λ r. ⌜ r ≡ record { answer = NextAnswer.Refused (refusedWith number); channel = channel } ⌝ }
+    ensures { λ r. ⌜ r ≡ record { answer = NextAnswer.Refused (refusedWith number); channel = channel; moved = record { 0 = 0 } } ⌝ }
 {
     NextOutcome {
         answer: NextAnswer::Refused(Refusal { number, place: 0 }),
         channel,
+        moved: ByteCount(0),
     }
 }
 
@@ -63,26 +66,44 @@ fn first_length(channel: Channel, store: &[u8], time: u64) -> ByteCount
     ByteCount(packet.len())
 }
 
-// The expired packets leave, and no other.
-fn expired(channel: Channel, store: &mut [u8], time: u64) -> Channel
+// The expired packets leave, and no other: the answer says why.
+fn expired(channel: Channel, store: &mut [u8], time: u64, answer: NextAnswer) -> NextOutcome
     requires { ⌜ Ready channel (now store) ⌝ }
-    ensures { λ r. ⌜ LeftWith channel (alive time (packetsOf (channel .queue) (now (store .entry)))) (channel .sequence) time r (now (store .exit)) ⌝ }
+    ensures { λ r. ⌜ AnsweredWith channel answer (alive time (packetsOf (channel .queue) (now (store .entry)))) (channel .sequence) time (expiring time (packetsOf (channel .queue) (now (store .entry)))) r (now (store .exit)) ⌝ }
 {
     let queue = channel.queue;
-    let left = waiting::expire(queue, store, time);
-    state::with_queue(channel, left, time)
+    let remaining = waiting::expire(queue, store, time);
+    let left = remaining.queue;
+    let moved = remaining.moved;
+    NextOutcome {
+        answer,
+        channel: state::with_queue(channel, left, time),
+        moved,
+    }
 }
 
-// The expired packets leave, and the first of the others, which is counted.
-fn sent(channel: Channel, store: &mut [u8], sequence: FlowSequence, time: u64) -> Channel
+// The expired packets leave, and the first of the others, which is counted: its message has this length.
+fn sent(
+    channel: Channel,
+    store: &mut [u8],
+    sequence: FlowSequence,
+    time: u64,
+    length: ByteCount,
+) -> NextOutcome
     requires { ⌜ Ready channel (now store) ⌝ }
-    ensures { λ r. ⌜ LeftWith channel (tail (alive time (packetsOf (channel .queue) (now (store .entry))))) sequence time r (now (store .exit)) ⌝ }
+    ensures { λ r. ⌜ AnsweredWith channel (NextAnswer.Sent length) (tail (alive time (packetsOf (channel .queue) (now (store .entry))))) sequence time (sending time (packetsOf (channel .queue) (now (store .entry)))) r (now (store .exit)) ⌝ }
 {
     let queue = channel.queue;
-    let left = waiting::pop(queue, store, time);
+    let remaining = waiting::pop(queue, store, time);
+    let left = remaining.queue;
+    let moved = remaining.moved;
     let mut counted = state::with_queue(channel, left, time);
     counted.sequence = sequence;
-    counted
+    NextOutcome {
+        answer: NextAnswer::Sent(length),
+        channel: counted,
+        moved,
+    }
 }
 
 fn counted_on(id: u8, sequence: Sequence) -> Counted
@@ -135,6 +156,7 @@ pub fn next(
 ) -> NextOutcome
     requires { ⌜ Ready channel (now store) ⌝ }
     ensures { λ r. ⌜ Serves datalink (rules.next time (now (out .entry))) channel (now (store .entry)) (asked (r .answer) (now (out .exit))) (r .channel) (now (store .exit)) ⌝ }
+    ensures { λ r. ⌜ Moves datalink (rules.next time (now (out .entry))) channel (now (store .entry)) (r .moved) ⌝ }
 {
     if time < channel.latest {
         return refused(channel, refusal::EARLIER_TIME);
@@ -144,24 +166,15 @@ pub fn next(
     let code = channel.status;
     let operational = status::is_operational(code);
     if first == 0 {
-        return NextOutcome {
-            answer: NextAnswer::NothingWaiting,
-            channel: expired(channel, store, time),
-        };
+        return expired(channel, store, time, NextAnswer::NothingWaiting);
     }
     if !operational {
-        return NextOutcome {
-            answer: NextAnswer::NotOperational,
-            channel: expired(channel, store, time),
-        };
+        return expired(channel, store, time, NextAnswer::NotOperational);
     }
     let rule = channel.flow;
     let sequence = channel.sequence;
     if !flow::may_go(rule, sequence, bytes) {
-        return NextOutcome {
-            answer: NextAnswer::WindowShut,
-            channel: expired(channel, store, time),
-        };
+        return expired(channel, store, time, NextAnswer::WindowShut);
     }
     let after = flow::counted(rule, sequence, bytes);
     let carried = flow::carried(rule, after);
@@ -169,8 +182,5 @@ pub fn next(
     else {
         return refused(channel, refusal::NO_ROOM);
     };
-    NextOutcome {
-        answer: NextAnswer::Sent(length),
-        channel: sent(channel, store, after, time),
-    }
+    sent(channel, store, after, time, length)
 }

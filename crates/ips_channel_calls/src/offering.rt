@@ -2,9 +2,10 @@
 ghost use mathlib.Core.Path.{_≡_};
 ghost use Rattle.store.specs.Packets.{packetFor};
 ghost use Rattle.ips_channel_rules.specs.Rules as rules;
-ghost use Rattle.ips_channel_calls.specs.Calls.{refusedWith, offered, withdrawn, Ready, ServesAnywhere};
+ghost use Rattle.ips_channel_calls.specs.Calls.{refusedWith, offered, withdrawn, Ready, ServesAnywhere, MovesAnywhere};
 use ips_channel::state;
 use ips_channel::state::Channel;
+use quantity::count::ByteCount;
 use quantity::limit::LONGEST_PACKET;
 use quantity::refusal;
 use quantity::refusal::Refusal;
@@ -21,18 +22,26 @@ pub enum WithdrawAnswer {
     Refused(Refusal),
 }
 
-// The answer, and the channel then.
+// The answer, the channel then, and how many bytes were moved within the store.
 pub struct OfferOutcome {
     pub answer: OfferAnswer,
     pub channel: Channel,
+    pub moved: ByteCount,
+}
+
+// The channel then, and how many bytes were moved within the store.
+pub struct WithdrawOutcome {
+    pub channel: Channel,
+    pub moved: ByteCount,
 }
 
 fn refused(channel: Channel, number: u8) -> OfferOutcome
-    ensures { λ r. ⌜ r ≡ record { answer = OfferAnswer.Refused (refusedWith number); channel = channel } ⌝ }
+    ensures { λ r. ⌜ r ≡ record { answer = OfferAnswer.Refused (refusedWith number); channel = channel; moved = record { 0 = 0 } } ⌝ }
 {
     OfferOutcome {
         answer: OfferAnswer::Refused(Refusal { number, place: 0 }),
         channel,
+        moved: ByteCount(0),
     }
 }
 
@@ -46,6 +55,7 @@ pub fn offer(
 ) -> OfferOutcome
     requires { ⌜ Ready channel (now store) ⌝ }
     ensures { λ r. ⌜ ServesAnywhere (rules.offer (packetFor (now (packet .entry)) expiry) time) channel (now (store .entry)) (offered (r .answer)) (r .channel) (now (store .exit)) ⌝ }
+    ensures { λ r. ⌜ MovesAnywhere (rules.offer (packetFor (now (packet .entry)) expiry) time) channel (now (store .entry)) (r .moved) ⌝ }
 {
     if !ipv6::is_ipv6(packet) {
         return refused(channel, refusal::NOT_IPV6);
@@ -66,17 +76,25 @@ pub fn offer(
         return refused(channel, refusal::FULL);
     }
     let left = offered.queue;
+    let moved = offered.moved;
     OfferOutcome {
         answer: OfferAnswer::Taken,
         channel: state::with_queue(channel, left, time),
+        moved,
     }
 }
 
 // All packets leave; the latest time stays.
-pub fn withdraw(channel: Channel, store: &mut [u8]) -> Channel
+pub fn withdraw(channel: Channel, store: &mut [u8]) -> WithdrawOutcome
     requires { ⌜ Ready channel (now store) ⌝ }
-    ensures { λ r. ⌜ ServesAnywhere rules.withdraw channel (now (store .entry)) (withdrawn WithdrawAnswer.Withdrawn) r (now (store .exit)) ⌝ }
+    ensures { λ r. ⌜ ServesAnywhere rules.withdraw channel (now (store .entry)) (withdrawn WithdrawAnswer.Withdrawn) (r .channel) (now (store .exit)) ⌝ }
+    ensures { λ r. ⌜ MovesAnywhere rules.withdraw channel (now (store .entry)) (r .moved) ⌝ }
 {
-    let empty = waiting::clear(store);
-    state::with_queue(channel, empty, channel.latest)
+    let cleared = waiting::clear(store);
+    let empty = cleared.queue;
+    let moved = cleared.moved;
+    WithdrawOutcome {
+        channel: state::with_queue(channel, empty, channel.latest),
+        moved,
+    }
 }

@@ -8,6 +8,7 @@ use native.Mathlib.Omega.{arith}
 use lib.ListN.{length, take, drop, replicate, length-append, length-drop, length-map}
 use lib.Seq.{take-append-seam, drop-append-add, take-length, length-take-le}
 use Rattle.quantity.specs.Limits.{MOST-WAITING}
+use Rattle.quantity.specs.declared.count.ByteCount.{ByteCount}
 use Rattle.store.specs.declared.queue.Queue.{Queue}
 use Rattle.store.specs.declared.queue.Amount.{Amount}
 use Rattle.store.specs.Packets.{Packet, packetFor, alive, joined, full, isFull}
@@ -82,8 +83,9 @@ module _ (q : Queue) (s : List ℕ) (t : ℕ) (l : Amount) (so : Sound q s) (e :
         record { not-full = judged ∙ h; few = room .0; used = used; fits = omega (arith, room .1) }
 
 module _ (q : Queue) (s : List ℕ) (ps : List Packet) (p : Packet) where
-  pub refused : isFull (length s) ps p ≡ true → Offering q s ps p (record { taken = false; queue = q }) s
-  refused e = record { taken-is = rw e; queue-is = rw e; store-is = rw e }
+  pub refused : (moved : ByteCount) → isFull (length s) ps p ≡ true → Offering q s ps p (record { taken = false; queue = q; moved = moved }) s
+  refused moved e = record { taken-is = rw e; queue-is = rw e; store-is = rw e }
 
-  pub taken : (q′ : Queue) (s′ : List ℕ) → isFull (length s) ps p ≡ false → Holds (length s) (ps ++ (p ∷ [])) q′ s′ → Offering q s ps p (record { taken = true; queue = q′ }) s′
-  taken q′ s′ e h = record { taken-is = rw e; queue-is = rw e (h .queue-is); store-is = rw e (h .store-is) }
+  pub taken : (q′ : Queue) (s′ : List ℕ) (moved : ByteCount) → isFull (length s) ps p ≡ false → Holds (length s) (ps ++ (p ∷ [])) q′ s′
+      → Offering q s ps p (record { taken = true; queue = q′; moved = moved }) s′
+  taken q′ s′ moved e h = record { taken-is = rw e; queue-is = rw e (h .queue-is); store-is = rw e (h .store-is) }

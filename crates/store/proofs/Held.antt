@@ -66,9 +66,24 @@ module _ (size : ℕ) (ps : List Packet) (q : Queue) (s : List ℕ) (h : Holds s
 pub holds-one : {size : ℕ} {ps : List Packet} {q q′ : Queue} {s s′ : List ℕ} → Holds size ps q s → Holds size ps q′ s′ → (q ≡ q′) × (s ≡ s′)
 holds-one h k = (h .queue-is ∙ sym (k .queue-is), h .store-is ∙ sym (k .store-is))
 
-pub offering-one : {q : Queue} {s : List ℕ} {ps : List Packet} {p : Packet} {r r′ : Offered} {s′ s″ : List ℕ} → Offering q s ps p r s′ → Offering q s ps p r′ s″ → (r ≡ r′) × (s′ ≡ s″)
-offering-one h k =
-    (ap₂ (λ (taken : Bool) (queue : Queue). record { taken = taken; queue = queue }) (h .taken-is ∙ sym (k .taken-is)) (h .queue-is ∙ sym (k .queue-is)), h .store-is ∙ sym (k .store-is))
+pub offering-one : {q : Queue} {s : List ℕ} {ps : List Packet} {p : Packet} {r r′ : Offered} {s′ s″ : List ℕ} → Offering q s ps p r s′ → Offering q s ps p r′ s″
+    → r .moved ≡ r′ .moved → (r ≡ r′) × (s′ ≡ s″)
+offering-one {r} {r′} h k m =
+    let taken : r .taken ≡ r′ .taken = h .taken-is ∙ sym (k .taken-is) in
+    let queue : r .queue ≡ r′ .queue = h .queue-is ∙ sym (k .queue-is) in
+    let same : record { taken = r .taken; queue = r .queue; moved = r .moved } ≡ r′ = rw (taken, queue, m) in
+    (same, h .store-is ∙ sym (k .store-is))
+
+-- ---- what a queue that a store can have holds
+pub sound-fit : (q : Queue) (s : List ℕ) → Sound q s → Fit (length s) (packetsOf q s)
+unfolding packetsOf
+sound-fit q s so =
+    let entries : map entryOf (cut (waiting q) s) ≡ waiting q = entries-cut (waiting q) s (so .room) in
+    record {
+      few = omega (arith, length-map (cut (waiting q) s) entryOf, ap length entries, waiting-few q, so .few);
+      room = omega (arith, total-of (cut (waiting q) s), ap total entries, so .room);
+      sizes = rw entries (so .sizes);
+    }
 
 -- ---- what the test of a queue tells
 module _ (q : Queue) (size : ℕ) (e : wellFormed q size ≡ true) where
@@ -80,17 +95,10 @@ module _ (q : Queue) (size : ℕ) (e : wellFormed q size ≡ true) where
       (leb-true (q .count) MOST-WAITING (y .0), y .1, leb-true (total (waiting q)) size (x .1))
 
   pub well-sound : (s : List ℕ) → length s ≡ size → Sound q s
-  well-sound s l = record { few = well-parts .0; room = omega (arith, well-parts .2, l) }
+  well-sound s l = record { few = well-parts .0; room = omega (arith, well-parts .2, l); sizes = well-parts .1 }
 
   pub well-fit : (s : List ℕ) → length s ≡ size → Fit size (packetsOf q s)
-  unfolding packetsOf
-  well-fit s l =
-      let entries : map entryOf (cut (waiting q) s) ≡ waiting q = entries-cut (waiting q) s (omega (arith, well-parts .2, l)) in
-      record {
-        few = omega (arith, length-map (cut (waiting q) s) entryOf, ap length entries, waiting-few q, well-parts .0);
-        room = omega (arith, total-of (cut (waiting q) s), ap total entries, well-parts .2);
-        sizes = rw entries (well-parts .1);
-      }
+  well-fit s l = rw l at (sound-fit q s (well-sound s l))
 
 -- ---- packets that leave or join still fit
 pub fit-none : (size : ℕ) → Fit size []

@@ -5,4 +5,5 @@ pub mod Expiry
 pub mod Entries
 pub mod Turns
 pub mod Held
+pub mod Moved
 pub mod Changes

@@ -51,9 +51,6 @@ pub record Holds (size : ℕ) (ps : List Packet) (queue : Queue) (store : List �
   pub store-is : store ≡ storeOf size ps
 
 -- ---- a queue that a store can have
-pub record Sound (queue : Queue) (store : List ℕ) : Type 0 where
-  pub few : queue .count ≤ MOST-WAITING
-  pub room : total (waiting queue) ≤ length store
 
 -- Number 19: "more than 32 waiting, a waiting length outside 40 to 1,500, waiting bytes over the store"
 abbrev pub within : ℕ → Bool
@@ -62,6 +59,11 @@ within n = leb SHORTEST-PACKET n && leb n LONGEST-PACKET
 unfoldable pub allWithin : List Entry → Bool
 allWithin [] = true
 allWithin (e ∷ es) = within (e .length .0) && allWithin es
+
+pub record Sound (queue : Queue) (store : List ℕ) : Type 0 where
+  pub few : queue .count ≤ MOST-WAITING
+  pub room : total (waiting queue) ≤ length store
+  pub sizes : allWithin (waiting queue) ≡ true
 
 unfoldable pub wellFormed : Queue → ℕ → Bool
 wellFormed queue size = leb (queue .count) MOST-WAITING && allWithin (waiting queue) && leb (total (waiting queue)) size

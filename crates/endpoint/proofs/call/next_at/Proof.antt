@@ -41,7 +41,7 @@ returns c =
     let asked = told .before .before .before .before .before in
     let loaded = asked .before .before .before .before .before in
     let datalink = named (loaded .before .before) in
-    kept-at _ _ (start loaded .pre) _ (loaded .load .ensures) _ _ _ _ (rw datalink at (asked .next .ensures)) (sym (told .next-refused .ensures) ∙ c .if1 .taken)
+    kept-at _ _ (start loaded .pre) _ (loaded .load .ensures) _ _ _ _ (rw datalink at (asked .next .ensures .0)) (sym (told .next-refused .ensures) ∙ c .if1 .taken)
 
 save-requires : tie.Need-save-requires
 save-requires c κs = placed _ _ (start (c .before .before .before .before .before .before .before .before .before .before .before .before .before) .pre)
@@ -54,7 +54,7 @@ returns-2 c =
     let asked = told .before .before .before .before .before in
     let loaded = asked .before .before .before .before .before in
     let datalink = named (loaded .before .before) in
-    saved-at _ _ (start loaded .pre) _ (loaded .load .ensures) _ _ _ _ (rw datalink at (asked .next .ensures)) (sym (told .next-refused .ensures) ∙ other .if1 .left) _ (saved .save .ensures)
+    saved-at _ _ (start loaded .pre) _ (loaded .load .ensures) _ _ _ _ (rw datalink at (asked .next .ensures .0)) (sym (told .next-refused .ensures) ∙ other .if1 .left) _ (saved .save .ensures)
 
 pub next-at-spec : {M : Type 1} → statement M
 next-at-spec =

@@ -31,7 +31,7 @@ returns c =
     let told = c .before in
     let offered = told .before .before .before in
     let loaded = offered .before .before .before .before in
-    kept-at _ _ (start loaded .pre) _ (loaded .load .ensures) _ _ _ _ (offered .offer .ensures _) (sym (told .offer-refused .ensures) ∙ c .if1 .taken)
+    kept-at _ _ (start loaded .pre) _ (loaded .load .ensures) _ _ _ _ (offered .offer .ensures .0 _) (sym (told .offer-refused .ensures) ∙ c .if1 .taken)
 
 save-requires : tie.Need-save-requires
 save-requires c κs = placed _ _ (start (c .before .before .before .before .before .before .before .before .before .before) .pre)
@@ -43,7 +43,7 @@ returns-2 c =
     let told = other .before in
     let offered = told .before .before .before in
     let loaded = offered .before .before .before .before in
-    saved-at _ _ (start loaded .pre) _ (loaded .load .ensures) _ _ _ _ (offered .offer .ensures _) (sym (told .offer-refused .ensures) ∙ other .if1 .left) _ (saved .save .ensures)
+    saved-at _ _ (start loaded .pre) _ (loaded .load .ensures) _ _ _ _ (offered .offer .ensures .0 _) (sym (told .offer-refused .ensures) ∙ other .if1 .left) _ (saved .save .ensures)
 
 pub offer-at-spec : {M : Type 1} → statement M
 offer-at-spec =

@@ -40,16 +40,16 @@ returns-5 c =
     let lasting = offered .before .before .before in
     let short = lasting .before .before in
     offers-full _ _ _ _ (ipv6 (short .before)) (short .if2 .left) (lasting .before .if3 .left) (lasting .if4 .left) (short .before .before .before .before .before .pre) _ _
-    (offered .offer .ensures) (c .before .if5 .taken) _ (c .refused5 .ensures)
+    (offered .offer .ensures .0) (c .before .if5 .taken) _ (c .refused5 .ensures)
 
 returns-6 : tie.Need-returns-6
 returns-6 c =
-    let room = c .before .before in
+    let room = c .before .before .before in
     let offered = room .before .before .before .before in
     let lasting = offered .before .before .before in
     let short = lasting .before .before in
     offers-taken _ _ _ _ (ipv6 (short .before)) (short .if2 .left) (lasting .before .if3 .left) (lasting .if4 .left) (short .before .before .before .before .before .pre) _ _
-    (offered .offer .ensures) (room .if5 .left) _ (c .with-queue .ensures)
+    (offered .offer .ensures .0) (room .if5 .left) _ (c .with-queue .ensures) (offered .offer .ensures .1)
 
 pub offer-spec : {M : Type 1} → statement M
 offer-spec =

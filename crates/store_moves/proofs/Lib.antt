@@ -1,0 +1,5 @@
+-- The promises of this crate.
+pub mod LeastMoves
+pub mod Attained
+pub mod Waiting
+pub mod Pinned
