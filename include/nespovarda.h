@@ -5,7 +5,7 @@
  * take both as the call before left them, and keep nothing elsewhere. The words may be copied, saved and restored with
  * the memory; what stands where in them is the library's own.
  *
- * A slice is a pointer and the number of its elements. Every call takes any numbers and any bytes, and refuses what it
+ * A slice is a pointer and the number of its elements; an array (`shown`) is a pointer to that many numbers. Every call takes any numbers and any bytes, and refuses what it
  * can't take. All that is asked of a caller: each slice is memory of its own of that length, its pointer isn't null (even
  * where the length is 0), and what a call may change overlaps no other slice of the call.
  *

@@ -7,7 +7,7 @@ use std::hint::black_box;
 use super::endpoint::Plain;
 use super::library::{Answer, Proved};
 use super::message::{mixed, put, with_word, Window};
-use super::timing::{timed, Dice};
+use super::timing::{median, rounds, Dice};
 
 // ---- calls
 
@@ -191,7 +191,7 @@ pub fn radio_control(ids: &[u8], status: &dyn Fn(u8) -> Option<u8>, window: &dyn
 
 pub const OUT: usize = 2000;
 
-// Nanoseconds by which one script takes longer than another, of the proved endpoint, the plain one and the plain one without the test of 19. Both begin with a start.
+// Nanoseconds by which one script takes longer than another in the same round, of the proved endpoint, the plain one and the plain one without the test of 19. Both begin with a start.
 pub fn longer(setup: &Setup, whole: &Run, base: &Run) -> [f64; 3] {
     let size = setup.starts.iter().map(|start| start.size).sum();
     let memory = vec![0; size];
@@ -199,7 +199,7 @@ pub fn longer(setup: &Setup, whole: &Run, base: &Run) -> [f64; 3] {
     let proved = RefCell::new(Side::new(Proved::new(setup), &memory, size, &out));
     let plain = RefCell::new(Side::new(Plain::new(setup, true), &memory, size, &out));
     let trusting = RefCell::new(Side::new(Plain::new(setup, false), &memory, size, &out));
-    let times = timed([
+    let [proved, proved_base, plain, plain_base, trusting, trusting_base] = rounds([
         &mut || proved.borrow_mut().play(black_box(whole)),
         &mut || proved.borrow_mut().play(black_box(base)),
         &mut || plain.borrow_mut().play(black_box(whole)),
@@ -207,5 +207,6 @@ pub fn longer(setup: &Setup, whole: &Run, base: &Run) -> [f64; 3] {
         &mut || trusting.borrow_mut().play(black_box(whole)),
         &mut || trusting.borrow_mut().play(black_box(base)),
     ]);
-    [times[0] - times[1], times[2] - times[3], times[4] - times[5]]
+    let above = |whole: Vec<f64>, base: Vec<f64>| median(whole.iter().zip(base).map(|(whole, base)| whole - base).collect());
+    [above(proved, proved_base), above(plain, plain_base), above(trusting, trusting_base)]
 }

@@ -72,7 +72,7 @@ pub struct Endpoint<'a> {
 }
 
 impl<'a> Endpoint<'a> {
-    /// A fresh start in [`words_for`] so many words, of any content, and a memory as long as all stores together. Refused by 19.
+    /// A fresh start. `words` are as many as [`words_for`] says, of any content; `memory` is as long as all stores together. Refused by 19.
     pub fn start(words: &'a mut [u64], memory: &'a mut [u8], configuration: &Configuration<'_>) -> Result<Endpoint<'a>, Refusal> {
         let answer = library::start(words, memory, configuration.words());
         match answer.kind {
