@@ -175,6 +175,14 @@ fn ips_data_expiring(size: usize) -> Vec<u8> {
     with_packet(message, size)
 }
 
+// An Expiration Time of 0, which no packet may have.
+fn expiring_at_once(size: usize) -> (Vec<u8>, usize) {
+    let mut message = ips_data_expiring(size);
+    let place = middle(&message, 130);
+    message[place + 3..place + 7].fill(0);
+    (message, place)
+}
+
 fn radio_data(size: usize) -> Vec<u8> {
     let mut message = begin(DATA);
     put(&mut message, 129, &[2]);
@@ -254,6 +262,7 @@ fn cases() -> Vec<Case> {
     let (primary, primary_at) = without_primary(16);
     let (empty, empty_at) = without_packet();
     let (wrong, wrong_at) = reserved(ips_data(1320), 129);
+    let (zero, zero_at) = expiring_at_once(1320);
     vec![
         accepted("data, IPS, 60 bytes", Call::Data, End::Ips, ips_data(60)),
         accepted("data, IPS, 60 bytes, packet handed back", Call::Packet, End::Ips, ips_data(60)),
@@ -277,6 +286,7 @@ fn cases() -> Vec<Case> {
         refused("control, no status of channel 0", Call::Control, End::Radio, primary, 9, primary_at),
         refused("data, refused by its header", Call::Packet, End::Ips, other_version(ips_data(1320)), 2, 0),
         refused("data, refused in the middle", Call::Packet, End::Ips, wrong, 5, wrong_at),
+        refused("data, an expiration of 0", Call::Packet, End::Ips, zero, 5, zero_at),
         refused("data, no packet", Call::Packet, End::Ips, empty, 9, empty_at),
     ]
 }
