@@ -1,6 +1,6 @@
 -- After each call the channel and its store are in the condition that the rules leave, and ready for the next call; any two outcomes of one contract coincide.
 -- Assumes nothing.
-use Prim.Native.Nat.{ℕ, _+_, _<_, _≤_}
+use Prim.Native.Nat.{ℕ, _+_, _≤_}
 use mathlib.Core.Bool.{Bool, true, false, cond, _&&_, and-eq-true-iff}
 use mathlib.Core.Path.{_≡_, refl, sym, _∙_}
 use mathlib.Core.List.{List, []}
@@ -9,7 +9,7 @@ use lib.Dec.{leb, eqb}
 use lib.ListN.{length}
 use Rattle.quantity.specs.declared.count.DatalinkId.{DatalinkId}
 use Rattle.quantity.specs.declared.count.FlowSequence.{FlowSequence}
-use Rattle.quantity.specs.Limits.{RESERVED-CHANNEL, SHORTEST-PACKET, LONGEST-PACKET}
+use Rattle.quantity.specs.Limits.{SHORTEST-PACKET, LONGEST-PACKET}
 use Rattle.meaning.specs.declared.message.Status.{Status}
 use Rattle.meaning.specs.declared.message.Window.{Window}
 use Rattle.ipv6.specs.Ipv6.{isIpv6, versionIn, payloadLength}
@@ -25,6 +25,8 @@ use Rattle.ips_channel.specs.declared.state.Setting.{Setting}
 use Rattle.ips_channel.specs.declared.state.Channel.{Channel}
 use Rattle.ips_channel.specs.Channel.{termsOf, conditionOf, withCondition, heardOf, freshChannel}
 use Rattle.ips_channel_calls.specs.declared.offering.OfferOutcome.{OfferOutcome}
+use Rattle.ips_channel_calls.specs.declared.offering.WithdrawAnswer.{WithdrawAnswer}
+use Rattle.ips_channel_calls.specs.declared.offering.WithdrawOutcome.{WithdrawOutcome}
 use Rattle.ips_channel_calls.specs.declared.asking.NextOutcome.{NextOutcome}
 use Rattle.ips_channel_calls.specs.Calls as replies
 use Rattle.ips_channel_calls.specs.Calls.{Reply, channelAfter, storeAfter, Ready, resultOf, Serves, ServesAnywhere, Moves, MovesAnywhere}
@@ -129,21 +131,12 @@ pub fresh-condition : (setting : Setting) (first : FlowSequence) (store : List �
 unfolding conditionOf freshChannel packetsOf cut
 fresh-condition setting first store = rw (waiting-of [])
 
-pub fresh-ready : (setting : Setting) (first : FlowSequence) (store : List ℕ) → setting .id < RESERVED-CHANNEL → length store ≡ setting .size .0
-    → Ready (freshChannel setting first) store
-unfolding freshChannel
-fresh-ready setting first store d l = record {
-  id = d;
-  well = holds-well (setting .size .0) [] (queueOf []) (storeOf (setting .size .0) []) (record { queue-is = refl; store-is = refl }) (fit-none (setting .size .0));
-  size = l;
-}
-
 -- ---- any two outcomes coincide
 pub serves-one : {datalink : DatalinkId} {call : ChannelCall} {c : Channel} {store : List ℕ} {reply reply′ : Reply} {d d′ : Channel} {s s′ : List ℕ}
     → Serves datalink call c store reply d s → Serves datalink call c store reply′ d′ s′ → (reply ≡ reply′) × (d ≡ d′) × (s ≡ s′)
 serves-one h k = (h .reply-is ∙ sym (k .reply-is), h .channel-is ∙ sym (k .channel-is), h .store-is ∙ sym (k .store-is))
 
--- and so do the results of Offer and of Next, as the code has them
+-- and so do the results of Offer, of Withdraw and of Next, as the code has them
 module _ {call : ChannelCall} {c : Channel} {store s s′ : List ℕ} where
   pub offers-one : (r r′ : OfferOutcome) → ServesAnywhere call c store (replies.offered (r .answer)) (r .channel) s
       → ServesAnywhere call c store (replies.offered (r′ .answer)) (r′ .channel) s′ → MovesAnywhere call c store (r .moved) → MovesAnywhere call c store (r′ .moved)
@@ -154,6 +147,15 @@ module _ {call : ChannelCall} {c : Channel} {store s s′ : List ℕ} where
       let answers : r .answer ≡ r′ .answer = cc in
       let moves : r .moved ≡ r′ .moved = m (record { 0 = 0 }) ∙ sym (n (record { 0 = 0 })) in
       let same : record { answer = r .answer; channel = r .channel; moved = r .moved } ≡ r′ = rw (answers, one .1, moves) in
+      (same, one .2)
+
+  pub withdraws-one : (r r′ : WithdrawOutcome) → ServesAnywhere call c store (replies.withdrawn WithdrawAnswer.Withdrawn) (r .channel) s
+      → ServesAnywhere call c store (replies.withdrawn WithdrawAnswer.Withdrawn) (r′ .channel) s′ → MovesAnywhere call c store (r .moved) → MovesAnywhere call c store (r′ .moved)
+      → (r ≡ r′) × (s ≡ s′)
+  withdraws-one r r′ h k m n =
+      let one = serves-one (h (record { 0 = 0 })) (k (record { 0 = 0 })) in
+      let moves : r .moved ≡ r′ .moved = m (record { 0 = 0 }) ∙ sym (n (record { 0 = 0 })) in
+      let same : record { channel = r .channel; moved = r .moved } ≡ r′ = rw (one .1, moves) in
       (same, one .2)
 
   pub asks-one : {datalink : DatalinkId} {out out′ : List ℕ} (r r′ : NextOutcome) → Serves datalink call c store (replies.asked (r .answer) out) (r .channel) s

@@ -102,7 +102,7 @@ leavingBy (next time out) (answered (sent packet sequence)) ps = sending time ps
 leavingBy withdraw (refused number) ps = unchanging ps
 leavingBy withdraw (answered emptied) ps = withdrawing ps
 
--- no more than has to move: `least-moves` of `store_moves`
+-- no more than has to move: `call-least` of `call_moves`, which says too that those packets leave
 abbrev pub Moves : DatalinkId → ChannelCall → Channel → List ℕ → ByteCount → Type 0
 Moves datalink call c store moved = moved ≡ record { 0 = displaced (leavingBy call (resultOf datalink call c store .answer) (packetsOf (c .queue) store)) }
 
@@ -115,7 +115,7 @@ pub record LeftWith (c : Channel) (ps : List Packet) (sequence : FlowSequence) (
   pub store-is : store′ ≡ storeOf (c .setting .size .0) ps
 
 -- with the answer, and the bytes moved where these packets leave
-pub record AnsweredWith (c : Channel) (answer : NextAnswer) (ps : List Packet) (sequence : FlowSequence) (time : ℕ) (gone : List Stretch) (r : NextOutcome) (store′ : List ℕ) : Type 0 where
+pub record AnsweredWith (c : Channel) (answer : NextAnswer) (ps : List Packet) (sequence : FlowSequence) (time : ℕ) (stretches : List Stretch) (r : NextOutcome) (store′ : List ℕ) : Type 0 where
   pub answer-is : r .answer ≡ answer
   pub left : LeftWith c ps sequence time (r .channel) store′
-  pub moved-is : r .moved ≡ record { 0 = displaced gone }
+  pub moved-is : r .moved ≡ record { 0 = displaced stretches }

@@ -1,23 +1,23 @@
 -- A queue and a store that hold packets: what the crates above cite. Assumes nothing.
-use mathlib.Core.Bool.{Bool, true, false, _&&_, and-eq-true-iff}
-use mathlib.Core.Path.{_≡_, refl, sym, ap, ap₂, _∙_}
+use mathlib.Core.Bool.{true, false, _&&_, and-eq-true-iff}
+use mathlib.Core.Path.{_≡_, refl, sym, ap, _∙_}
 use mathlib.Core.List.{List, [], _∷_, _++_, map, tail, append-assoc, append-nil}
-use Prim.Native.Nat.{ℕ, zero, suc, _+_, _-_, _<_, _≤_}
-use native.Mathlib.Nat.{zero-add, suc-add}
+use Prim.Native.Nat.{ℕ, _+_, _-_, _<_, _≤_}
 use native.Mathlib.Omega.{arith}
 use borrow.Author.Tests.{leb-true, leb-false, ltb-false, le-leb}
 use lib.Dec.{leb, ltb}
-use lib.ListN.{length, take, drop, replicate, length-append, length-replicate, length-map}
-use lib.Seq.{take-append-seam, drop-append-seam, take-nil, take-take}
+use lib.ListN.{length, replicate, length-append, length-replicate, length-map}
+use lib.Seq.{take-append-seam, drop-append-seam}
 use Rattle.facts.proofs.Tests.{neither}
 use Rattle.quantity.specs.Limits.{MOST-WAITING}
 use Rattle.store.specs.declared.queue.Entry.{Entry}
 use Rattle.store.specs.declared.queue.Queue.{Queue}
 use Rattle.store.specs.declared.waiting.Offered.{Offered}
 use Rattle.store.specs.Packets.{Packet, alive, joined, firstBytes, isFull}
+use Rattle.store.specs.Moves.{displaced, offering}
 use Rattle.store.specs.Waiting.{waiting, total, cut, packetsOf, noEntry, listed, entryOf, queueOf, storeOf, Holds, Sound, within, allWithin, wellFormed, Offering}
 use Rattle.store.specs.Parts.{kept, amountOf}
-use Rattle.store.proofs.Lasting.{lasting-ind, lasting-fewer, lasting-again, lasting-map}
+use Rattle.store.proofs.Lasting.{lasting-ind, lasting-fewer, lasting-map}
 use Rattle.store.proofs.Entries.{waiting-few, within-limits, total-kept, total-of, entries-cut, entries-alive}
 
 -- ---- packets that a queue and a store of a size may hold
@@ -66,13 +66,18 @@ module _ (size : ℕ) (ps : List Packet) (q : Queue) (s : List ℕ) (h : Holds s
 pub holds-one : {size : ℕ} {ps : List Packet} {q q′ : Queue} {s s′ : List ℕ} → Holds size ps q s → Holds size ps q′ s′ → (q ≡ q′) × (s ≡ s′)
 holds-one h k = (h .queue-is ∙ sym (k .queue-is), h .store-is ∙ sym (k .store-is))
 
-pub offering-one : {q : Queue} {s : List ℕ} {ps : List Packet} {p : Packet} {r r′ : Offered} {s′ s″ : List ℕ} → Offering q s ps p r s′ → Offering q s ps p r′ s″
-    → r .moved ≡ r′ .moved → (r ≡ r′) × (s′ ≡ s″)
-offering-one {r} {r′} h k m =
-    let taken : r .taken ≡ r′ .taken = h .taken-is ∙ sym (k .taken-is) in
-    let queue : r .queue ≡ r′ .queue = h .queue-is ∙ sym (k .queue-is) in
-    let same : record { taken = r .taken; queue = r .queue; moved = r .moved } ≡ r′ = rw (taken, queue, m) in
-    (same, h .store-is ∙ sym (k .store-is))
+-- by both clauses of the contract: the answer with the queue and the store, and the bytes moved
+module _ (q : Queue) (s : List ℕ) (p : Packet) (t : ℕ) where
+  abbrev pub Offers : Offered → List ℕ → Type 0
+  Offers r s′ = Offering q s (alive t (packetsOf q s)) p r s′ × (r .moved ≡ record { 0 = displaced (offering (length s) p t (packetsOf q s)) })
+
+  pub offering-one : {r r′ : Offered} {s′ s″ : List ℕ} → Offers r s′ → Offers r′ s″ → (r ≡ r′) × (s′ ≡ s″)
+  offering-one {r} {r′} h k =
+      let taken : r .taken ≡ r′ .taken = h .0 .taken-is ∙ sym (k .0 .taken-is) in
+      let queue : r .queue ≡ r′ .queue = h .0 .queue-is ∙ sym (k .0 .queue-is) in
+      let moved : r .moved ≡ r′ .moved = h .1 ∙ sym (k .1) in
+      let same : record { taken = r .taken; queue = r .queue; moved = r .moved } ≡ r′ = rw (taken, queue, moved) in
+      (same, h .0 .store-is ∙ sym (k .0 .store-is))
 
 -- ---- what a queue that a store can have holds
 pub sound-fit : (q : Queue) (s : List ℕ) → Sound q s → Fit (length s) (packetsOf q s)
@@ -131,10 +136,14 @@ fit-tail size (p ∷ ps) f = record {
   sizes = and-eq-true-iff (within (length (p .bytes))) (allWithin (map entryOf ps)) .0 (f .sizes) .1;
 }
 
+pub joined-append : (ps qs : List Packet) → joined (ps ++ qs) ≡ joined ps ++ joined qs
+unfolding joined
+joined-append [] qs = refl
+joined-append (p ∷ ps) qs = rw (joined-append ps qs, append-assoc)
+
 pub joined-join : (ps : List Packet) (p : Packet) → joined (ps ++ (p ∷ [])) ≡ joined ps ++ p .bytes
 unfolding joined
-joined-join [] p = append-nil (p .bytes)
-joined-join (x ∷ ps) p = rw (joined-join ps p, append-assoc)
+joined-join ps p = rw (joined-append ps (p ∷ []), append-nil)
 
 within-join : (ps : List Packet) (p : Packet) → allWithin (map entryOf ps) ≡ true → within (length (p .bytes)) ≡ true → allWithin (map entryOf (ps ++ (p ∷ []))) ≡ true
 unfolding allWithin entryOf
@@ -158,9 +167,6 @@ fit-join size ps p f d e = record {
 }
 
 -- ---- the answers
-pub alive-again : (s t : ℕ) (ps : List Packet) → s ≤ t → alive t (alive s ps) ≡ alive t ps
-alive-again = lasting-again (λ (p : Packet). p .expiry)
-
 pub fit-first : (size : ℕ) (p : Packet) (ps : List Packet) → Fit size (p ∷ ps) → within (length (p .bytes)) ≡ true
 unfolding allWithin entryOf
 fit-first size p ps f = and-eq-true-iff (within (length (p .bytes))) (allWithin (map entryOf ps)) .0 (f .sizes) .0
@@ -182,20 +188,3 @@ module _ (q : Queue) (s : List ℕ) (ps : List Packet) (p : Packet) (r : Offered
 
   pub offering-refused : isFull (length s) ps p ≡ true → (r .queue ≡ q) × (s′ ≡ s)
   offering-refused e = ((rw e at (o .queue-is)), (rw e at (o .store-is)))
-
--- ---- what stands behind the waiting bytes makes no difference
-drop-take : (n m : ℕ) (s : List ℕ) → drop n (take (n + m) s) ≡ take m (drop n s)
-drop-take zero m s = rw zero-add
-drop-take (suc n) m [] = rw (suc-add, take-nil m)
-drop-take (suc n) m (b ∷ s) = rw suc-add (drop-take n m s)
-
-cut-waiting : (es : List Entry) (s : List ℕ) → cut es s ≡ cut es (take (total es) s)
-unfolding total cut
-cut-waiting [] s = refl
-cut-waiting (e ∷ es) s =
-    let n = e .length .0 in
-    rw (take-take n (n + total es) s (omega arith), drop-take n (total es) s, ← (cut-waiting es (drop n s)))
-
-pub packets-waiting : (q : Queue) (s : List ℕ) → packetsOf q s ≡ packetsOf q (take (total (waiting q)) s)
-unfolding packetsOf
-packets-waiting q s = cut-waiting (waiting q) s

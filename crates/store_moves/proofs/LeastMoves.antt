@@ -2,221 +2,213 @@
 -- Assumes nothing.
 use mathlib.Core.Bool.{Bool, true, false, cond, _||_}
 use mathlib.Core.Path.{_≡_, refl, sym, ap, _∙_}
-use mathlib.Core.List.{List, [], _∷_, _++_}
-use Prim.Native.Nat.{ℕ, zero, suc, _+_, _-_, _<_, _≤_, _^_}
+use mathlib.Core.List.{List, [], _∷_}
+use Prim.Native.Nat.{ℕ, zero, suc, _+_, _-_, _<_, _≤_}
 use native.Mathlib.Omega.{arith}
-use borrow.Author.Tests.{eqb-true, eqb-false, eq-eqb, ne-eqb}
+use borrow.Author.Tests.{eqb-true, eqb-false}
 use lib.Dec.{eqb}
-use lib.ListN.{length, getD, take, drop, set, replicate, length-set, length-replicate, length-drop, getD-replicate, List·getD-append}
-use lib.Seq.{getD-set-same, getD-set-other, getD-take, getD-drop, getD-append-add, length-take-le}
+use lib.ListN.{length, getD, set, replicate, length-set, length-replicate}
+use lib.Seq.{getD-set-same, getD-set-other, getD-take, set-out}
 use Rattle.facts.proofs.Tests.{by-le, neither, clash}
 use Rattle.store.specs.Moves.{Stretch, staying, displaced}
 use Rattle.store.proofs.Moved.{displaced-within}
-use Rattle.store_moves.specs.Moving.{Move, moving, writes, remaining, span, Filled, none, more, Brings, Displaced}
+use Rattle.store_moves.specs.Moving.{Move, moving, ends, writes, reads, AreBytes, Brings, Displaced}
+use Rattle.store_moves.proofs.Sources.{source, source-rising, Sourced, sourced, zeros-at, one, one-long, one-here, one-other, one-bytes}
 
--- ---- where a byte of those that stay comes from
-record Sourced (xs : List Stretch) (place : ℕ) : Type 0 where
-  from : ℕ
-  inside : from < span xs
-  above : place ≤ from
-  other : Displaced xs place → place < from
-  is : (store : List ℕ) → span xs ≤ length store → getD (remaining xs store) place 0 ≡ getD store from 0
+-- ---- the places at one end of the moves: those that are written to, or read from
+module _ (end : Move → ℕ) where
+  touched : ℕ → List Move → Bool
+  touched place [] = false
+  touched place (m ∷ ms) = eqb (end m) place || touched place ms
 
-module _ (x : Stretch) (xs : List Stretch) (place : ℕ) where
-  -- behind a packet that leaves
-  gone : x .stays ≡ false → 0 < x .length → Sourced xs place → Sourced (x ∷ xs) place
-  unfolding staying displaced span remaining
-  gone e n s = record {
-    from = x .length + s .from;
-    inside = omega (arith, s .inside);
-    above = omega (arith, s .above);
-    other = λ d. omega (arith, s .above);
-    is = λ store h. rw e (s .is (drop (x .length) store) (simp length-drop (omega arith)) ∙ getD-drop (x .length) store (s .from) 0);
-  }
+  without : ℕ → List Move → List Move
+  without place [] = []
+  without place (m ∷ ms) = cond (eqb (end m) place) (without place ms) (m ∷ without place ms)
 
-  -- within a packet that stays
-  here : x .stays ≡ true → place < x .length → Sourced (x ∷ xs) place
-  unfolding staying displaced span remaining
-  here e h = record {
-    from = place;
-    inside = omega arith;
-    above = omega arith;
-    other = λ d. let above : x .length + staying xs ≤ place + displaced xs = rw e at (d .above) in absurd (omega (arith, displaced-within xs));
-    is = λ store k. rw e (List·getD-append (take (x .length) store) (remaining xs (drop (x .length) store)) 0 place (rw (length-take-le (x .length) store (omega arith)) h) ∙ getD-take (x .length) store place 0 h);
-  }
-
-  -- behind it
-  behind : x .stays ≡ true → x .length ≤ place → Sourced xs (place - x .length) → Sourced (x ∷ xs) place
-  unfolding staying displaced span remaining
-  behind e h s = record {
-    from = x .length + s .from;
-    inside = omega (arith, s .inside);
-    above = omega (arith, s .above);
-    other = λ d.
-        let above : x .length + staying xs ≤ place + displaced xs = rw e at (d .above) in
-        let below : place < x .length + staying xs = rw e at (d .below) in
-        omega (arith, s .other (record { above = omega arith; below = omega arith }));
-    is = λ store k. rw e (on store (omega arith) ∙ s .is (drop (x .length) store) (simp length-drop (omega arith)) ∙ getD-drop (x .length) store (s .from) 0);
-  }
+  without-ends : (place : ℕ) (ms : List Move) → length (without place ms) + ends end place ms ≡ length ms
+  unfolding without ends
+  without-ends place [] = refl
+  without-ends place (m ∷ ms) = each (eqb (end m) place) (without-ends place ms)
     where
-      on : (store : List ℕ) → x .length ≤ length store
-          → getD (take (x .length) store ++ remaining xs (drop (x .length) store)) place 0 ≡ getD (remaining xs (drop (x .length) store)) (place - x .length) 0
-      on store k =
-          let long : length (take (x .length) store) ≡ x .length = length-take-le (x .length) store k in
-          let at : place ≡ length (take (x .length) store) + (place - x .length) = omega arith in
-          ap (λ (n : ℕ). getD (take (x .length) store ++ remaining xs (drop (x .length) store)) n 0) at
-          ∙ getD-append-add (take (x .length) store) (remaining xs (drop (x .length) store)) (place - x .length) 0
+      each : (b : Bool) → length (without place ms) + ends end place ms ≡ length ms
+          → length (cond b (without place ms) (m ∷ without place ms)) + (cond b 1 0 + ends end place ms) ≡ suc (length ms)
+      each true h = omega arith
+      each false h = omega arith
 
-sourced : (xs : List Stretch) (place : ℕ) → Filled xs → place < staying xs → Sourced xs place
-unfolding staying
-sourced _ place none h = absurd (omega arith)
-sourced _ place (more {x} {xs} n f) h = each (x .stays) refl h (λ q. sourced xs q f)
-  where
-    each : (b : Bool) → x .stays ≡ b → place < cond b (x .length + staying xs) (staying xs) → ((q : ℕ) → q < staying xs → Sourced xs q) → Sourced (x ∷ xs) place
-    each false e k r = gone x xs place e n (r place k)
-    each true e k r = by-le (x .length) place (λ l. behind x xs place e l (r (place - x .length) (omega arith))) (λ l. here x xs place e l)
+  touched-ends : (place : ℕ) (ms : List Move) → touched place ms ≡ true → 0 < ends end place ms
+  unfolding touched ends
+  touched-ends place [] e = clash e
+  touched-ends place (m ∷ ms) e = each (eqb (end m) place) e (touched-ends place ms)
+    where
+      each : (b : Bool) → (b || touched place ms) ≡ true → (touched place ms ≡ true → 0 < ends end place ms) → 0 < cond b 1 0 + ends end place ms
+      each true e h = omega arith
+      each false e h = omega (arith, h e)
 
--- ---- which places are written to
+  touched-without : (place gone : ℕ) (ms : List Move) → (place ≡ gone → ⊥) → touched place ms ≡ true → touched place (without gone ms) ≡ true
+  unfolding touched without
+  touched-without place gone [] q e = e
+  touched-without place gone (m ∷ ms) q e = each (eqb (end m) gone) refl (eqb (end m) place) refl e (touched-without place gone ms q)
+    where
+      each : (a : Bool) → eqb (end m) gone ≡ a → (b : Bool) → eqb (end m) place ≡ b → (b || touched place ms) ≡ true
+          → (touched place ms ≡ true → touched place (without gone ms) ≡ true) → touched place (cond a (without gone ms) (m ∷ without gone ms)) ≡ true
+      each true f true g e h = absurd (q (sym (eqb-true (end m) place g) ∙ eqb-true (end m) gone f))
+      each true f false g e h = h e
+      each false f true g e h = rw g
+      each false f false g e h = rw g (h e)
+
+  -- places in rising order that are all touched are no more than the moves
+  module _ (at : ℕ → ℕ) (rising : (i j : ℕ) → i < j → at i < at j) where
+    places : (n : ℕ) (ms : List Move) → ((i : ℕ) → i < n → touched (at i) ms ≡ true) → n ≤ length ms
+    places zero ms h = omega arith
+    places (suc n) ms h =
+        let fewer = places n (without (at n) ms) (λ i k. touched-without (at i) (at n) ms (λ q. omega (arith, rising i n k)) (h i (omega arith))) in
+        omega (arith, fewer, without-ends (at n) ms, touched-ends (at n) ms (h n (omega arith)))
+
+    -- all of them but one
+    most-places : (n but : ℕ) (ms : List Move) → ((i : ℕ) → i < n → (at i ≡ but → ⊥) → touched (at i) ms ≡ true) → n ≤ suc (length ms)
+    most-places zero but ms h = omega arith
+    most-places (suc n) but ms h =
+        each (eqb (at n) but) refl (most-places n but (without (at n) ms) (λ i k q. touched-without (at i) (at n) ms (λ p. omega (arith, rising i n k)) (h i (omega arith) q)))
+      where
+        each : (b : Bool) → eqb (at n) but ≡ b → n ≤ suc (length (without (at n) ms)) → suc n ≤ suc (length ms)
+        each true e fewer =
+            let last = eqb-true (at n) but e in
+            omega (arith, places n ms (λ i k. h i (omega arith) (λ q. omega (arith, rising i n k))))
+        each false e fewer = omega (arith, without-ends (at n) ms, touched-ends (at n) ms (h n (omega arith) (eqb-false (at n) but e)))
+
+    -- as many moves as such places touch none of all places twice
+    once : (n : ℕ) (ms : List Move) → ((i : ℕ) → i < n → touched (at i) ms ≡ true) → length ms ≡ n → (place : ℕ) → ends end place ms ≤ 1
+    once n ms h few place =
+        let rest = most-places n place (without place ms) (λ i k q. touched-without (at i) place ms q (h i k)) in
+        omega (arith, rest, without-ends place ms)
+
 written : ℕ → List Move → Bool
-written place [] = false
-written place (m ∷ ms) = eqb (m .to) place || written place ms
+written = touched (λ m. m .to)
 
+read : ℕ → List Move → Bool
+read = touched (λ m. m .from)
+
+-- ---- a place that isn't written to keeps its byte
 unwritten : (place : ℕ) (ms : List Move) (store : List ℕ) → written place ms ≡ false → getD (moving ms store) place 0 ≡ getD store place 0
-unfolding moving written
+unfolding moving written touched
 unwritten place [] store e = refl
 unwritten place (m ∷ ms) store e =
     let h = neither (eqb (m .to) place) (written place ms) e in
     unwritten place ms (set store (m .to) (getD store (m .from) 0)) (h .1)
     ∙ getD-set-other store (m .to) place (getD store (m .from) 0) 0 (λ q. eqb-false (m .to) place (h .0) (sym q))
 
--- a store of zeros with a 1 at a place
-module _ (size from : ℕ) (h : from < size) where
-  one : List ℕ
-  one = set (replicate size 0) from 1
+-- ---- the byte of a place that isn't read from makes no difference at another: two stores that differ there alone
+record Alike (place : ℕ) (store other : List ℕ) : Type 0 where
+  long : length store ≡ length other
+  elsewhere : (q : ℕ) → (q ≡ place → ⊥) → getD store q 0 ≡ getD other q 0
 
-  one-long : length one ≡ size
-  unfolding one
-  one-long = simp (length-set, length-replicate)
+alike-set : (place : ℕ) (store other : List ℕ) → Alike place store other → (to byte : ℕ) → Alike place (set store to byte) (set other to byte)
+alike-set place store other a to byte = record { long = simp length-set (a .long); elsewhere = λ q n. each q n (eqb q to) refl }
+  where
+    each : (q : ℕ) → (q ≡ place → ⊥) → (b : Bool) → eqb q to ≡ b → getD (set store to byte) q 0 ≡ getD (set other to byte) q 0
+    each q n true e =
+        by-le (length store) to (λ out. rw (set-out store to byte out, set-out other to byte (omega (arith, a .long))) (a .elsewhere q n))
+        (λ within. rw (eqb-true q to e, getD-set-same store to byte 0 within, getD-set-same other to byte 0 (omega (arith, a .long))))
+    each q n false e = rw (getD-set-other store to q byte 0 (eqb-false q to e), getD-set-other other to q byte 0 (eqb-false q to e)) (a .elsewhere q n)
 
-  one-here : getD one from 0 ≡ 1
-  unfolding one
-  one-here = getD-set-same (replicate size 0) from 1 0 (simp length-replicate h)
-
-  one-other : (place : ℕ) → (place ≡ from → ⊥) → getD one place 0 ≡ 0
-  unfolding one
-  one-other place q = getD-set-other (replicate size 0) from place 1 0 q ∙ zeros size place
-    where
-      zeros : (n i : ℕ) → _≡_ {A = ℕ} (getD (replicate n 0) i 0) 0
-      zeros zero i = refl
-      zeros (suc n) zero = refl
-      zeros (suc n) (suc i) = zeros n i
-
-  one-bytes : (place : ℕ) → getD one place 0 < 2 ^ 8
-  one-bytes place = each (eqb place from) refl
-    where
-      each : (b : Bool) → eqb place from ≡ b → getD one place 0 < 2 ^ 8
-      each true e = rw (eqb-true place from e, one-here) (omega arith)
-      each false e = rw (one-other place (eqb-false place from e)) (omega arith)
+unread : (place : ℕ) (ms : List Move) (store other : List ℕ) → read place ms ≡ false → Alike place store other → Alike place (moving ms store) (moving ms other)
+unfolding moving read touched
+unread place [] store other e a = a
+unread place (m ∷ ms) store other e a =
+    let h = neither (eqb (m .from) place) (read place ms) e in
+    let byte = getD other (m .from) 0 in
+    let same : getD store (m .from) 0 ≡ byte = a .elsewhere (m .from) (eqb-false (m .from) place (h .0)) in
+    unread place ms (set store (m .to) (getD store (m .from) 0)) (set other (m .to) byte) (h .1) (rw same (alike-set place store other a (m .to) byte))
 
 module _ (size : ℕ) (xs : List Stretch) (ms : List Move) (b : Brings size xs ms) where
-  -- a displaced place keeps its byte unless it is written to, and its byte comes from another place
-  all-written : (place : ℕ) → Displaced xs place → written place ms ≡ true
-  all-written place d = each (written place ms) refl
-    where
-      s : Sourced xs place
-      s = sourced xs place (b .filled) (d .below)
+  module _ (place : ℕ) (d : Displaced xs place) where
+    s : Sourced xs place
+    s = sourced xs place (b .filled) (d .below)
 
-      within : s .from < size
-      within = omega (arith, s .inside, b .room)
+    within : s .from < size
+    within = omega (arith, s .inside, b .room)
 
-      each : (t : Bool) → written place ms ≡ t → t ≡ true
-      each true e = refl
-      each false e =
-          let store = one size (s .from) within in
-          let stayed : getD (moving ms store) place 0 ≡ 0 = unwritten place ms store e ∙ one-other size (s .from) within place (λ q. omega (arith, s .other d)) in
-          let brought : getD (take (staying xs) (moving ms store)) place 0 ≡ getD store (s .from) 0 =
-          ap (λ (l : List ℕ). getD l place 0) (b .start store (one-long size (s .from) within) (one-bytes size (s .from) within)) ∙ s .is store (omega (arith, b .room, one-long size (s .from) within)) in
-          absurd (omega (arith, stayed, brought, getD-take (staying xs) (moving ms store) place 0 (d .below), one-here size (s .from) within))
+    tells : List ℕ
+    tells = one size (s .from) within
 
--- ---- places that are all written to are no more than the moves
-without : ℕ → List Move → List Move
-without place [] = []
-without place (m ∷ ms) = cond (eqb (m .to) place) (without place ms) (m ∷ without place ms)
+    brought : (store : List ℕ) → length store ≡ size → AreBytes store → getD (moving ms store) place 0 ≡ getD store (s .from) 0
+    brought store l bytes =
+        sym (getD-take (staying xs) (moving ms store) place 0 (d .below)) ∙ ap (λ (l : List ℕ). getD l place 0) (b .start store l bytes) ∙ s .is store (omega (arith, b .room))
 
-without-writes : (place : ℕ) (ms : List Move) → length (without place ms) + writes place ms ≡ length ms
-unfolding without writes
-without-writes place [] = refl
-without-writes place (m ∷ ms) = each (eqb (m .to) place) (without-writes place ms)
-  where
-    each : (b : Bool) → length (without place ms) + writes place ms ≡ length ms
-        → length (cond b (without place ms) (m ∷ without place ms)) + (cond b 1 0 + writes place ms) ≡ suc (length ms)
-    each true h = omega arith
-    each false h = omega arith
+    one-brought : getD (moving ms tells) place 0 ≡ 1
+    unfolding tells
+    one-brought = brought tells (one-long size (s .from) within) (one-bytes size (s .from) within) ∙ one-here size (s .from) within
 
-written-writes : (place : ℕ) (ms : List Move) → written place ms ≡ true → 0 < writes place ms
-unfolding written writes
-written-writes place [] e = clash e
-written-writes place (m ∷ ms) e = each (eqb (m .to) place) e (written-writes place ms)
-  where
-    each : (b : Bool) → (b || written place ms) ≡ true → (written place ms ≡ true → 0 < writes place ms) → 0 < cond b 1 0 + writes place ms
-    each true e h = omega arith
-    each false e h = omega (arith, h e)
+    -- a displaced place keeps its byte unless it is written to
+    all-written : written place ms ≡ true
+    unfolding tells
+    all-written = each (written place ms) refl
+      where
+        each : (t : Bool) → written place ms ≡ t → t ≡ true
+        each true e = refl
+        each false e =
+            let stayed : getD (moving ms tells) place 0 ≡ 0 = unwritten place ms tells e ∙ one-other size (s .from) within place (λ q. omega (arith, s .other d)) in
+            absurd (omega (arith, stayed, one-brought))
 
-written-without : (place gone : ℕ) (ms : List Move) → (place ≡ gone → ⊥) → written place ms ≡ true → written place (without gone ms) ≡ true
-unfolding written without
-written-without place gone [] q e = e
-written-without place gone (m ∷ ms) q e = each (eqb (m .to) gone) refl (eqb (m .to) place) refl e (written-without place gone ms q)
-  where
-    each : (a : Bool) → eqb (m .to) gone ≡ a → (b : Bool) → eqb (m .to) place ≡ b → (b || written place ms) ≡ true
-        → (written place ms ≡ true → written place (without gone ms) ≡ true) → written place (cond a (without gone ms) (m ∷ without gone ms)) ≡ true
-    each true f true g e h = absurd (q (sym (eqb-true (m .to) place g) ∙ eqb-true (m .to) gone f))
-    each true f false g e h = h e
-    each false f true g e h = rw g
-    each false f false g e h = rw g (h e)
+    -- and the place that its byte comes from is read
+    all-read : read (source xs place) ms ≡ true
+    unfolding tells
+    all-read = rw (s .from-is) (each (read (s .from) ms) refl)
+      where
+        zeros : List ℕ
+        zeros = replicate size 0
 
-places : (n first : ℕ) (ms : List Move) → ((i : ℕ) → i < n → written (first + i) ms ≡ true) → n ≤ length ms
-places zero first ms h = omega arith
-places (suc n) first ms h =
-    let last = first + n in
-    let fewer = places n first (without last ms) (λ i k. written-without (first + i) last ms (λ q. omega arith) (h i (omega arith))) in
-    omega (arith, fewer, without-writes last ms, written-writes last ms (h n (omega arith)))
+        alike : Alike (s .from) zeros tells
+        alike = record { long = rw (one-long size (s .from) within) (length-replicate size 0); elsewhere = λ q n. zeros-at size q ∙ sym (one-other size (s .from) within q n) }
 
--- all places of a row but one
-most-places : (n first but : ℕ) (ms : List Move) → ((i : ℕ) → i < n → (first + i ≡ but → ⊥) → written (first + i) ms ≡ true) → n ≤ suc (length ms)
-most-places zero first but ms h = omega arith
-most-places (suc n) first but ms h =
-    let last = first + n in
-    each (eqb last but) refl (most-places n first but (without last ms) (λ i k q. written-without (first + i) last ms (λ p. omega arith) (h i (omega arith) q)))
-  where
-    each : (b : Bool) → eqb (first + n) but ≡ b → n ≤ suc (length (without (first + n) ms)) → suc n ≤ suc (length ms)
-    each true e fewer =
-        let last = eqb-true (first + n) but e in
-        omega (arith, places n first ms (λ i k. h i (omega arith) (λ q. omega arith)))
-    each false e fewer = omega (arith, without-writes (first + n) ms, written-writes (first + n) ms (h n (omega arith) (eqb-false (first + n) but e)))
+        each : (t : Bool) → read (s .from) ms ≡ t → t ≡ true
+        each true e = refl
+        each false e =
+            let same = unread (s .from) ms zeros tells e alike .elsewhere place (λ q. omega (arith, s .other d)) in
+            let none : getD (moving ms zeros) place 0 ≡ 0 =
+            brought zeros (length-replicate size 0) (λ q. rw (zeros-at size q) (omega arith)) ∙ zeros-at size (s .from) in
+            absurd (omega (arith, same, none, one-brought))
 
-module _ (size : ℕ) (xs : List Stretch) (ms : List Move) (b : Brings size xs ms) where
-  displaced-at : (i : ℕ) → i < displaced xs → Displaced xs (staying xs - displaced xs + i)
+  -- the displaced places, one after the other
+  place-at : ℕ → ℕ
+  place-at i = staying xs - displaced xs + i
+
+  displaced-at : (i : ℕ) → i < displaced xs → Displaced xs (place-at i)
+  unfolding place-at
   displaced-at i h = record { above = omega (arith, displaced-within xs); below = omega (arith, displaced-within xs) }
+
+  at-rising : (i j : ℕ) → i < j → place-at i < place-at j
+  unfolding place-at
+  at-rising i j h = omega arith
+
+  at-written : (i : ℕ) → i < displaced xs → written (place-at i) ms ≡ true
+  at-written i h = all-written (place-at i) (displaced-at i h)
 
   -- each list of moves that brings the packets that stay to the store's start, whatever bytes it holds, has a move at least for each displaced byte
   pub least-moves : displaced xs ≤ length ms
-  least-moves = places (displaced xs) (staying xs - displaced xs) ms (λ i h. all-written size xs ms b (staying xs - displaced xs + i) (displaced-at i h))
+  unfolding written
+  least-moves = places (λ m. m .to) place-at at-rising (displaced xs) ms at-written
 
-  -- "Move each surviving byte at most once in a call": with no more moves than that, no place is written to twice, and none needlessly
+  -- "Move each surviving byte at most once in a call": with no more moves than that, no place is written to twice, none needlessly, and none is read from twice
   module _ (few : length ms ≡ displaced xs) where
     pub moved-once : (place : ℕ) → writes place ms ≤ 1
-    moved-once place =
-        let rest = most-places (displaced xs) (staying xs - displaced xs) place (without place ms)
-        (λ i h q. written-without (staying xs - displaced xs + i) place ms q (all-written size xs ms b (staying xs - displaced xs + i) (displaced-at i h))) in
-        omega (arith, rest, without-writes place ms)
+    unfolding written
+    moved-once = once (λ m. m .to) place-at at-rising (displaced xs) ms at-written few
+
+    pub read-once : (place : ℕ) → reads place ms ≤ 1
+    unfolding read
+    read-once =
+        once (λ m. m .from) (λ i. source xs (place-at i)) (λ i j h. source-rising xs (place-at i) (place-at j) (at-rising i j h)) (displaced xs) ms
+        (λ i h. all-read (place-at i) (displaced-at i h)) few
 
     pub moved-needed : (place : ℕ) → 0 < writes place ms → Displaced xs place
+    unfolding written place-at
     moved-needed place w =
         by-le (staying xs) (place + displaced xs) (λ above. by-le (staying xs) place (λ far. absurd (omega (arith, outside (λ i q h. omega (arith, displaced-within xs))))) (λ below. record { above = above; below = below }))
         (λ low. absurd (omega (arith, outside (λ i q h. omega (arith, displaced-within xs)))))
       where
-        outside : ((i : ℕ) → staying xs - displaced xs + i ≡ place → i < displaced xs → ⊥) → displaced xs + writes place ms ≤ length ms
+        outside : ((i : ℕ) → place-at i ≡ place → i < displaced xs → ⊥) → displaced xs + writes place ms ≤ length ms
         outside far =
-            let rest = places (displaced xs) (staying xs - displaced xs) (without place ms)
-            (λ i h. written-without (staying xs - displaced xs + i) place ms (λ q. far i q h) (all-written size xs ms b (staying xs - displaced xs + i) (displaced-at i h))) in
-            omega (arith, rest, without-writes place ms)
+            let rest = places (λ m. m .to) place-at at-rising (displaced xs) (without (λ m. m .to) place ms)
+            (λ i h. touched-without (λ m. m .to) (place-at i) place ms (λ q. far i q h) (at-written i h)) in
+            omega (arith, rest, without-ends (λ m. m .to) place ms)

@@ -1,4 +1,5 @@
 -- The promises of this crate.
+pub mod Sources
 pub mod LeastMoves
 pub mod Attained
 pub mod Waiting

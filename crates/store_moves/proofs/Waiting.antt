@@ -1,78 +1,114 @@
--- The packets that wait, as stretches: those that stay are those that the store holds after a call, and `least-moves` holds of them. Assumes nothing.
+-- The packets that wait, as stretches: which of them stay by each call, that these are the bytes so brought, and that `least-moves` holds of them. Assumes nothing.
 use mathlib.Core.Bool.{Bool, true, false, cond, and-eq-true-iff}
-use mathlib.Core.Path.{_≡_, refl, _∙_}
+use mathlib.Core.Path.{_≡_, refl, sym, ap, _∙_}
 use mathlib.Core.List.{List, [], _∷_, _++_, map, tail, append-assoc}
 use Prim.Native.Nat.{ℕ, _+_, _<_, _≤_}
 use native.Mathlib.Omega.{arith}
-use lib.ListN.{length, length-append}
-use lib.Seq.{take-append-seam, drop-append-seam}
+use lib.ListN.{length, take, drop, length-append, take-append-drop}
+use lib.Seq.{take-append-seam, drop-append-seam, drop-drop}
+use Rattle.store.specs.declared.queue.Entry.{Entry}
+use Rattle.store.specs.declared.queue.Queue.{Queue}
 use Rattle.store.specs.Packets.{Packet, lastsAt, lasting, alive, joined}
-use Rattle.store.specs.Moves.{displaced, expiring, sending}
-use Rattle.store.specs.Waiting.{entryOf, within, allWithin}
+use Rattle.store.specs.Moves.{Stretch, stretchOf, staying, displaced, expiring, sending, withdrawing, unchanging}
+use Rattle.store.specs.Waiting.{waiting, total, cut, packetsOf, entryOf, within, allWithin}
 use Rattle.store.proofs.Entries.{within-limits}
 use Rattle.store.proofs.Held.{Fit}
-use Rattle.store_moves.specs.Moving.{Move, remaining, span, Filled, none, more, ToStart, Brings}
+use Rattle.store_moves.specs.Moving.{Move, remaining, span, Filled, none, more, ToStart, Marked, none-waits, this-stays, this-leaves}
 use Rattle.store_moves.proofs.LeastMoves.{least-moves}
 
+-- ---- which packets stay
 module _ (t : ℕ) where
-  pub remaining-alive : (ps : List Packet) (behind : List ℕ) → remaining (expiring t ps) (joined ps ++ behind) ≡ joined (alive t ps)
-  unfolding remaining expiring joined lasting
-  remaining-alive [] behind = refl
-  remaining-alive (p ∷ ps) behind = rw (append-assoc, take-append-seam, drop-append-seam, remaining-alive ps behind) (each (lastsAt t (p .expiry)))
+  -- where some expire, those that last
+  pub marked-expiring : (ps : List Packet) → Marked ps (expiring t ps) (alive t ps)
+  unfolding expiring lasting
+  marked-expiring [] = none-waits
+  marked-expiring (p ∷ ps) = each (lastsAt t (p .expiry)) (marked-expiring ps)
     where
-      each : (b : Bool) → cond b (p .bytes) [] ++ joined (alive t ps) ≡ joined (cond b (p ∷ alive t ps) (alive t ps))
-      each true = refl
-      each false = refl
+      each : (b : Bool) → Marked ps (expiring t ps) (alive t ps) → Marked (p ∷ ps) (stretchOf p b ∷ expiring t ps) (cond b (p ∷ alive t ps) (alive t ps))
+      each true m = this-stays m
+      each false m = this-leaves m
 
-  pub remaining-sent : (ps : List Packet) (behind : List ℕ) → remaining (sending t ps) (joined ps ++ behind) ≡ joined (tail (alive t ps))
-  unfolding remaining sending joined lasting
-  remaining-sent [] behind = refl
-  remaining-sent (p ∷ ps) behind = rw (append-assoc, drop-append-seam) (each (lastsAt t (p .expiry)) (remaining-sent ps behind))
+  -- where a packet is sent, those behind the first that lasts
+  pub marked-sending : (ps : List Packet) → Marked ps (sending t ps) (tail (alive t ps))
+  unfolding sending lasting
+  marked-sending [] = none-waits
+  marked-sending (p ∷ ps) = each (lastsAt t (p .expiry)) (marked-sending ps)
     where
-      each : (b : Bool) → remaining (sending t ps) (joined ps ++ behind) ≡ joined (tail (alive t ps))
-          → remaining (cond b (expiring t ps) (sending t ps)) (joined ps ++ behind) ≡ joined (tail (cond b (p ∷ alive t ps) (alive t ps)))
-      each true h = remaining-alive ps behind
-      each false h = h
+      each : (b : Bool) → Marked ps (sending t ps) (tail (alive t ps))
+          → Marked (p ∷ ps) (stretchOf p false ∷ cond b (expiring t ps) (sending t ps)) (tail (cond b (p ∷ alive t ps) (alive t ps)))
+      each true m = this-leaves (marked-expiring ps)
+      each false m = this-leaves m
 
-  span-expiring : (ps : List Packet) → span (expiring t ps) ≡ length (joined ps)
-  unfolding span expiring joined
-  span-expiring [] = refl
-  span-expiring (p ∷ ps) = rw (length-append, span-expiring ps)
+-- where all are withdrawn none, where a call is refused all
+pub marked-withdrawing : (ps : List Packet) → Marked ps (withdrawing ps) []
+unfolding withdrawing
+marked-withdrawing [] = none-waits
+marked-withdrawing (p ∷ ps) = this-leaves (marked-withdrawing ps)
 
-  span-sending : (ps : List Packet) → span (sending t ps) ≡ length (joined ps)
-  unfolding span sending joined
-  span-sending [] = refl
-  span-sending (p ∷ ps) = rw length-append (each (lastsAt t (p .expiry)) (span-sending ps))
-    where
-      each : (b : Bool) → span (sending t ps) ≡ length (joined ps) → length (p .bytes) + span (cond b (expiring t ps) (sending t ps)) ≡ length (p .bytes) + length (joined ps)
-      each true h = rw (span-expiring ps)
-      each false h = rw h
+pub marked-unchanging : (ps : List Packet) → Marked ps (unchanging ps) ps
+unfolding unchanging
+marked-unchanging [] = none-waits
+marked-unchanging (p ∷ ps) = this-stays (marked-unchanging ps)
 
-  -- packets have 40 bytes at least
-  filled-expiring : (ps : List Packet) → allWithin (map entryOf ps) ≡ true → Filled (expiring t ps)
-  unfolding expiring allWithin entryOf
-  filled-expiring [] e = none
-  filled-expiring (p ∷ ps) e =
-      let h = and-eq-true-iff (within (length (p .bytes))) (allWithin (map entryOf ps)) .0 e in
-      let some : 0 < length (p .bytes) = omega (arith, within-limits (length (p .bytes)) (h .0)) in
-      more some (filled-expiring ps (h .1))
+-- ---- their bytes, and how many all have
+remaining-marked : {ps kept : List Packet} {xs : List Stretch} → Marked ps xs kept → (behind : List ℕ) → remaining xs (joined ps ++ behind) ≡ joined kept
+unfolding remaining joined
+remaining-marked none-waits behind = refl
+remaining-marked (this-stays m) behind = rw (append-assoc, take-append-seam, drop-append-seam, remaining-marked m behind)
+remaining-marked (this-leaves m) behind = rw (append-assoc, drop-append-seam, remaining-marked m behind)
 
-  filled-sending : (ps : List Packet) → allWithin (map entryOf ps) ≡ true → Filled (sending t ps)
-  unfolding sending allWithin entryOf
-  filled-sending [] e = none
-  filled-sending (p ∷ ps) e =
-      let h = and-eq-true-iff (within (length (p .bytes))) (allWithin (map entryOf ps)) .0 e in
-      let some : 0 < length (p .bytes) = omega (arith, within-limits (length (p .bytes)) (h .0)) in
-      more some (each (lastsAt t (p .expiry)) (filled-expiring ps (h .1)) (filled-sending ps (h .1)))
-    where
-      each : (b : Bool) → Filled (expiring t ps) → Filled (sending t ps) → Filled (cond b (expiring t ps) (sending t ps))
-      each true f g = f
-      each false f g = g
+pub staying-marked : {ps kept : List Packet} {xs : List Stretch} → Marked ps xs kept → staying xs ≡ length (joined kept)
+unfolding staying joined
+staying-marked none-waits = refl
+staying-marked (this-stays m) = rw (length-append, staying-marked m)
+staying-marked (this-leaves m) = staying-marked m
 
-  -- no way to have the expired packets leave, and none to have the first of the others leave too, moves fewer bytes than the calls do
-  module _ (size : ℕ) (ps : List Packet) (fit : Fit size ps) (ms : List Move) where
-    pub expiring-least : ToStart size (expiring t ps) ms → displaced (expiring t ps) ≤ length ms
-    expiring-least start = least-moves size (expiring t ps) ms (record { filled = filled-expiring ps (fit .sizes); room = omega (arith, fit .room, span-expiring ps); start = start })
+span-marked : {ps kept : List Packet} {xs : List Stretch} → Marked ps xs kept → span xs ≡ length (joined ps)
+unfolding span joined
+span-marked none-waits = refl
+span-marked (this-stays m) = rw (length-append, span-marked m)
+span-marked (this-leaves m) = rw (length-append, span-marked m)
 
-    pub sending-least : ToStart size (sending t ps) ms → displaced (sending t ps) ≤ length ms
-    sending-least start = least-moves size (sending t ps) ms (record { filled = filled-sending ps (fit .sizes); room = omega (arith, fit .room, span-sending ps); start = start })
+-- packets have 40 bytes at least
+first-within : (p : Packet) (ps : List Packet) → allWithin (map entryOf (p ∷ ps)) ≡ true → (0 < length (p .bytes)) × (allWithin (map entryOf ps) ≡ true)
+unfolding allWithin entryOf
+first-within p ps e =
+    let h = and-eq-true-iff (within (length (p .bytes))) (allWithin (map entryOf ps)) .0 e in
+    ((omega (arith, within-limits (length (p .bytes)) (h .0))), h .1)
+
+filled-marked : {ps kept : List Packet} {xs : List Stretch} → Marked ps xs kept → allWithin (map entryOf ps) ≡ true → Filled xs
+filled-marked none-waits e = none
+filled-marked (this-stays {p} {ps} m) e = let h = first-within p ps e in more (h .0) (filled-marked m (h .1))
+filled-marked (this-leaves {p} {ps} m) e = let h = first-within p ps e in more (h .0) (filled-marked m (h .1))
+
+-- ---- of a queue and its store
+joined-cut : (es : List Entry) (s : List ℕ) → joined (cut es s) ++ drop (total es) s ≡ s
+unfolding joined cut total
+joined-cut [] s = refl
+joined-cut (e ∷ es) s =
+    let rest : joined (cut es (drop (e .length .0) s)) ++ drop (e .length .0 + total es) s ≡ drop (e .length .0) s = rw drop-drop at (joined-cut es (drop (e .length .0) s)) in
+    rw (append-assoc, rest, take-append-drop)
+
+module _ (q : Queue) (s : List ℕ) where
+  -- "A store holds the waiting packets end to end in order from its start"
+  pub joined-start : take (length (joined (packetsOf q s))) s ≡ joined (packetsOf q s)
+  unfolding packetsOf
+  joined-start =
+      let ps = cut (waiting q) s in
+      ap (take (length (joined ps))) (sym (joined-cut (waiting q) s)) ∙ take-append-seam (joined ps) (drop (total (waiting q)) s)
+
+  -- what the moves bring to the start are the bytes of the packets that stay
+  pub remaining-kept : {xs : List Stretch} {kept : List Packet} → Marked (packetsOf q s) xs kept → remaining xs s ≡ joined kept
+  unfolding packetsOf
+  remaining-kept {xs} m = ap (remaining xs) (sym (joined-cut (waiting q) s)) ∙ remaining-marked m (drop (total (waiting q)) s)
+
+  pub remaining-alive : (t : ℕ) → remaining (expiring t (packetsOf q s)) s ≡ joined (alive t (packetsOf q s))
+  remaining-alive t = remaining-kept (marked-expiring t (packetsOf q s))
+
+  pub remaining-sent : (t : ℕ) → remaining (sending t (packetsOf q s)) s ≡ joined (tail (alive t (packetsOf q s)))
+  remaining-sent t = remaining-kept (marked-sending t (packetsOf q s))
+
+-- whichever packets leave of those that a store of this size may hold: no way to bring the others to its start has fewer moves
+pub marked-least : (size : ℕ) {ps kept : List Packet} {xs : List Stretch} → Fit size ps → Marked ps xs kept → (ms : List Move) → ToStart size xs ms → displaced xs ≤ length ms
+marked-least size {xs} fit m ms start =
+    least-moves size xs ms (record { filled = filled-marked m (fit .sizes); room = omega (arith, fit .room, span-marked m); start = start })

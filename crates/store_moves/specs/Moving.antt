@@ -1,11 +1,12 @@
 -- Request 4: any way to bring the packets that stay to the store's start, one byte moved after the other.
-use mathlib.Core.Bool.{cond}
+use mathlib.Core.Bool.{true, false, cond}
 use mathlib.Core.Path.{_≡_}
 use mathlib.Core.List.{List, [], _∷_, _++_}
 use Prim.Native.Nat.{ℕ, _+_, _<_, _≤_, _^_}
 use lib.Dec.{eqb}
 use lib.ListN.{length, getD, take, drop, set}
-use Rattle.store.specs.Moves.{Stretch, staying, displaced}
+use Rattle.store.specs.Packets.{Packet}
+use Rattle.store.specs.Moves.{Stretch, stretchOf, staying, displaced}
 
 -- a move: the byte at one place of a store is written to another
 pub record Move : Type 0 where
@@ -17,10 +18,16 @@ unfoldable pub moving : List Move → List ℕ → List ℕ
 moving [] store = store
 moving (m ∷ ms) store = moving ms (set store (m .to) (getD store (m .from) 0))
 
--- how many of them write to a place
-unfoldable pub writes : ℕ → List Move → ℕ
-writes place [] = 0
-writes place (m ∷ ms) = cond (eqb (m .to) place) 1 0 + writes place ms
+-- how many of them have one of their two ends at a place: write to it, read from it
+unfoldable pub ends : (end : Move → ℕ) → ℕ → List Move → ℕ
+ends end place [] = 0
+ends end place (m ∷ ms) = cond (eqb (end m) place) 1 0 + ends end place ms
+
+abbrev pub writes : ℕ → List Move → ℕ
+writes = ends (λ m. m .to)
+
+abbrev pub reads : ℕ → List Move → ℕ
+reads = ends (λ m. m .from)
 
 -- the bytes of the packets that stay, in order
 unfoldable pub remaining : List Stretch → List ℕ → List ℕ
@@ -52,3 +59,17 @@ pub record Brings (size : ℕ) (xs : List Stretch) (ms : List Move) : Type 0 whe
 pub record Displaced (xs : List Stretch) (place : ℕ) : Type 0 where
   pub above : staying xs ≤ place + displaced xs
   pub below : place < staying xs
+
+-- the same in plain facts: whatever a store holds, the byte that belongs at the place stands at another
+pub record Elsewhere (xs : List Stretch) (place : ℕ) : Type 0 where
+  pub below : place < staying xs
+  pub from : ℕ
+  pub other : from ≡ place → ⊥
+  pub inside : from < span xs
+  pub is : (store : List ℕ) → span xs ≤ length store → getD (remaining xs store) place 0 ≡ getD store from 0
+
+-- packets that wait, their stretches, and those of the packets that stay
+pub data Marked : List Packet → List Stretch → List Packet → Type 0 where
+  none-waits : Marked [] [] []
+  this-stays : {p : Packet} {ps kept : List Packet} {xs : List Stretch} → Marked ps xs kept → Marked (p ∷ ps) (stretchOf p true ∷ xs) (p ∷ kept)
+  this-leaves : {p : Packet} {ps kept : List Packet} {xs : List Stretch} → Marked ps xs kept → Marked (p ∷ ps) (stretchOf p false ∷ xs) kept
