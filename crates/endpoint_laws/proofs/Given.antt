@@ -1,4 +1,4 @@
--- Each answer of Offer, Next and Withdraw that the code gives is given if and only if its facts hold, the numbers 12 to 19 among them. Assumes nothing.
+-- Each answer of Offer, Next and Withdraw, as they should be on a state, is given if and only if its facts hold, the numbers 12 to 19 among them. Assumes nothing.
 use Prim.Native.Nat.{ℕ, _+_, _%_, _≤_, _<_}
 use mathlib.Core.Bool.{Bool, true, false, and-eq-true-iff}
 use mathlib.Core.List.{List, _∷_}
@@ -33,7 +33,7 @@ use Rattle.ips_channel.specs.Channel.{conditionOf}
 use Rattle.ips_channel_calls.specs.declared.offering.OfferAnswer.{OfferAnswer}
 use Rattle.ips_channel_calls.specs.declared.offering.WithdrawAnswer.{WithdrawAnswer}
 use Rattle.ips_channel_calls.specs.declared.asking.NextAnswer.{NextAnswer}
-use Rattle.ips_channel_calls.specs.Calls.{Reply, offered, asked, withdrawn, offerAnswer, nextAnswer, withdrawAnswer}
+use Rattle.ips_channel_calls.specs.Calls.{offered, asked, withdrawn, offerAnswer, nextAnswer, withdrawAnswer}
 use Rattle.ips_state.specs.Limits.{sizes, stateFits}
 use Rattle.ips_state.specs.Memory.{memoryFits, World, worldFits, isConfigured, indexIn, channelIn}
 use Rattle.ips_state.proofs.Places.{found}
@@ -44,14 +44,12 @@ use Rattle.ips_run.proofs.Exact.{named, gives-configuration, gives-no-channel, 
 use Rattle.ips_calls.specs.Replies.{ofChannel}
 use Rattle.ips_calls.specs.Calls.{Performed}
 use Rattle.ips_calls.specs.ReadBack.{SequenceWords}
+use Rattle.ips_calls.proofs.Refused.{one-reply}
 use Rattle.endpoint_laws.specs.Given.{Admitted, Configured, NotConfigured, notDueIn, numbered, OfferGiven, offer-19, offer-12, offer-13, offer-14, offer-15, offer-16, offer-17, offer-taken, Goes, goes-free, goes-under, Shut, shut-none, shut-past, NextGiven, next-19, next-12, next-15, next-nothing, next-down, next-shut, next-18, next-sent, WithdrawGiven, withdraw-19, withdraw-12, withdraw-done}
 
 false-unless : (t : Bool) → (t ≡ true → ⊥) → t ≡ false
 false-unless true h = absurd (h refl)
 false-unless false h = refl
-
-one-reply : {x y : Reply} → ofChannel x ≡ ofChannel y → x ≡ y
-one-reply e = cc
 
 module _ (w : World) where
   -- ---- 19

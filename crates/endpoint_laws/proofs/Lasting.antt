@@ -1,4 +1,5 @@
--- A channel's latest time, status and flow state after any run, by the code's own answers and the radio control messages accepted. Assumes nothing.
+-- A channel's latest time, status and flow state after any run of calls as they should be on a state, by their answers and the radio control messages accepted.
+-- Assumes nothing.
 use Prim.Native.Nat.{ℕ, _<_}
 use mathlib.Core.Bool.{Bool, true, false, cond}
 use mathlib.Core.List.{List, [], _∷_, _++_, map}
@@ -65,7 +66,7 @@ module _ (k : Terms) where
       ∙ ap (λ (t : ℕ). lastOr t (timesIn (history machine k es (step machine k e st)))) (time-step (leaves machine k e st))
       ∙ sym (last-append (st .latest) (timeBy (happens machine k e st)) (timesIn (history machine k es (step machine k e st))))
 
--- and by the code's replies
+-- and by the replies
 time-told : (k : Terms) (c : ChannelCall) (a : Answer (Says c)) → timeFrom c (replyTo k c a) ≡ timeBy (called c a)
 time-told k (offer packet time) (refused number) = refl
 time-told k (offer packet time) (answered taken) = refl
@@ -159,7 +160,7 @@ module _ (k : Configuration) (fits : configurationFits k ≡ true) (index : ℕ)
   at-end : conditionOf (channelIn last index) (storeIn last index) ≡ final-at
   at-end = rw (ran-world run) (projected k fits index inside cs bytes)
 
-  -- "Latest time is each channel's own: 0 when fresh, then that of its last accepted Offer or Next.": by the code's own answers
+  -- "Latest time is each channel's own: 0 when fresh, then that of its last accepted Offer or Next.": by the answers of the run
   pub latest-lasts : channelIn last index .latest ≡ lastTime (idAt k index) cs xs
   latest-lasts =
       let times = told timeFrom timeBy timesIn refl (λ h hs. refl) (λ status window. refl) (λ w id c. time-told _ c _) (ruled k index) (length (k .starts)) index inside cs bytes (freshWorld k) (freshAt k index)

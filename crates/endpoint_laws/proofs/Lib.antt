@@ -1,4 +1,4 @@
--- The promises of the code's own answers.
+-- The promises of the answers of calls as they should be on a state.
 pub mod Transcript
 pub mod Given
 pub mod Handed

@@ -1,4 +1,4 @@
--- The account and the window, of the code's own answers: the packets that its outputs carry are those that the ledger has as sent. Assumes nothing.
+-- The account and the window, of a run of calls as they should be on a state: the packets that its outputs carry are those that the ledger has as sent. Assumes nothing.
 use Prim.Native.Nat.{ℕ, _+_, _^_, _<_}
 use mathlib.Core.Bool.{Bool, true, false, cond}
 use mathlib.Core.List.{List, [], _∷_, _++_, map}

@@ -37,7 +37,7 @@ timeFrom (next time out) (asked answer out′) = nextTime answer time
 timeFrom (next time out) (withdrawn answer) = []
 timeFrom withdraw x = []
 
--- the last of them on the channel of an ID, by the code's own answers
+-- the last of them on the channel of an ID, by the answers of the run
 abbrev pub lastTime : ℕ → List Call → List EndpointReply → ℕ
 lastTime own cs xs = lastOr 0 (ofAllOwn timeFrom own cs xs)
 

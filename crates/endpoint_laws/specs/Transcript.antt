@@ -1,5 +1,5 @@
 -- Demand 3, as a caller sees it: "Every packet taken in is, at each moment, exactly one of sent, expired, withdrawn or waiting, and those sent on a channel leave in
--- the order they came." What was taken in and what was sent is read out of the code's own replies and outputs.
+-- the order they came." What was taken in and what was sent is read out of the run's replies and outputs.
 use Prim.Native.Nat.{ℕ}
 use mathlib.Core.Bool.{cond}
 use mathlib.Core.List.{List, [], _∷_, _++_}

@@ -37,7 +37,7 @@ module _ (w : World) (id : ℕ) (c : ChannelCall) where
           store = store-other (length (w .state .channels)) w order (indexIn w id) (place .0) c other there elsewhere;
         }
 
-    -- by the rules, and of the code's own outcomes
+    -- by the rules, and of a call as it should be on a state
     pub others-as-lent : Untouched other w (calling id c w .world)
     others-as-lent = untouched (judged id c w)
 

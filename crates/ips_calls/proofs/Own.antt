@@ -1,5 +1,5 @@
--- From the code's contracts to demand 3's sentence: of any calls, each with whatever outcome its contract allows, each channel's own replies are those for the
--- simple channel's answers, and what it holds is what the simple channel holds. Assumes nothing.
+-- Demand 3's sentence, of any calls as they should be on a state: each channel's own replies are those for the simple channel's answers, and what it holds is what
+-- the simple channel holds. The code's own outcomes are on words, in `endpoint`. Assumes nothing.
 use Prim.Native.Nat.{ℕ, _^_, _<_}
 use mathlib.Core.Bool.{Bool, true, false, cond}
 use mathlib.Core.List.{List, [], _∷_, _++_, map}
@@ -78,13 +78,13 @@ module _ (k : Configuration) (fits : configurationFits k ≡ true) (index : ℕ)
       let size : c .setting .size .0 ≡ startAt k index .setting .size .0 = ap (λ (x : Terms). x .size) (reached-fits k fits cs bytes .terms index inside) in
       rw (← waiting, ← size) (whole-tidy k fits index inside cs bytes)
 
-  -- DEMAND 3'S SENTENCE, of the code's own outcomes
+  -- DEMAND 3'S SENTENCE, of calls as they should be on a state
   pub ran-own : (cs : List Call) → BytesIn cs → (xs : List EndpointReply) (last : World) → Ran (freshWorld k) cs xs last → ServedSimply k index cs xs last
   ran-own cs bytes xs last run =
       rw (ran-world run, ran-replies run)
       (record { replies = own-replies cs bytes; holds = whole-holds k fits index inside small cs bytes; keeps = own-keeps cs bytes })
 
--- a start that the code answers so is one that 19 does not refuse
+-- a start that is answered so is one that 19 does not refuse
 started-fits : (k : Configuration) (room : Bool) (w w′ : World) → Started k room w StartAnswer.Started w′ → startFits k room (w .memory) ≡ true
 started-fits k room w w′ h = go (startFits k room (w .memory)) refl
   where
@@ -92,7 +92,7 @@ started-fits k room w w′ h = go (startFits k room (w .memory)) refl
     go true f = f
     go false f = let refused : StartAnswer.Started ≡ StartAnswer.Refused (record { number = OUTSIDE-LIMITS; place = 0 }) = rw f at (h .answer-is) in clash (cc)
 
--- "any sequence of calls from a fresh start", both the code's own
+-- "any sequence of calls from a fresh start", both as they should be on a state
 pub started-own : (k : Configuration) (room : Bool) (lent w : World) → Started k room lent StartAnswer.Started w
     → (index : ℕ) → index < length (k .starts) → startAt k index .first .0 < 2 ^ 32
     → (cs : List Call) → BytesIn cs → (xs : List EndpointReply) (last : World) → Ran w cs xs last → ServedSimply k index cs xs last

@@ -1,5 +1,5 @@
--- Any calls of the code's own functions, one after the other, each with whatever outcome its contract allows, are a run of the rules: the world and every reply.
--- Assumes nothing.
+-- Any calls as they should be on a state, one after the other, are a run of the rules: the world and every reply. The code's own run, on words, is `RanIn` of
+-- `endpoint`. Assumes nothing.
 use Prim.Native.Nat.{ℕ}
 use mathlib.Core.Bool.{Bool, true, false, and-eq-true-iff}
 use mathlib.Core.List.{List, [], _∷_}
@@ -16,9 +16,9 @@ use Rattle.ips_state.specs.Memory.{World}
 use Rattle.ips_radio.specs.declared.RadioAnswer.{RadioAnswer}
 use Rattle.ips_run.specs.Run.{Call, radio, ifAccepted, acceptedIn, acceptedBy, hearEach, after, afterAll, freshWorld}
 use Rattle.ips_state.specs.declared.StartAnswer.{StartAnswer}
-use Rattle.ips_calls.specs.Radio.{AfterRadio, handedIn, controlHeard}
+use Rattle.ips_calls.specs.Radio.{handedIn, controlHeard}
 use Rattle.ips_calls.specs.Replies.{EndpointReply, ofRadio}
-use Rattle.ips_calls.specs.Calls.{lending, Performed, PerformedWithAny}
+use Rattle.ips_calls.specs.Calls.{lending, PerformedWithAny}
 use Rattle.ips_calls.specs.Start.{storesOf, startFits, Started}
 use Rattle.ips_calls.specs.Ran.{Ran, over, ran, repliesOf}
 use Rattle.ips_calls.proofs.Refused.{radio-data-same}
@@ -43,16 +43,7 @@ handed-state w datagram = go (stateFits (w .state)) refl (planeOf datagram) refl
     go true f PlaneAnswer.Data p = radio-data-same (w .state) datagram p ∙ rw (f, p)
     go true f (PlaneAnswer.Refused refusal) p = rw (f, p)
 
--- the contract of a radio message handed in, with any memory, from the equation that its ways out give
-pub radio-performed : (s : State) (datagram : List ℕ) (r : AfterRadio) → r ≡ handedIn s datagram → (memory : List ℕ)
-    → Performed (radio datagram) (lending s memory) (ofRadio (r .answer)) (lending (r .state) memory)
-unfolding after
-radio-performed s datagram r h memory = record {
-  reply-is = ap (λ (x : AfterRadio). ofRadio (x .answer)) h;
-  world-is = ap (λ (x : AfterRadio). lending (x .state) memory) h ∙ ap (λ (x : State). lending x memory) (handed-state (lending s memory) datagram);
-}
-
--- and back: its contract says no less than that equation
+-- so a radio message handed in as it should be, with any memory, is answered and leaves a state as `handedIn` says: the laws over `handedIn` are laws of the call
 pub radio-handed : {s : State} {datagram : List ℕ} {answer : RadioAnswer} {s′ : State} → PerformedWithAny (radio datagram) s (ofRadio answer) s′
     → (answer ≡ handedIn s datagram .answer) × (s′ ≡ handedIn s datagram .state)
 unfolding after

@@ -33,7 +33,7 @@ use Rattle.ips_calls.specs.Calls.{Performed}
 use Rattle.ips_calls.specs.Start.{startFits, Started}
 use Rattle.ips_calls.proofs.Querying.{query-gives}
 
--- ---- the code's answers: only a refusal of the rules is told as one
+-- ---- the answers told: only a refusal of the rules is told as one
 offer-told : (a : Answer Taken) (refusal : Refusal) → offerAnswer a ≡ OfferAnswer.Refused refusal → a ≡ refused (refusal .number)
 offer-told (refused number) refusal e = let n : number ≡ refusal .number = cc in rw n
 offer-told (answered taken) refusal e = clash (cc)
@@ -49,7 +49,7 @@ withdraw-told : (a : Answer Emptied) (refusal : Refusal) → withdrawAnswer a �
 withdraw-told (refused number) refusal e = let n : number ≡ refusal .number = cc in rw n
 withdraw-told (answered emptied) refusal e = clash (cc)
 
-one-reply : {x y : Reply} → ofChannel x ≡ ofChannel y → x ≡ y
+pub one-reply : {x y : Reply} → ofChannel x ≡ ofChannel y → x ≡ y
 one-reply e = cc
 
 module _ (w : World) (id : ℕ) (refusal : Refusal) (w′ : World) where

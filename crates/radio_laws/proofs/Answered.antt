@@ -1,4 +1,4 @@
--- Promise: each answer to an accepted radio control message, and what the endpoint keeps of it: of the endpoint's own outcome. Assumes nothing.
+-- Promise: each answer to an accepted radio control message, and what the endpoint keeps of it: of a call as it should be on a state. Assumes nothing.
 use Prim.Native.Nat.{ℕ}
 use mathlib.Core.Bool.{Bool, true, false, cond, not, _&&_}
 use mathlib.Core.List.{List, []}

@@ -1,4 +1,4 @@
--- Promise: what a radio control message handed in leaves of each configured channel, option by option: of the endpoint's own outcome. Assumes nothing.
+-- Promise: what a radio control message handed in leaves of each configured channel, option by option: of a call as it should be on a state. Assumes nothing.
 use Prim.Native.Nat.{ℕ, suc, _+_, _*_, _%_, _≤_, _<_}
 use mathlib.Core.Bool.{true, false}
 use mathlib.Core.List.{List, [], _∷_}

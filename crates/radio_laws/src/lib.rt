@@ -1,1 +1,1 @@
-// No code: what a radio message handed in leaves, option by option, of the endpoint's own outcomes.
+// No code: what a radio message, handed in as it should be on a state, leaves, option by option; the code's own outcome is on lent words, in `endpoint`.
