@@ -12,15 +12,12 @@ use Rattle.ips_channel.specs.declared.state.Channel.{Channel}
 use Rattle.ips_state.specs.State.{State, channelAt}
 use Rattle.ips_state.specs.Limits.{stateFits}
 use Rattle.ips_state.proofs.Places.{fit}
-use Rattle.ips_words.specs.Words.{HEAD, SLOT, DATALINK-WORD, word, slot, slotStart, channelIn, channelWords, stateOf, stateIn, putSlot, putChannel, Loadable}
-use Rattle.ips_words.proofs.Whole.{slot-length, readable-facts, says, fit-readable, fit-room, fit-channel, fit-loadable}
+use Rattle.ips_words.specs.Words.{SLOT, slot, slotStart, channelIn, channelWords, stateOf, stateIn, putSlot, putChannel, Loadable}
+use Rattle.ips_words.proofs.Whole.{slot-length, says, fit-readable, fit-room, fit-channel, fit-loadable}
 use Rattle.endpoint.specs.Calls.{Placed}
 
 -- ---- the endpoint's own words
 module _ (words : List ℕ) (fits : stateFits (stateIn words) ≡ true) where
-  pub head-told : (HEAD ≤ length words) × (word words DATALINK-WORD < 256)
-  head-told = let r = readable-facts words (fit-readable words fits) in (omega (arith, r .long), r .head .datalink)
-
   pub says-so : {A : Type 0} (field : State → A) (x : A) → x ≡ field (stateOf words) → x ≡ field (stateIn words)
   says-so field x e = e ∙ ap field (sym (says words (fit-readable words fits)))
 

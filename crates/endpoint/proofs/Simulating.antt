@@ -4,7 +4,6 @@ use mathlib.Core.Bool.{true, and-eq-true-iff}
 use mathlib.Core.List.{List}
 use mathlib.Core.Path.{_≡_, refl, sym, ap, _∙_}
 use native.Mathlib.Omega.{arith}
-use lib.ListN.{length}
 use Rattle.ips_channel_rules.specs.Rules.{ChannelCall, Says, Answer, refused, answered, unlessRefused}
 use Rattle.ips_channel.specs.declared.state.Channel.{Channel}
 use Rattle.ips_channel_calls.specs.Calls.{channelAfter, Ready}
@@ -18,15 +17,15 @@ use Rattle.ips_run.specs.Run.{Call, on, radio, query, after}
 use Rattle.ips_run.specs.Demand.{bytesIn, BytesIn}
 use Rattle.ips_run.proofs.Exact.{judged}
 use Rattle.ips_calls.specs.Replies.{EndpointReply}
-use Rattle.ips_calls.specs.Calls.{Performed, PerformedWithAny}
+use Rattle.ips_calls.specs.Calls.{Performed}
 use Rattle.ips_calls.specs.Ran as ran
 use Rattle.ips_calls.specs.Ran.{Ran}
 use Rattle.ips_words.specs.Words.{slot, stateIn, putChannel, Narrow}
 use Rattle.ips_words.proofs.Slots.{in-narrow}
 use Rattle.ips_words.proofs.Whole.{readable-facts, fit-readable, fit-count, fit-channel, fit-put}
 use Rattle.ips_words_radio.proofs.Datagrams.{radio-in}
-use Rattle.endpoint.specs.Lent.{Lent, lent, worldIn, wordsCalled, afterIn}
-use Rattle.endpoint.specs.Calls.{PerformedIn, PerformedInWithAny, Placed}
+use Rattle.endpoint.specs.Lent.{Lent, worldIn, wordsCalled, afterIn}
+use Rattle.endpoint.specs.Calls.{PerformedIn, Placed}
 use Rattle.endpoint.specs.Ran.{RanIn, over, ran}
 use Rattle.endpoint.proofs.Leaving.{left-narrow}
 
@@ -99,9 +98,6 @@ step-in (query out) bytes l = refl
 -- so the contract on words is the contract on the state that they stand for
 pub performed-in : {c : Call} {l l′ : Lent} {x : EndpointReply} → bytesIn c → PerformedIn c l x l′ → Performed c (worldIn l) x (worldIn l′)
 performed-in {c} {l} bytes h = record { reply-is = h .reply-is; world-is = ap worldIn (h .lent-is) ∙ step-in c bytes l }
-
-pub performed-in-any : {c : Call} {words words′ : List ℕ} {x : EndpointReply} → bytesIn c → PerformedInWithAny c words x words′ → PerformedWithAny c (stateIn words) x (stateIn words′)
-performed-in-any bytes h memory = performed-in bytes (h memory)
 
 -- ANY SEQUENCE OF CALLS ON WORDS is one on the state that they stand for: every law over `Ran` holds of it
 pub ran-in : {l last : Lent} {cs : List Call} {xs : List EndpointReply} → BytesIn cs → RanIn l cs xs last → Ran (worldIn l) cs xs (worldIn last)

@@ -1,20 +1,15 @@
 -- Each way out of a call. Assumes nothing.
 use Prim.Native.Nat.{ℕ}
-use mathlib.Core.Path.{_≡_, refl, sym, ap, _∙_}
+use mathlib.Core.Path.{_≡_, ap, _∙_}
 use mathlib.Core.List.{List}
-use mathlib.Core.Bool.{Bool, true, false, _&&_, and-false}
+use mathlib.Core.Bool.{Bool, true, false, and-false}
 use borrow.Author.Tests.{eq-eqb, ne-eqb}
 use lib.ListN.{length}
-use lib.Dec.{eqb}
 use Rattle.quantity.specs.Refusals.{OUTSIDE-LIMITS, NOT-WRITABLE}
-use Rattle.meaning.specs.declared.message.End.{End}
-use Rattle.meaning.specs.declared.message.Control.{Control}
-use Rattle.meaning.specs.declared.message.Data.{Data}
 use Rattle.reader.specs.Readings.{Verdict}
 use Rattle.writable.specs.Allowed.{controlAllowed, dataAllowed}
 use Rattle.writer.specs.declared.answer.WriteAnswer.{WriteAnswer}
 use Rattle.writer.specs.Written as written
-use Rattle.writer.specs.Written.{controlWritten, dataWritten}
 use Rattle.answer_codes.specs.declared.Answer.{Answer}
 use Rattle.answer_codes.specs.Codes.{codeOf, writtenAs}
 use Rattle.lent_messages.specs.Words.{controlSpelled, controlOf, dataSpelled, dataOf}

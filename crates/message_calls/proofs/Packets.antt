@@ -17,7 +17,7 @@ use Rattle.read_data.specs.Packet.{packetIn}
 use Rattle.reader.specs.Readings.{Verdict, readData, packetOf}
 use Rattle.meaning.specs.declared.message.End.{End}
 use Rattle.meaning.specs.declared.message.Plane.the-variants as planes
-use Rattle.acceptance.specs.Account.{Ending, Accepts}
+use Rattle.acceptance.specs.Account.{Ending}
 use Rattle.acceptance.proofs.Own.{own}
 use Rattle.acceptance.proofs.Data.{data-account}
 use Rattle.message_calls.specs.Calls.{packetStart}

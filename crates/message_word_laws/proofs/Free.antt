@@ -1,12 +1,11 @@
 -- What the words of a message state does not rest on words behind an absent tag. Assumes nothing.
-use Prim.Native.Nat.{ℕ, zero, suc, _+_, _*_, _≤_, _<_}
-use mathlib.Core.Path.{_≡_, refl, sym, ap, ap₂, _∙_}
+use Prim.Native.Nat.{ℕ, zero, suc, _<_}
+use mathlib.Core.Path.{_≡_, refl, sym, ap, ap₂}
 use mathlib.Core.Bool.{Bool, true, false, cond}
 use mathlib.Core.List.{List, _∷_}
 use native.Mathlib.Omega.{arith}
 use borrow.Author.Tests.{eqb-false}
 use lib.Dec.{eqb}
-use lib.ListN.{getD}
 use Rattle.facts.specs.Tables.{tabulate}
 use Rattle.quantity.specs.Limits.{CHANNEL-IDS}
 use Rattle.meaning.specs.declared.message.Datalink.{Datalink}
@@ -18,9 +17,6 @@ use Rattle.meaning.specs.declared.message.Window.{Window}
 use Rattle.meaning.specs.declared.message.Counted.{Counted}
 use Rattle.meaning.specs.declared.message.Channel.{Channel}
 use Rattle.meaning.specs.declared.message.Expiration.{Expiration}
-use Rattle.meaning.specs.declared.message.StatusCell.{StatusCell}
-use Rattle.meaning.specs.declared.message.SequenceCell.{SequenceCell}
-use Rattle.meaning.specs.declared.message.WindowCell.{WindowCell}
 use Rattle.lent_messages.specs.Stated.{datalinkOf, instanceOf, contextOf, statusOf, sequenceOf, windowOf, countedOf, channelOf, expirationOf}
 use Rattle.lent_messages.specs.Words.{word, channelStart, statusAt, sequenceAt, windowAt, controlOf, controlSpelled, dataOf, dataSpelled}
 use Rattle.message_word_laws.specs.Plain.{Alike, AlikeChannel, AlikeControl, AlikeData}

@@ -1,21 +1,18 @@
 -- Which words say something, in plain numbers; and that words behind an absent tag may hold anything. Assumes nothing.
 use Prim.Native.Nat.{ℕ, zero, suc, _+_, _*_, _≤_, _<_}
-use mathlib.Core.Path.{_≡_, refl, sym, ap, _∙_}
-use mathlib.Core.Bool.{Bool, true, false, cond, _&&_, _||_}
+use mathlib.Core.Path.{_≡_, refl, sym, _∙_}
+use mathlib.Core.Bool.{Bool, true, false, _&&_, _||_}
 use mathlib.Core.List.{List}
 use native.Mathlib.Omega.{arith}
-use borrow.Author.Tests.{ltb-true, ltb-false, leb-true, eqb-true, lt-ltb, le-ltb, le-leb, eq-eqb, eqb-false}
+use borrow.Author.Tests.{ltb-true, ltb-false, leb-true, eqb-true, lt-ltb, le-leb, eq-eqb}
 use lib.Dec.{eqb, leb, ltb}
-use lib.ListN.{length, getD}
-use lib.Seq.{ext-getD}
-use Rattle.facts.specs.Tables.{tabulate}
-use Rattle.facts.proofs.Tables.{length-tabulate, getD-tabulate}
+use lib.ListN.{length}
 use Rattle.quantity.specs.Limits.{CHANNEL-IDS}
 use Rattle.lent_messages.specs.Layout.{CONTROL-WORDS, DATA-WORDS, BYTE, HALF}
 use Rattle.lent_messages.specs.Stated.{fits}
 use Rattle.lent_messages.specs.Words.{word, channelStart, headSpelled, channelSpelled, channelsSpelled, controlSpelled, partsSpelled, dataSpelled}
 use Rattle.lent_messages.proofs.Saying.{both, fits-value, channel-of-channels}
-use Rattle.message_word_laws.specs.Plain.{Fits, PlainChannel, PlainControl, PlainData, Alike, AlikeChannel, AlikeControl, AlikeData}
+use Rattle.message_word_laws.specs.Plain.{Fits, PlainChannel, PlainControl, PlainData, Alike, AlikeControl, AlikeData}
 
 -- ---- a tag and its value
 pub fits-plain : (tag given value limit : ℕ) → fits tag given value limit ≡ true → Fits tag given value limit

@@ -1,8 +1,8 @@
 -- What each word of a message is. Assumes nothing.
 use Prim.Native.Nat.{ℕ, _+_, _*_, _<_}
-use mathlib.Core.Path.{_≡_, refl}
+use mathlib.Core.Path.{refl}
 use native.Mathlib.Omega.{arith}
-use lib.ListN.{length, getD}
+use lib.ListN.{getD}
 use Rattle.meaning.specs.declared.message.Datalink.{Datalink}
 use Rattle.meaning.specs.declared.message.Instance.{Instance}
 use Rattle.meaning.specs.declared.message.Context.{Context}

@@ -6,7 +6,8 @@ use borrow.Author.Needs.{needs}
 use lib.ListN.{length}
 use Rattle.ips_state.specs.State.{State}
 use Rattle.ips_words.specs.Words.{stateIn}
-use Rattle.endpoint.proofs.Placing.{head-told, says-so}
+use Rattle.ips_words_query.proofs.Gathering.{said-head}
+use Rattle.endpoint.proofs.Placing.{says-so}
 use Rattle.endpoint.proofs.Calling.{state-fits, placed, store-ends, ready, kept-at, saved-at}
 use Rattle.endpoint.proofs.call.next_at.Statement.{statement}
 use Rattle.endpoint.proofs.call.next_at.Tie as tie
@@ -15,7 +16,7 @@ abbrev start : tie.After-load → tie.Start
 start c = c .before .before .before .before .before .before .before
 
 datalink-requires : tie.Need-datalink-requires
-datalink-requires c κs = head-told _ (state-fits _ _ (c .before .before .before .before .pre))
+datalink-requires c κs = said-head _ (state-fits _ _ (c .before .before .before .before .pre))
 
 named : (c : tie.After-datalink) → let start = c .before .before .before .before .before in c .datalink .result ≡ stateIn (start .args .words .now) .datalink
 named c = says-so _ (state-fits _ _ (c .before .before .before .before .before .pre)) (λ (s : State). s .datalink) _ (c .datalink .ensures)

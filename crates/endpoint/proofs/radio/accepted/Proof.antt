@@ -1,12 +1,12 @@
 -- `radio::accepted` meets its contract. Assumes nothing.
 use borrow.Author.Needs.{needs}
-use Rattle.endpoint.proofs.Placing.{head-told}
+use Rattle.ips_words_query.proofs.Gathering.{said-head}
 use Rattle.endpoint.proofs.Hearing.{message-heard}
 use Rattle.endpoint.proofs.radio.accepted.Statement.{statement}
 use Rattle.endpoint.proofs.radio.accepted.Tie as tie
 
 context-requires : tie.Need-context-requires
-context-requires c κs = head-told _ (c .before .before .pre) .0
+context-requires c κs = said-head _ (c .before .before .pre) .0
 
 returns : tie.Need-returns
 returns c =

@@ -8,7 +8,8 @@ use Rattle.ips_state.specs.State.{State}
 use Rattle.ips_state.specs.Limits.{stateFits}
 use Rattle.ips_words.specs.Words.{stateIn}
 use Rattle.ips_words_survey.proofs.Finding.{survey-unfit, survey-fits}
-use Rattle.endpoint.proofs.Placing.{head-told, says-so}
+use Rattle.ips_words_query.proofs.Gathering.{said-head}
+use Rattle.endpoint.proofs.Placing.{says-so}
 use Rattle.endpoint.proofs.Hearing.{handed-unfit, handed-control, handed-data, handed-refused}
 use Rattle.endpoint.proofs.radio.hand_in.Statement.{statement}
 use Rattle.endpoint.proofs.radio.hand_in.Tie as tie
@@ -20,7 +21,7 @@ returns : tie.Need-returns
 returns c = handed-unfit _ _ _ (survey-unfit _ _ _ (c .before .before .survey-words .ensures) (not-true _ (c .if1 .taken))) refl
 
 datalink-requires : tie.Need-datalink-requires
-datalink-requires c κs = head-told _ (fits (c .before))
+datalink-requires c κs = said-head _ (fits (c .before))
 
 named : (c : tie.After-datalink) → c .datalink .result ≡ stateIn (now (c .before .before .before .before .before .before .before .before .args .words)) .datalink
 named c = says-so _ (fits (c .before .before)) (λ (s : State). s .datalink) _ (c .datalink .ensures)

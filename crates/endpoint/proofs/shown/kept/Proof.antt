@@ -7,7 +7,7 @@ use denote.Ref.{now}
 use Rattle.ips_state.specs.Limits.{stateFits}
 use Rattle.ips_words.specs.Words.{stateIn}
 use Rattle.ips_words_survey.proofs.Finding.{survey-unfit, survey-fits}
-use Rattle.endpoint.proofs.Placing.{head-told}
+use Rattle.ips_words_query.proofs.Gathering.{said-head}
 use Rattle.endpoint.proofs.Showing.{kept-unfit, kept-told}
 use Rattle.endpoint.proofs.shown.kept.Statement.{statement}
 use Rattle.endpoint.proofs.shown.kept.Tie as tie
@@ -19,10 +19,10 @@ returns : tie.Need-returns
 returns c = kept-unfit _ (survey-unfit _ _ _ (c .before .before .survey-words .ensures) (not-true _ (c .if1 .taken)))
 
 instance-requires : tie.Need-instance-requires
-instance-requires c κs = head-told _ (fits c) .0
+instance-requires c κs = said-head _ (fits c) .0
 
 context-requires : tie.Need-context-requires
-context-requires c κs = head-told _ (fits (c .before)) .0
+context-requires c κs = said-head _ (fits (c .before)) .0
 
 returns-2 : tie.Need-returns-2
 returns-2 c = kept-told _ (fits (c .before .before)) _ (c .before .instance .ensures) _ (c .context .ensures)
