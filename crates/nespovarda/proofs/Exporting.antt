@@ -2,8 +2,8 @@
 -- Assumes nothing.
 use Prim.Native.Nat.{ℕ, _<_, _+_, _-_}
 use mathlib.Core.Bool.{false}
-use mathlib.Core.List.{List, [], _∷_}
-use mathlib.Core.Path.{_≡_, refl, ap, ap₂, sym, _∙_}
+use mathlib.Core.List.{List}
+use mathlib.Core.Path.{_≡_, refl, ap, ap₂, _∙_}
 use native.Mathlib.Omega.{arith}
 use borrow.Author.Tests.{ne-eqb}
 use Rattle.quantity.specs.declared.refusal.Refusal.{Refusal}
@@ -28,7 +28,7 @@ use Rattle.endpoint.specs.Lent.{Lent, worldIn}
 use Rattle.endpoint.specs.Calls.{PerformedIn}
 use Rattle.endpoint.specs.Ran.{RanIn}
 use Rattle.nespovarda.specs.Outcomes.{startedAs, offeredAs, askedAs, withdrawnAs, heardAs, outcomeOf, outputOf}
-use Rattle.nespovarda.specs.Exports.{Exported, StartExported, refusalIn, isKind, startSaid, offerSaid, nextSaid, withdrawSaid, radioSaid, writeSaid, replySaid, Told, RanExported, repliesSaid}
+use Rattle.nespovarda.specs.Exports.{Exported, StartExported, isKind, startSaid, offerSaid, nextSaid, withdrawSaid, radioSaid, writeSaid, replySaid, Told, RanExported, repliesSaid}
 
 -- ---- from a call to its export
 pub exports : {c : Call} {l : Lent} {x : EndpointReply} {l′ : Lent} → PerformedIn c l x l′ → (r : Answer) → r ≡ codeOf (outcomeOf x) → Exported c l r (outputOf x) l′

@@ -4,17 +4,15 @@ ghost use Prim.Native.Nat.{_≤_};
 ghost use lib.ListN.{length, take};
 ghost use Rattle.session.specs.Answers.{Answers};
 use endpoint::Channel;
-use endpoint::HEAD;
 use endpoint::KeptAnswer;
+use endpoint::MOST_WORDS;
 use endpoint::Place;
 use endpoint::Refusal;
-use endpoint::SLOT;
 use endpoint::StartAnswer;
 use libc::STDOUT_FILENO;
 use lines::Found;
 use message_words::whole::refused;
 use quantity::limit::LONGEST_DATAGRAM;
-use quantity::limit::MOST_CHANNELS;
 use session_print::about_state;
 use session_read::Asked;
 use session_read::Command;
@@ -29,13 +27,10 @@ const ROOM: usize = 140001;
 const ANSWER: usize = 140000;
 
 // The bytes that a line says have half its length at most.
-const LENT: usize = 70000;
+const BYTES: usize = 70000;
 
 // All stores that the endpoint takes.
 const MEMORY: usize = 1048576;
-
-// The words of a state of the most channels.
-const WORDS: usize = HEAD + SLOT * MOST_CHANNELS;
 
 // Whether a state was started, and how much of the words and of the memory is lent with it.
 struct Held {
@@ -66,7 +61,8 @@ fn nothing() -> Held {
     }
 }
 
-fn kept(held: Held, count: usize) -> Turn
+// What was held stays, and the answer is so long.
+fn still_held(held: Held, count: usize) -> Turn
     ensures { λ r. ⌜ r .count ≡ count ⌝ }
 {
     Turn { held, count }
@@ -87,11 +83,11 @@ fn start_line(
     numbers: &[u64; PLACES],
     out: &mut [u8],
 ) -> Turn {
-    let lent = least(endpoint::words_for(said.channels), words.len());
-    let size = least(said.memory, memory.len());
+    let words_lent = least(endpoint::words_for(said.channels), words.len());
+    let memory_lent = least(said.memory, memory.len());
     let answer = endpoint::start(
-        &mut words[0..lent],
-        &mut memory[0..size],
+        &mut words[0..words_lent],
+        &mut memory[0..memory_lent],
         configuration(numbers, said.words),
     );
     let count = session_print::started(out, 0, answer);
@@ -99,12 +95,12 @@ fn start_line(
         StartAnswer::Started => Turn {
             held: Held {
                 started: true,
-                words: lent,
-                memory: size,
+                words: words_lent,
+                memory: memory_lent,
             },
             count,
         },
-        StartAnswer::Refused(_) => kept(held, count),
+        StartAnswer::Refused(_) => still_held(held, count),
     }
 }
 
@@ -187,7 +183,7 @@ fn store_line(words: &[u64], memory: &[u8], id: u8, out: &mut [u8]) -> usize {
 // `kept`
 fn kept_line(words: &[u64], out: &mut [u8]) -> usize {
     match endpoint::kept(words) {
-        KeptAnswer::Kept(link, place) => session_print::kept(out, 0, link, place),
+        KeptAnswer::Kept(instance, context) => session_print::kept(out, 0, instance, context),
         KeptAnswer::Refused(refusal) => refused(out, 0, refusal),
     }
 }
@@ -229,27 +225,27 @@ fn state_line(
         return start_line(held, words, memory, said.start, numbers, out);
     };
     if !held.started {
-        return kept(held, session_print::bad_line(out));
+        return still_held(held, session_print::bad_line(out));
     }
-    let lent = least(held.words, words.len());
-    let size = least(held.memory, memory.len());
+    let words_lent = least(held.words, words.len());
+    let memory_lent = least(held.memory, memory.len());
     let count = command_line(
-        &mut words[0..lent],
-        &mut memory[0..size],
+        &mut words[0..words_lent],
+        &mut memory[0..memory_lent],
         command,
         bytes,
         output,
         out,
     );
-    kept(held, count)
+    still_held(held, count)
 }
 
-// The first bytes of a lent memory.
-fn first(lent: &[u8], count: usize) -> &[u8]
-    requires { ⌜ count ≤ length (now lent) ⌝ }
-    ensures { λ r. ⌜ now r ≡ take count (now (lent .entry)) ⌝ }
+// The first of some bytes.
+fn first(bytes: &[u8], count: usize) -> &[u8]
+    requires { ⌜ count ≤ length (now bytes) ⌝ }
+    ensures { λ r. ⌜ now r ≡ take count (now (bytes .entry)) ⌝ }
 {
-    &lent[0..count]
+    &bytes[0..count]
 }
 
 // Any line. One that isn't about a state is answered as its definition says.
@@ -258,14 +254,14 @@ fn answer_line(
     words: &mut [u64],
     memory: &mut [u8],
     line: &[u8],
-    lent: &mut [u8],
+    bytes: &mut [u8],
     output: &mut [u8],
     out: &mut [u8],
 ) -> Turn
-    ensures { λ r. ⌜ Answers (length (now (lent .entry))) (length (now (output .entry))) (now (line .entry)) (now (out .entry)) (r .count) (now (out .exit)) ⌝ }
+    ensures { λ r. ⌜ Answers (length (now (bytes .entry))) (length (now (output .entry))) (now (line .entry)) (now (out .entry)) (r .count) (now (out .exit)) ⌝ }
 {
     let mut numbers = [0u64; PLACES];
-    let said = session_read::read(line, &mut numbers, lent);
+    let said = session_read::read(line, &mut numbers, bytes);
     let asked = said.asked;
     if about_state(asked) {
         return state_line(
@@ -274,14 +270,14 @@ fn answer_line(
             memory,
             said,
             &numbers,
-            first(lent, said.bytes),
+            first(bytes, said.bytes),
             output,
             out,
         );
     }
-    kept(
+    still_held(
         held,
-        session_print::message(asked, first(lent, said.bytes), output, out),
+        session_print::message(asked, first(bytes, said.bytes), output, out),
     )
 }
 
@@ -291,11 +287,11 @@ fn say(
     words: &mut [u64],
     memory: &mut [u8],
     line: &[u8],
-    lent: &mut [u8],
+    bytes: &mut [u8],
     output: &mut [u8],
     out: &mut [u8],
 ) -> Held {
-    let turn = answer_line(held, words, memory, line, lent, output, out);
+    let turn = answer_line(held, words, memory, line, bytes, output, out);
     let end = text::put(out, turn.count, b"\n");
     if end <= out.len() {
         io::write_all(STDOUT_FILENO, &out[0..end]);
@@ -308,7 +304,7 @@ fn serve(
     buffer: &mut [u8],
     words: &mut [u64],
     memory: &mut [u8],
-    lent: &mut [u8],
+    bytes: &mut [u8],
     output: &mut [u8],
     out: &mut [u8],
 ) {
@@ -321,11 +317,11 @@ fn serve(
             Found::More => input = lines::fill(buffer, input),
             Found::End => return,
             Found::Line { from, to, rest } => {
-                held = say(held, words, memory, &buffer[from..to], lent, output, out);
+                held = say(held, words, memory, &buffer[from..to], bytes, output, out);
                 input = rest;
             }
             Found::Over(rest) => {
-                held = say(held, words, memory, b"", lent, output, out);
+                held = say(held, words, memory, b"", bytes, output, out);
                 input = rest;
             }
         }
@@ -335,27 +331,27 @@ fn serve(
 // An array that is lent as an array asks no proof of its length.
 fn hold(
     buffer: &mut [u8; ROOM],
-    words: &mut [u64; WORDS],
+    words: &mut [u64; MOST_WORDS],
     memory: &mut [u8; MEMORY],
-    lent: &mut [u8; LENT],
+    bytes: &mut [u8; BYTES],
     output: &mut [u8; LONGEST_DATAGRAM],
     out: &mut [u8; ANSWER],
 ) {
-    serve(buffer, words, memory, lent, output, out);
+    serve(buffer, words, memory, bytes, output, out);
 }
 
 fn main() {
     let mut buffer = [0u8; ROOM];
-    let mut words = [0u64; WORDS];
+    let mut words = [0u64; MOST_WORDS];
     let mut memory = [0u8; MEMORY];
-    let mut lent = [0u8; LENT];
+    let mut bytes = [0u8; BYTES];
     let mut output = [0u8; LONGEST_DATAGRAM];
     let mut out = [0u8; ANSWER];
     hold(
         &mut buffer,
         &mut words,
         &mut memory,
-        &mut lent,
+        &mut bytes,
         &mut output,
         &mut out,
     );

@@ -20,7 +20,7 @@ use Rattle.ips_words.proofs.Slots.{spelled-facts}
 use Rattle.ips_words.proofs.Whole.{channels-length, channel-at, readable-facts, fit-readable, says, says-nothing}
 use Rattle.ips_words_start.specs.Start.{StartedIn, configurationIn}
 use Rattle.ips_words_start.proofs.Exactly.{started-leaves}
-use Rattle.endpoint.specs.Lent.{Lent, lent, worldIn}
+use Rattle.endpoint.specs.Lent.{Lent, lent}
 use Rattle.endpoint.specs.Ran.{RanIn}
 use Rattle.endpoint.proofs.Simulating.{ran-in}
 use Rattle.endpoint.proofs.Whole.{started-in}

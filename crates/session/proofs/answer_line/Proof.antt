@@ -44,8 +44,8 @@ first-requires-2 c κs = bytes-within (c .before .before .before .before .before
 message-requires : tie.Need-message-requires
 message-requires c κs = search needs
 
-kept-requires : tie.Need-kept-requires
-kept-requires c κs = search needs
+still-held-requires : tie.Need-still-held-requires
+still-held-requires c κs = search needs
 
 same-length-6 : tie.Need-same-length-6
 same-length-6 c = search needs
@@ -60,7 +60,7 @@ returns-2 : tie.Need-returns-2
 returns-2 c =
     let message = c .before .before .before .before .before in
     let first = message .before .before .before in
-    rw (c .kept .ensures) (answers-message (first .before .before .before .before .before .before .read .ensures) _ (first .first2 .ensures) (message .message .ensures))
+    rw (c .still-held .ensures) (answers-message (first .before .before .before .before .before .before .read .ensures) _ (first .first2 .ensures) (message .message .ensures))
 
 pub answer-line-spec : {M : Type 1} → statement M
 answer-line-spec =
@@ -78,7 +78,7 @@ answer-line-spec =
     returns
     first-requires-2
     message-requires
-    kept-requires
+    still-held-requires
     same-length-6
     same-length-7
     same-length-8

@@ -8,11 +8,11 @@ use Rattle.session.proofs.serve.Statement.{statement}
 use Rattle.session.proofs.serve.Tie as tie
 
 abbrev Inv-loop : tie.InvT-loop
-Inv-loop buffer₀ words₀ memory₀ lent₀ output₀ out₀ held₀ input₀ turns₀ t14 buffer words memory lent output out held input turns =
-    (length buffer ≡ length buffer₀) × (length words ≡ length words₀) × (length memory ≡ length memory₀) × (length lent ≡ length lent₀) × (length output ≡ length output₀) × (length out ≡ length out₀)
+Inv-loop buffer₀ words₀ memory₀ bytes₀ output₀ out₀ held₀ input₀ turns₀ t14 buffer words memory bytes output out held input turns =
+    (length buffer ≡ length buffer₀) × (length words ≡ length words₀) × (length memory ≡ length memory₀) × (length bytes ≡ length bytes₀) × (length output ≡ length output₀) × (length out ≡ length out₀)
 
 abbrev μ-loop : tie.MeasureT-loop
-μ-loop buffer₀ words₀ memory₀ lent₀ output₀ out₀ held₀ input₀ turns₀ t14 buffer words memory lent output out held input turns =
+μ-loop buffer₀ words₀ memory₀ bytes₀ output₀ out₀ held₀ input₀ turns₀ t14 buffer words memory bytes output out held input turns =
     turns
 
 inside : (c : tie.After-known-told Inv-loop μ-loop) → let line = c .before .from .given .0 in (line .0 ≤ line .1 .0) × (line .1 .0 ≤ length (c .before .before .before .before .before .before .loop .buffer))
