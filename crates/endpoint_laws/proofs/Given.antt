@@ -27,7 +27,7 @@ use Rattle.ips_channel_rules.proofs.Exact.{withdraw-is}
 use Rattle.ips_channel_rules.proofs.Limits.{machine-limited}
 use Rattle.ips_channel_rules.proofs.FlowCases.{free-words, shut-words, under-words, distance-exists}
 use Rattle.ips_channel_rules.proofs.CallCases as cases
-use Rattle.ips_channel_rules.proofs.CallCases.{size-free, size-under}
+use Rattle.ips_channel_rules.proofs.CallCases.{false-unless, size-free, size-under}
 use Rattle.ips_channel.specs.declared.state.Channel.{Channel}
 use Rattle.ips_channel.specs.Channel.{conditionOf}
 use Rattle.ips_channel_calls.specs.declared.offering.OfferAnswer.{OfferAnswer}
@@ -46,10 +46,6 @@ use Rattle.ips_calls.specs.Calls.{Performed}
 use Rattle.ips_calls.specs.ReadBack.{SequenceWords}
 use Rattle.ips_calls.proofs.Refused.{one-reply}
 use Rattle.endpoint_laws.specs.Given.{Admitted, Configured, NotConfigured, notDueIn, numbered, OfferGiven, offer-19, offer-12, offer-13, offer-14, offer-15, offer-16, offer-17, offer-taken, Goes, goes-free, goes-under, Shut, shut-none, shut-past, NextGiven, next-19, next-12, next-15, next-nothing, next-down, next-shut, next-18, next-sent, WithdrawGiven, withdraw-19, withdraw-12, withdraw-done}
-
-false-unless : (t : Bool) → (t ≡ true → ⊥) → t ≡ false
-false-unless true h = absurd (h refl)
-false-unless false h = refl
 
 module _ (w : World) where
   -- ---- 19

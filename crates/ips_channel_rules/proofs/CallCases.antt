@@ -23,7 +23,7 @@ use Rattle.ips_channel_rules.specs.Limits.{NoPlace, Limited}
 use Rattle.ips_channel_rules.specs.FlowCases.{IsFree, IsShut, IsUnder}
 use Rattle.ips_channel_rules.proofs.Exact.{offer-not-ipv6, offer-long, offer-early, offer-past, offer-full, offer-taken, next-early, next-nothing, next-not-operational, next-shut, next-no-room, next-sent}
 
-false-unless : (t : Bool) → (t ≡ true → ⊥) → t ≡ false
+pub false-unless : (t : Bool) → (t ≡ true → ⊥) → t ≡ false
 false-unless true h = absurd (h refl)
 false-unless false h = refl
 

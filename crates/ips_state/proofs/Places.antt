@@ -142,10 +142,6 @@ module _ (s : State) (index : ℕ) (c : Channel) where
     unfolding storeAt
     store-at-kept other memory = rw (size-kept other, start-kept other)
 
-    pub with-store-kept : (other : ℕ) (memory store : List ℕ) → withStore (withChannel s index c) other memory store ≡ withStore s other memory store
-    unfolding withStore
-    with-store-kept other memory store = rw (size-kept other, start-kept other)
-
 -- ---- a stretch of a memory, or of words, replaced
 module _ (memory store : List ℕ) (start size : ℕ) (room : start + size ≤ length memory) (long : length store ≡ size) where
   abbrev pub changed : List ℕ

@@ -1,5 +1,5 @@
 -- All the words: what they say of each channel, and what a channel's words written anew leave. Assumes nothing.
-use Prim.Native.Nat.{ℕ, zero, suc, _+_, _-_, _≤_, _<_}
+use Prim.Native.Nat.{ℕ, zero, suc, _+_, _≤_, _<_}
 use mathlib.Core.Bool.{Bool, true, false, and-eq-true-iff}
 use mathlib.Core.List.{List, _++_}
 use mathlib.Core.Logic.{⊎-elim}
@@ -188,10 +188,6 @@ module _ (words : List ℕ) (e : readable words ≡ true) (index : ℕ) (inside 
 module _ (words : List ℕ) (index : ℕ) (room : slotStart index + SLOT ≤ length words) (c : Channel) (tidy : Tidy (c .queue)) where
   part-long : length (channelWords c) ≡ SLOT
   part-long = channel-length c (tidy .places)
-
-  pub put-length : length (putChannel words index c) ≡ length words
-  unfolding putChannel
-  put-length = slot-put-length words index room (channelWords c) part-long
 
   pub put-same : slot (putChannel words index c) index ≡ channelWords c
   unfolding putChannel

@@ -23,7 +23,7 @@ use Rattle.acceptance.proofs.Control.{control-account}
 use Rattle.acceptance.proofs.Data.{data-account}
 use Rattle.writable.specs.Allowed.{controlAllowed, dataAllowed}
 use Rattle.writer.specs.Written.{controlWritten, dataWritten}
-use Rattle.roundtrip.specs.Values.{ControlValue, DataValue}
+use Rattle.roundtrip.specs.Values.{ControlValue}
 use Rattle.roundtrip.proofs.HeldControl.{control-allowed, control-value}
 use Rattle.roundtrip.proofs.HeldData.{data-allowed, data-value}
 use Rattle.roundtrip.proofs.Shorter.{no-longer}
@@ -68,9 +68,6 @@ control-again end id s o =
 pub data-writable : (end : End) (id : DatalinkId) (s : List ℕ) → Octets s → readData end id s .verdict ≡ Verdict.Accepted
     → dataAllowed end (readData end id s .message) (length (packetOf s)) ≡ true
 data-writable end id s o = of-data end id s o (λ r. dataAllowed end (r .message) (length (packetOf s)) ≡ true) (data-allowed end id s o)
-
-pub data-is-value : (end : End) (id : DatalinkId) (s : List ℕ) → Octets s → readData end id s .verdict ≡ Verdict.Accepted → DataValue (readData end id s .message)
-data-is-value end id s o = of-data end id s o (λ r. DataValue (r .message)) (data-value end id s o)
 
 -- so that there is room for it wherever there was for what was read
 pub data-no-longer : (end : End) (id : DatalinkId) (s : List ℕ) → Octets s → readData end id s .verdict ≡ Verdict.Accepted
