@@ -10,8 +10,8 @@ use quantity::refusal;
 use quantity::refusal::Refusal;
 use store::stretch;
 
-pub mod fresh;
-pub mod judge;
+mod fresh;
+mod judge;
 pub mod layout;
 
 fn refused() -> StartAnswer
