@@ -127,5 +127,9 @@ int main(void)
     next(3, 2520, 100);
     show(3);
     say(nespovarda_query(words, COUNT(words), out, sizeof out));
+
+    RADIO(CONTEXT("US") STATUS("\0", "\7") STATUS("\3", "\7"));
+    RADIO(STATUS("\0", "\7") STATUS("\3", "\7"));
+    RADIO(CONTEXT("US") STATUS("\0", "\7") STATUS("\3", "\7"));
     return 0;
 }

@@ -192,7 +192,8 @@ nespovarda_answer nespovarda_withdraw(uint64_t *words, size_t words_length,
 /*
  * Hands in a datagram from the radio: Channel Status, Flow Windows, Link Instance and Context of a control message; an
  * accepted data message changes nothing, and its packet is had from nespovarda_read_data. ACCEPTED; DUE where the
- * Context is the first or differs from the last one received; REFUSED by 19, then 1 to 11.
+ * Context is the first, differs from the last one received, or follows an accepted control message without one;
+ * REFUSED by 19, then 1 to 11.
  */
 nespovarda_answer nespovarda_radio(uint64_t *words, size_t words_length,
                                    const uint8_t *datagram, size_t datagram_length);
@@ -230,7 +231,7 @@ nespovarda_answer nespovarda_query(const uint64_t *words, size_t words_length,
 /* What nespovarda_kept gives of a state. */
 #define NESPOVARDA_KEPT_LINK_LENGTH 0    /* bytes of the Link Instance last given, 1 to 8; 0: none */
 #define NESPOVARDA_KEPT_LINK 1           /* its number */
-#define NESPOVARDA_KEPT_CONTEXT_LENGTH 2 /* bytes of the Datalink Context last received, 1 to 8; 0: none */
+#define NESPOVARDA_KEPT_CONTEXT_LENGTH 2 /* bytes of the Datalink Context of the last accepted control message, 1 to 8; 0: none */
 #define NESPOVARDA_KEPT_CONTEXT 3        /* the number that its bytes spell, big-endian */
 #define NESPOVARDA_KEPT_NUMBERS 4
 

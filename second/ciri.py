@@ -379,12 +379,16 @@ class Channel:
 
 @dataclass
 class Endpoint:
-    """The kept state: Datalink ID, the channels in configuration order, last Link Instance, last Context."""
+    """The kept state: Datalink ID, the channels in configuration order, last Link Instance, last Context received.
+
+    `is_gap`: the control message accepted just before had no Context.
+    """
 
     datalink_id: int
     channels: list
     link_instance: LinkInstance | None
     context: bytes | None
+    is_gap: bool = False
 
 
 # ---- Number 19 ----
@@ -633,12 +637,19 @@ def flow_after(channel_id, meaning):
 
 
 def update_context(endpoint, meaning):
-    """Due when a Context comes that differs from the last Context received, or is the first."""
+    """Due when a Context comes that differs from the last Context received, is the first, or comes after a gap."""
     if meaning.context is None:
+        endpoint.is_gap = True
         return False
-    is_due = meaning.context != endpoint.context
+    is_due = endpoint.is_gap or meaning.context != endpoint.context
+    endpoint.is_gap = False
     endpoint.context = meaning.context
     return is_due
+
+
+def kept_context(endpoint):
+    """The Context of the control message accepted just before, where it had one."""
+    return None if endpoint.is_gap else endpoint.context
 
 
 # ---- Query ----

@@ -10,8 +10,8 @@ from session import Session
 
 HAPPENINGS = (
     "wrap crossed", "window granted", "window shrunk", "window withdrawn", "window absent", "status up", "status down",
-    "status not reported", "context of another length", "context of other bytes", "expired in the middle",
-    "a byte too short",
+    "status not reported", "context of another length", "context of other bytes", "same context after a gap",
+    "expired in the middle", "a byte too short",
 )
 
 
@@ -46,6 +46,8 @@ def find_happenings(before, words, answer, session):
 def find_in_radio(before, after):
     """What a radio message changed."""
     yield from find_in_context(before.context, after.context)
+    if before.is_gap and not after.is_gap and before.context == after.context:
+        yield "same context after a gap"
     for old, new in zip(before.channels, after.channels):
         yield from find_in_status(old.status, new.status)
         yield from find_in_flow(old.flow, new.flow)

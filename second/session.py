@@ -203,7 +203,8 @@ def answer_store(session, channel_word):
 
 def answer_kept(session):
     """`kept`"""
-    return " ".join(["kept", *show_link_and_context(session.endpoint.link_instance, session.endpoint.context)])
+    context = ciri.kept_context(session.endpoint)
+    return " ".join(["kept", *show_link_and_context(session.endpoint.link_instance, context)])
 
 
 # ---- The session ----

@@ -3,6 +3,7 @@
 import ciri
 from call_lines import NEVER, ROOMY, offer, packet, radio, start
 from session import TIME_LIMIT
+from stored_orders import PACKET
 
 CHANNELS = (200, 3, 254, 17, 0, 99, 1, 128, 64, 253, 2, 127, 31, 8, 250, 16)
 
@@ -97,7 +98,7 @@ def orders():
 
 
 def contexts():
-    """Due at the first Context and at each that differs in length or bytes; nothing else makes one due."""
+    """Due at the first Context and at each that differs in length or bytes."""
     yield start((0, "plain", 0, 1500))
     given = (None, b"\0", b"\0", None, b"\0", b"\0\0", b"\0", b"\1", b"eightlng", b"eightlnh", b"eightln", b"\0")
     for context in given:
@@ -105,6 +106,16 @@ def contexts():
     message = radio({0: 3, 254: 3}, {4: 4}, context=b"\2")
     yield from (message + "00", message.replace("radio 1001000107", "radio 1001000108"), "show 0", message, message)
     yield from ("radio 18010001078000020102", "show 0", "radio -", "radio 20", "radio 10", "radio 1001000107")
+
+
+def gaps():
+    """After a control message without a Context any is due, and once; data and refused messages are no gap."""
+    yield start((0, "plain", 0, 1500))
+    no_gap = (f"radio 1801000107{PACKET}", "kept", radio({0: 7}) + "00", "kept")
+    yield from (radio({0: 7}, context=b"A"), "kept", radio({0: 7}), "kept", *no_gap)
+    yield from (radio({0: 7}, context=b"A"), "kept", radio({0: 7}, context=b"A"), "kept", *no_gap)
+    yield from (radio({0: 7}, context=b"A"), "kept", radio({0: 7}), radio({0: 7}), "kept")
+    yield from (radio({0: 7}, context=b"B"), "kept", radio({0: 7}, context=b"B"), radio({0: 7}, context=b"A"), "kept")
 
 
 def long_messages():
@@ -139,5 +150,6 @@ def limit_lines():
     yield from times()
     yield from orders()
     yield from contexts()
+    yield from gaps()
     yield from long_messages()
     yield from sixteen_channels()

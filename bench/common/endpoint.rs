@@ -111,9 +111,7 @@ impl Endpoint {
                     self.instance = message.instance;
                 }
                 let due = message.context.is_some() && message.context != self.context;
-                if due {
-                    self.context = message.context;
-                }
+                self.context = message.context;
                 Ok(due)
             }
             Err(Refused(number, place)) => Err((number, place)),

@@ -58,7 +58,7 @@ pub struct Waiting {
 pub struct Kept {
     /// The Link Instance last given.
     pub link: Option<LinkInstance>,
-    /// The Context last received.
+    /// The Context of the control message accepted just before, where it had one.
     pub context: Option<Context>,
 }
 

@@ -65,18 +65,34 @@ fn a_window_that_is_withdrawn_or_absent_is_not_in_force() {
 fn a_context_that_differs_makes_a_mobility_message_due() {
     let mut lent = started(0);
     let mut endpoint = lent.endpoint();
-    let rows: [(&[u8], Heard); 5] = [
+    let rows: [(&[u8], Heard); 4] = [
         (&[4, 0, 2, 0x45, 0x55], Heard::Due),
         (&[4, 0, 2, 0x45, 0x55], Heard::Accepted),
-        (&[], Heard::Accepted),
         (&[4, 0, 3, 0, 0x45, 0x55], Heard::Due),
-        (&[3, 0, 2, 1, 2], Heard::Accepted),
+        (&[3, 0, 2, 1, 2, 4, 0, 3, 0, 0x45, 0x55], Heard::Accepted),
     ];
     for (options, answer) in rows {
         let message = [&[0x10, 1, 0, 1, 7, 5, 0, 2, 0, 7][..], options].concat();
         assert_eq!(endpoint.radio(&message), answer);
     }
     assert_eq!(endpoint.kept(), Ok(Kept { link: Some(LinkInstance { length: 2, id: 258 }), context: Context::new(&[0, 0x45, 0x55]) }));
+}
+
+#[test]
+fn a_context_after_a_message_without_one_makes_a_mobility_message_due() {
+    let mut lent = started(0);
+    let mut endpoint = lent.endpoint();
+    let rows: [(&[u8], Heard, Option<Context>); 4] = [
+        (&[4, 0, 2, 0x45, 0x55], Heard::Due, Context::new(b"EU")),
+        (&[], Heard::Accepted, None),
+        (&[4, 0, 2, 0x45, 0x55], Heard::Due, Context::new(b"EU")),
+        (&[4, 0, 2, 0x45, 0x55], Heard::Accepted, Context::new(b"EU")),
+    ];
+    for (options, answer, context) in rows {
+        let message = [&[0x10, 1, 0, 1, 7, 5, 0, 2, 0, 7][..], options].concat();
+        assert_eq!(endpoint.radio(&message), answer);
+        assert_eq!(endpoint.kept(), Ok(Kept { link: None, context }));
+    }
 }
 
 #[test]

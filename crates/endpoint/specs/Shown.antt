@@ -24,6 +24,6 @@ channelOf s (Place.Refused number) = freshOf noStart
 unfoldable pub shownOf : State → ℕ → ChannelShown
 shownOf s id = record { place = placeOf s id (sizes (s .channels)); channel = channelOf s (placeOf s id (sizes (s .channels))) }
 
--- 19, or "Link Instance is kept when given", and "the last Context received"
+-- 19, or "Link Instance is kept when given", and the Context of "the control message just before"
 unfoldable pub keptOf : State → KeptAnswer
 keptOf s = cond (stateFits s) (KeptAnswer.Kept (s .instance) (s .context)) (KeptAnswer.Refused (record { number = OUTSIDE-LIMITS; place = 0 }))

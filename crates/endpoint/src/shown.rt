@@ -57,7 +57,7 @@ pub fn find_channel(words: &[u64], id: u8) -> ChannelShown
     }
 }
 
-// 19, or the Link Instance as last given and the Context as last received.
+// 19, or the Link Instance as last given and the Context of the last accepted control message.
 pub fn kept(words: &[u64]) -> KeptAnswer
     ensures { λ r. ⌜ r ≡ keptOf (stateIn (now (words .entry))) ⌝ }
 {

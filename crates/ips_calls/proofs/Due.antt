@@ -1,5 +1,5 @@
--- "A mobility message is reported due when a Context comes that differs from the last Context received (in length or bytes), or is the first": over any calls
--- from a fresh start. Assumes nothing.
+-- "A mobility message is reported due when a Context comes that differs from the last Context received (in length or bytes), or is the first", and document 02 §2's
+-- "a Context that follows an accepted control message without one": over any calls from a fresh start. Assumes nothing.
 use Prim.Native.Nat.{ℕ}
 use mathlib.Core.Bool.{Bool, true, false, cond}
 use mathlib.Core.List.{List, [], _∷_}
@@ -14,10 +14,10 @@ use Rattle.ips_state.specs.State.{Configuration, State}
 use Rattle.ips_state.specs.Limits.{stateFits, configurationFits}
 use Rattle.ips_run.specs.Run.{Call, radio, acceptedIn, acceptedBy, acceptedAll, freshWorld}
 use Rattle.ips_run.specs.Demand.{BytesIn, reached}
-use Rattle.ips_run.specs.Kept.{lastContext, Comes}
+use Rattle.ips_run.specs.Kept.{contextBefore, Comes, MobilityDue}
 use Rattle.ips_run.proofs.Exact.{accepted-fits}
 use Rattle.ips_run.proofs.Whole.{reached-fits}
-use Rattle.ips_run.proofs.Kept.{whole-context, due-when}
+use Rattle.ips_run.proofs.Kept.{whole-context, due-when, due-mended}
 use Rattle.ips_radio.specs.declared.RadioAnswer.{RadioAnswer}
 use Rattle.ips_calls.specs.Radio.{AfterRadio, handedIn}
 use Rattle.ips_calls.proofs.Exactly.{Handed, outside, unread, heard, passed, handed, radio-heard}
@@ -42,10 +42,17 @@ module _ (s : State) (datagram : List ℕ) where
       (brought (handed s datagram), λ h. ap (λ (r : AfterRadio). r .answer) (radio-heard s datagram fits (h .0) (h .1)) ∙ rw (due-when (s .context) (h .0 .context) .1 (h .2)))
 
 module _ (k : Configuration) (fits : configurationFits k ≡ true) (cs : List Call) (bytes : BytesIn cs) where
-  -- by the messages accepted before
+  abbrev accepted : List Control
+  accepted = acceptedAll cs (freshWorld k)
+
+  -- by the control messages accepted before: document 01's condition, or a gap just before
   pub due-exactly : (datagram : List ℕ) → (handedIn (reached k cs .state) datagram .answer ≡ RadioAnswer.Due)
-      ↔ ((m : Control) × (acceptedBy (radio datagram) (reached k cs) ≡ m ∷ []) × Comes (lastContext (acceptedAll cs (freshWorld k))) (m .context))
+      ↔ ((m : Control) × (acceptedBy (radio datagram) (reached k cs) ≡ m ∷ []) × MobilityDue accepted (m .context))
   due-exactly datagram =
       let fit = reached-fits k fits cs bytes .order .state-fits in
+      let kept = due-by-state (reached k cs .state) datagram fit (reached k cs .state .datalink) refl (contextBefore accepted) (whole-context k cs) in
       rw (accepted-fits (reached k cs) datagram fit)
-      (due-by-state (reached k cs .state) datagram fit (reached k cs .state .datalink) refl (lastContext (acceptedAll cs (freshWorld k))) (whole-context k cs))
+      (
+        λ due. let h = kept .0 due in (h .0, h .1, due-mended accepted (h .0 .context) .0 (h .2)),
+        λ h. kept .1 (h .0, h .1, due-mended accepted (h .0 .context) .1 (h .2)),
+      )

@@ -7,7 +7,6 @@ use lib.ListN.{length, take, length-map}
 use Rattle.facts.proofs.Tables.{each-place}
 use Rattle.meaning.specs.declared.message.End.the-variants as ends
 use Rattle.meaning.specs.declared.message.Instance.{Instance}
-use Rattle.meaning.specs.declared.message.Context.{Context}
 use Rattle.meaning.specs.declared.message.Status.{Status}
 use Rattle.meaning.specs.declared.message.Window.{Window}
 use Rattle.meaning.specs.declared.message.StatusCell.{StatusCell}
@@ -21,7 +20,7 @@ use Rattle.ips_channel.specs.Channel.{heardOf}
 use Rattle.ips_state.specs.State.{State, channelAt, noChannel}
 use Rattle.ips_state.specs.Limits.{flowFits, channelFits, allFit, ids, namesFit, stateFits, sizes}
 use Rattle.ips_state.specs.Memory.{startOf}
-use Rattle.ips_radio.specs.Heard.{statusIn, windowIn, keptInstance, keptContext, heardFrom, heardBy}
+use Rattle.ips_radio.specs.Heard.{statusIn, windowIn, keptInstance, heardFrom, heardBy}
 use Rattle.ips_state.proofs.Channels.{getD-mapped, fitting, fitting-fits}
 use Rattle.ips_state.proofs.Places.{fit, fit-fits}
 
@@ -38,10 +37,6 @@ flow-heard false flow window h = h
 instance-kept : (before given : Instance) → instanceAllowed ends.Radio before ≡ true → instanceAllowed ends.Radio given ≡ true → instanceAllowed ends.Radio (keptInstance before given) ≡ true
 instance-kept before Instance.Absent e d = e
 instance-kept before (Instance.Given id n) e d = d
-
-context-kept : (before given : Context) → contextAllowed ends.Radio before ≡ true → contextAllowed ends.Radio given ≡ true → contextAllowed ends.Radio (keptContext before given) ≡ true
-context-kept before Context.Absent e d = e
-context-kept before (Context.Given bytes n) e d = d
 
 module _ (message : Control) where
   sizes-heard : (cs : List Channel) → sizes (map (heardFrom message) cs) ≡ sizes cs
@@ -100,7 +95,7 @@ module _ (message : Control) (s : State) where
       fit-fits (heardBy message s) (record {
         some = rw heard-count (f .some);
         few = rw heard-count (f .few);
-        names = rw (instance-kept (s .instance) (message .instance) (names .0) instance, context-kept (s .context) (message .context) (names .1) context);
+        names = rw (instance-kept (s .instance) (message .instance) (names .0) instance, context);
         each = all-heard message statuses (s .channels) (f .each);
         apart = rw heard-ids (f .apart);
         primary = rw heard-ids (f .primary);

@@ -1,4 +1,4 @@
--- Document 01, "A channel's life": "Radio control message accepted".
+-- Document 01, "A channel's life": "Radio control message accepted", as document 02 §2 mends it.
 use Prim.Native.Nat.{ℕ}
 use mathlib.Core.Bool.{Bool, true, false, not, _&&_}
 use mathlib.Core.List.{map}
@@ -29,23 +29,20 @@ abbrev pub keptInstance : Instance → Instance → Instance
 keptInstance before Instance.Absent = before
 keptInstance before (Instance.Given id length) = Instance.Given id length
 
--- "the last Context received"
-abbrev pub keptContext : Context → Context → Context
-keptContext before Context.Absent = before
-keptContext before (Context.Given bytes length) = Context.Given bytes length
-
 -- every configured channel hears it: "Unconfigured channels are skipped."
+-- Document 02 §2: "a Context that follows an accepted control message without one is due even if equal to the older", so the message's own is kept, absent where it has none.
 unfoldable pub heardBy : Control → State → State
 heardBy message s =
     record {
       datalink = s .datalink;
       channels = map (heardFrom message) (s .channels);
       instance = keptInstance (s .instance) (message .instance);
-      context = keptContext (s .context) (message .context);
+      context = message .context;
     }
 
--- "A mobility message is reported due when a Context comes that differs from the last Context received (in length or bytes), or is the first."
+-- By the Context of the accepted control message just before. Document 01: "A mobility message is reported due when a Context comes that differs from the last Context
+-- received (in length or bytes), or is the first."; document 02 §2: "also .. when the control message just before had no Context at all".
 abbrev pub dueOf : Context → Context → Bool
-dueOf last Context.Absent = false
+dueOf before Context.Absent = false
 dueOf Context.Absent (Context.Given bytes length) = true
-dueOf (Context.Given before long) (Context.Given bytes length) = not (eqb (bytes .0) (before .0) && eqb length long)
+dueOf (Context.Given last long) (Context.Given bytes length) = not (eqb (bytes .0) (last .0) && eqb length long)

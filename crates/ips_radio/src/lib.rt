@@ -11,7 +11,7 @@ pub enum RadioAnswer {
     Refused(Refusal),
 }
 
-// Whether a mobility message is due: a Context came, and it is the first, or another than the last in length or bytes.
+// Whether a mobility message is due: a Context came, and the control message just before had none, or another in length or bytes.
 pub fn is_due(last: Context, given: Context) -> bool
     ensures { λ r. ⌜ r ≡ dueOf last given ⌝ }
 {

@@ -1,7 +1,7 @@
--- Over a whole run the state keeps the last Context and the last Link Instance that accepted radio messages gave. Assumes nothing.
+-- Over a whole run the state keeps the Context of the accepted radio control message just before, and the last Link Instance given. Assumes nothing.
 use Prim.Native.Nat.{ℕ}
 use mathlib.Core.Bool.{Bool, true, false, not, _&&_, and-false}
-use mathlib.Core.List.{List, [], _∷_, _++_, append-assoc}
+use mathlib.Core.List.{List, [], _∷_, _++_, append-assoc, append-nil}
 use mathlib.Core.Logic.{_↔_}
 use mathlib.Core.Path.{_≡_, refl, sym, _∙_}
 use borrow.Author.Tests.{eqb-false, ne-eqb}
@@ -13,12 +13,12 @@ use Rattle.meaning.specs.declared.message.Control.{Control}
 use Rattle.ips_channel_rules.specs.Rules.{ChannelCall, Says}
 use Rattle.ips_channel.specs.declared.state.Channel.{Channel}
 use Rattle.ips_state.specs.State.{Configuration, State, withChannel, freshState}
-use Rattle.ips_radio.specs.Heard.{keptInstance, keptContext, heardBy, dueOf}
+use Rattle.ips_radio.specs.Heard.{keptInstance, heardBy, dueOf}
 use Rattle.ips_state.specs.Memory.{World}
 use Rattle.ips_run.specs.Calling.{WorldResult, Judged, outside, unknown, served}
 use Rattle.ips_run.specs.Run.{Call, on, radio, query, acceptedBy, hearEach, after, afterAll, acceptedAll, freshWorld}
 use Rattle.ips_run.specs.Demand.{reached}
-use Rattle.ips_run.specs.Kept.{givenIn, lastOr, ifInstance, lastInstance, ifContext, lastContext, Comes, is-first, in-length, in-bytes}
+use Rattle.ips_run.specs.Kept.{givenIn, lastOr, ifInstance, lastInstance, contextBefore, ifContext, lastContext, Comes, is-first, in-length, in-bytes, MobilityDue, as-before, after-gap}
 use Rattle.ips_run.proofs.Exact.{judged}
 
 last-append : {A : Type 0} (none : A) (xs ys : List A) → lastOr none (xs ++ ys) ≡ lastOr (lastOr none xs) ys
@@ -59,9 +59,13 @@ instance-last : (before given : Instance) → keptInstance before given ≡ last
 instance-last before Instance.Absent = refl
 instance-last before (Instance.Given id length) = refl
 
-context-last : (before given : Context) → keptContext before given ≡ lastOr before (ifContext given)
-context-last before Context.Absent = refl
-context-last before (Context.Given bytes length) = refl
+context-all : (cs : List Call) (w : World) → afterAll cs w .state .context ≡ lastOr (w .state .context) (givenIn (λ m. m .context ∷ []) (acceptedAll cs w))
+unfolding heardBy withChannel
+context-all = kept-all (λ s. s .context) (λ m. m .context ∷ []) (λ m s. refl) (λ s index c. refl)
+
+-- radio data messages and refused messages are no gap: only an accepted control message moves the kept Context
+pub no-gap : (cs : List Call) (w : World) → acceptedAll cs w ≡ [] → afterAll cs w .state .context ≡ w .state .context
+no-gap cs w none = context-all cs w ∙ rw none
 
 module _ (k : Configuration) (cs : List Call) where
   -- "Link Instance is kept when given."
@@ -69,10 +73,10 @@ module _ (k : Configuration) (cs : List Call) where
   unfolding heardBy withChannel freshWorld freshState
   whole-instance = kept-all (λ s. s .instance) (λ m. ifInstance (m .instance)) (λ m s. instance-last (s .instance) (m .instance)) (λ s index c. refl) cs (freshWorld k)
 
-  -- "the last Context received": none, if none was
-  pub whole-context : reached k cs .state .context ≡ lastContext (acceptedAll cs (freshWorld k))
-  unfolding heardBy withChannel freshWorld freshState
-  whole-context = kept-all (λ s. s .context) (λ m. ifContext (m .context)) (λ m s. context-last (s .context) (m .context)) (λ s index c. refl) cs (freshWorld k)
+  -- the Context of the accepted control message just before: none, if it had none, or if there was no message
+  pub whole-context : reached k cs .state .context ≡ contextBefore (acceptedAll cs (freshWorld k))
+  unfolding freshWorld freshState
+  whole-context = context-all cs (freshWorld k)
 
 -- ---- a mobility message
 comes : (last given : Context) → dueOf last given ≡ true → Comes last given
@@ -92,3 +96,74 @@ comes-due (in-bytes {before} {bytes} other) = rw (ne-eqb (bytes .0) (before .0) 
 
 pub due-when : (last given : Context) → (dueOf last given ≡ true) ↔ Comes last given
 due-when last given = (comes last given, comes-due)
+
+-- ---- by the accepted messages: document 01's condition and the mended one
+data Ends : List Control → Type 0 where
+  empty : Ends []
+  ends : (earlier : List Control) (before : Control) → Ends (earlier ++ (before ∷ []))
+
+ends-of : (ms : List Control) → Ends ms
+ends-of [] = empty
+ends-of (m ∷ ms) = go (ends-of ms)
+  where
+    go : {ns : List Control} → Ends ns → Ends (m ∷ ns)
+    go empty = ends [] m
+    go (ends earlier before) = ends (m ∷ earlier) before
+
+module _ (earlier : List Control) (before : Control) where
+  context-before : contextBefore (earlier ++ (before ∷ [])) ≡ before .context
+  context-before =
+      rw (given-append (λ m. m .context ∷ []) earlier (before ∷ [])) (last-append Context.Absent (givenIn (λ m. m .context ∷ []) earlier) (before .context ∷ []))
+
+  context-received : lastContext (earlier ++ (before ∷ [])) ≡ lastOr (lastContext earlier) (ifContext (before .context))
+  context-received =
+      rw (given-append (λ m. ifContext (m .context)) earlier (before ∷ []), append-nil (ifContext (before .context)))
+      (last-append Context.Absent (givenIn (λ m. ifContext (m .context)) earlier) (ifContext (before .context)))
+
+first-comes : {last given : Context} → Comes last given → Comes Context.Absent given
+first-comes is-first = is-first
+first-comes (in-length other) = is-first
+first-comes (in-bytes other) = is-first
+
+mended : {ms : List Control} {given : Context} → Ends ms → Comes (contextBefore ms) given → MobilityDue ms given
+mended empty h = as-before h
+mended (ends earlier before) h = go (before .context) refl (rw (context-before earlier before) at h)
+  where
+    go : (last : Context) {given : Context} → before .context ≡ last → Comes last given → MobilityDue (earlier ++ (before ∷ [])) given
+    go Context.Absent e is-first = after-gap earlier before refl e
+    go (Context.Given bytes length) {given} e h = as-before {given = given} (rw (context-received earlier before, e) h)
+
+older : {ms : List Control} {given : Context} → Ends ms → Comes (lastContext ms) given → Comes (contextBefore ms) given
+older empty h = h
+older {given = given} (ends earlier before) h = rw (context-before earlier before) (go (before .context) (rw (context-received earlier before) at h))
+  where
+    go : (last : Context) → Comes (lastOr (lastContext earlier) (ifContext last)) given → Comes last given
+    go Context.Absent h = first-comes h
+    go (Context.Given bytes length) h = h
+
+kept-so : {ms : List Control} {given : Context} → MobilityDue ms given → Comes (contextBefore ms) given
+kept-so {ms} (as-before h) = older (ends-of ms) h
+kept-so (after-gap earlier before e none) = rw (e, context-before earlier before, none) is-first
+
+-- what is kept decides both
+pub due-mended : (accepted : List Control) (given : Context) → Comes (contextBefore accepted) given ↔ MobilityDue accepted given
+due-mended accepted given = (mended (ends-of accepted), kept-so)
+
+-- ---- the same case by case
+comes-other : {last given : Context} → Comes last given → last ≡ given → ⊥
+comes-other is-first e = clash (cc)
+comes-other (in-length other) e = other (cc)
+comes-other (in-bytes other) e = other (cc)
+
+comes-given : {last given : Context} → Comes last given → given ≡ Context.Absent → ⊥
+comes-given is-first e = clash (cc)
+comes-given (in-length other) e = clash (cc)
+comes-given (in-bytes other) e = clash (cc)
+
+-- a message without a Context makes none due
+pub due-given : {accepted : List Control} → MobilityDue accepted Context.Absent → ⊥
+due-given due = comes-given (kept-so due) refl
+
+-- nor does the Context of the message just before, so that after a gap it is due once
+pub due-once : (earlier : List Control) (before : Control) → MobilityDue (earlier ++ (before ∷ [])) (before .context) → ⊥
+due-once earlier before due = comes-other (kept-so due) (context-before earlier before)

@@ -24,7 +24,7 @@ ifInstance (Instance.Given id length) = Instance.Given id length ∷ []
 abbrev pub lastInstance : List Control → Instance
 lastInstance ms = lastOr Instance.Absent (givenIn (λ m. ifInstance (m .instance)) ms)
 
--- "the last Context received"
+-- "the last Context received": messages without one are passed over
 abbrev pub ifContext : Context → List Context
 ifContext Context.Absent = []
 ifContext (Context.Given bytes length) = Context.Given bytes length ∷ []
@@ -32,8 +32,18 @@ ifContext (Context.Given bytes length) = Context.Given bytes length ∷ []
 abbrev pub lastContext : List Control → Context
 lastContext ms = lastOr Context.Absent (givenIn (λ m. ifContext (m .context)) ms)
 
--- "a Context comes that differs from the last Context received (in length or bytes), or is the first"
+-- what is kept: the Context of the accepted control message just before, absent where it had none, or where there was no message
+abbrev pub contextBefore : List Control → Context
+contextBefore ms = lastOr Context.Absent (givenIn (λ m. m .context ∷ []) ms)
+
+-- Document 01: "a Context comes that differs from the last Context received (in length or bytes), or is the first"
 pub data Comes : (last given : Context) → Type 0 where
   is-first : {bytes : ContextBytes} {length : ℕ} → Comes Context.Absent (Context.Given bytes length)
   in-length : {before bytes : ContextBytes} {long length : ℕ} → (length ≡ long → ⊥) → Comes (Context.Given before long) (Context.Given bytes length)
   in-bytes : {before bytes : ContextBytes} {long length : ℕ} → (bytes .0 ≡ before .0 → ⊥) → Comes (Context.Given before long) (Context.Given bytes length)
+
+-- Document 01's condition, or document 02 §2's: "a Context that follows an accepted control message without one is due even if equal to the older"
+pub data MobilityDue (accepted : List Control) : (given : Context) → Type 0 where
+  as-before : {given : Context} → Comes (lastContext accepted) given → MobilityDue accepted given
+  after-gap : {bytes : ContextBytes} {length : ℕ} (earlier : List Control) (before : Control) → accepted ≡ earlier ++ (before ∷ []) → before .context ≡ Context.Absent
+      → MobilityDue accepted (Context.Given bytes length)

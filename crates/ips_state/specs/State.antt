@@ -23,7 +23,7 @@ pub record Configuration : Type 0 where
   pub datalink : DatalinkId
   pub starts : List ChannelStart
 
--- the channels in configuration order, as their stores stand in the lent memory; the Link Instance as last given, the Context as last received
+-- the channels in configuration order, as their stores stand in the lent memory; the Link Instance as last given, the Context of the control message accepted just before
 pub record State : Type 0 where
   pub datalink : DatalinkId
   pub channels : List Channel

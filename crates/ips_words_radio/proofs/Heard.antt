@@ -8,11 +8,11 @@ use lib.ListN.{length}
 use Rattle.facts.specs.Tables.{tabulate}
 use Rattle.meaning.specs.declared.message.Control.{Control}
 use Rattle.ips_state.specs.Limits.{stateFits}
-use Rattle.ips_radio.specs.Heard.{heardFrom, heardBy, keptInstance, keptContext}
+use Rattle.ips_radio.specs.Heard.{heardFrom, heardBy, keptInstance}
 use Rattle.ips_words.specs.Words.{HEAD, SLOT, ID, DATALINK-WORD, COUNT-WORD, INSTANCE-TAG, INSTANCE-VALUE, INSTANCE-LENGTH, CONTEXT-TAG, CONTEXT-VALUE, CONTEXT-LENGTH, wordsFor, word, slot, instanceOf, contextOf, channelIn, stateOf, spelled, readable, stateIn}
 use Rattle.ips_words.proofs.Whole.{slot-length, Readable, readable-facts, readable-by, slot-room, says, fit-readable}
 use Rattle.ips_words_radio.specs.HeardWords.{heardSlot, heardSlots, instanceHeard, contextHeard, heardWords, Slender}
-use Rattle.ips_words_radio.proofs.Parts.{part-heard, part-spelled, instance-length, instance-slot, instance-before, instance-behind, instance-said, instance-tag, context-length, context-slot, context-before, context-said, context-tag}
+use Rattle.ips_words_radio.proofs.Parts.{part-heard, part-spelled, instance-length, instance-slot, instance-before, instance-said, instance-tag, context-length, context-slot, context-before, context-said, context-tag}
 use Rattle.ips_words_radio.proofs.Hearing.{Passed, all-passed, slots-room, instance-room}
 
 tabulate-mapped : {A B : Type 0} (h : A → B) (n : ℕ) (f : ℕ → A) (g : ℕ → B) → ((i : ℕ) → i < n → g i ≡ h (f i)) → tabulate n g ≡ map h (tabulate n f)
@@ -53,14 +53,8 @@ module _ (message : Control) (words : List ℕ) (t : stateFits (stateIn words) �
       rw (context-before two (message .context) INSTANCE-TAG (omega arith), context-before two (message .context) INSTANCE-VALUE (omega arith), context-before two (message .context) INSTANCE-LENGTH (omega arith))
       (instance-said one one-room (message .instance) ∙ rw (p .head INSTANCE-TAG (omega arith), p .head INSTANCE-VALUE (omega arith), p .head INSTANCE-LENGTH (omega arith)))
 
-  stood : (k : ℕ) → INSTANCE-LENGTH < k → k < HEAD → word two k ≡ word words k
-  stood k h l = instance-behind one (message .instance) k h ∙ p .head k l
-
-  context-kept : contextOf (word last CONTEXT-TAG) (word last CONTEXT-VALUE) (word last CONTEXT-LENGTH)
-      ≡ keptContext (contextOf (word words CONTEXT-TAG) (word words CONTEXT-VALUE) (word words CONTEXT-LENGTH)) (message .context)
-  context-kept =
-      context-said two two-room (message .context)
-      ∙ rw (stood CONTEXT-TAG (omega arith) (omega arith), stood CONTEXT-VALUE (omega arith) (omega arith), stood CONTEXT-LENGTH (omega arith) (omega arith))
+  context-kept : contextOf (word last CONTEXT-TAG) (word last CONTEXT-VALUE) (word last CONTEXT-LENGTH) ≡ message .context
+  context-kept = context-said two (message .context) two-room
 
   -- of each channel only status and flow state are written
   pub heard-slot : (i : ℕ) → i < word words COUNT-WORD → slot (heardWords message words) i ≡ heardSlot message (slot words i)
@@ -95,7 +89,7 @@ module _ (message : Control) (words : List ℕ) (t : stateFits (stateIn words) �
       head = record {
         datalink = rw (head-kept DATALINK-WORD (omega arith)) (facts .head .datalink);
         instance = rw (context-before two (message .context) INSTANCE-TAG (omega arith)) (instance-tag one one-room (message .instance) (rw (p .head INSTANCE-TAG (omega arith)) (facts .head .instance)));
-        context = context-tag two two-room (message .context) (rw (stood CONTEXT-TAG (omega arith) (omega arith)) (facts .head .context));
+        context = context-tag two (message .context) two-room;
       };
       each = λ i h. each i (rw (head-kept COUNT-WORD (omega arith)) at h);
     })

@@ -17,10 +17,10 @@ use Rattle.store.specs.Waiting.{noEntry}
 use Rattle.flow.specs.declared.Flow.{Flow}
 use Rattle.flow.specs.Counting.{flowAfter}
 use Rattle.ips_channel.specs.Channel.{heardOf}
-use Rattle.ips_radio.specs.Heard.{keptInstance, keptContext}
+use Rattle.ips_radio.specs.Heard.{keptInstance}
 use Rattle.ips_words.specs.Words.{HEAD, FIXED, ENTRY, EXPIRY, SLOT, ID, KIND, CONTROLLED, SIZE, STATUS-TAG, STATUS-VALUE, FLOW-TAG, FLOW-WINDOW, IN-FORCE, SEQUENCE, LATEST, WAITING, GIVEN, INSTANCE-TAG, INSTANCE-VALUE, INSTANCE-LENGTH, CONTEXT-TAG, CONTEXT-VALUE, CONTEXT-LENGTH, word, slot, slotStart, entryAt, entriesIn, queueIn, flowOf, instanceOf, contextOf, channelIn, spelled, statusTag, statusValue, flowTag, flowWindow}
 use Rattle.ips_words.proofs.Slots.{status-back, flow-back, status-few, flow-few, spelled-facts, spelled-by}
-use Rattle.ips_words_radio.specs.HeardWords.{statusHeard, flowHeard, heardPart, instanceHeard, contextHeard}
+use Rattle.ips_words_radio.specs.HeardWords.{statusHeard, flowHeard, heardPart, instanceHeard, contextTag, contextValue, contextSize, contextHeard}
 
 -- ---- one channel's words
 pub part-length : (status : Status) (window : Window) (w : List ℕ) → length (heardPart status window w) ≡ length w
@@ -186,22 +186,6 @@ module _ (w : List ℕ) where
   instance-before Instance.Absent k h = refl
   instance-before (Instance.Given id size) k h = three-other w INSTANCE-TAG GIVEN (id .0) size k (λ e. omega arith) (λ e. omega arith) (λ e. omega arith)
 
-  pub instance-behind : (given : Instance) (k : ℕ) → INSTANCE-LENGTH < k → word (instanceHeard given w) k ≡ word w k
-  instance-behind Instance.Absent k h = refl
-  instance-behind (Instance.Given id size) k h = three-other w INSTANCE-TAG GIVEN (id .0) size k (λ e. omega arith) (λ e. omega arith) (λ e. omega arith)
-
-  pub context-length : (given : Context) → length (contextHeard given w) ≡ length w
-  context-length Context.Absent = refl
-  context-length (Context.Given bytes size) = simp length-set
-
-  pub context-slot : (given : Context) (i : ℕ) → slot (contextHeard given w) i ≡ slot w i
-  context-slot Context.Absent i = refl
-  context-slot (Context.Given bytes size) i = three-slot w CONTEXT-TAG GIVEN (bytes .0) size (omega arith) i
-
-  pub context-before : (given : Context) (k : ℕ) → k < CONTEXT-TAG → word (contextHeard given w) k ≡ word w k
-  context-before Context.Absent k h = refl
-  context-before (Context.Given bytes size) k h = three-other w CONTEXT-TAG GIVEN (bytes .0) size k (λ e. omega arith) (λ e. omega arith) (λ e. omega arith)
-
   module _ (room : HEAD ≤ length w) where
     pub instance-said : (given : Instance)
         → instanceOf (word (instanceHeard given w) INSTANCE-TAG) (word (instanceHeard given w) INSTANCE-VALUE) (word (instanceHeard given w) INSTANCE-LENGTH)
@@ -211,18 +195,48 @@ module _ (w : List ℕ) where
     instance-said (Instance.Given id size) =
         rw (three-first w INSTANCE-TAG GIVEN (id .0) size (omega arith), three-second w INSTANCE-TAG GIVEN (id .0) size (omega arith), three-third w INSTANCE-TAG GIVEN (id .0) size (omega arith))
 
-    pub context-said : (given : Context)
-        → contextOf (word (contextHeard given w) CONTEXT-TAG) (word (contextHeard given w) CONTEXT-VALUE) (word (contextHeard given w) CONTEXT-LENGTH)
-        ≡ keptContext (contextOf (word w CONTEXT-TAG) (word w CONTEXT-VALUE) (word w CONTEXT-LENGTH)) given
-    unfolding contextOf
-    context-said Context.Absent = refl
-    context-said (Context.Given bytes size) =
-        rw (three-first w CONTEXT-TAG GIVEN (bytes .0) size (omega arith), three-second w CONTEXT-TAG GIVEN (bytes .0) size (omega arith), three-third w CONTEXT-TAG GIVEN (bytes .0) size (omega arith))
-
     pub instance-tag : (given : Instance) → word w INSTANCE-TAG ≤ GIVEN → word (instanceHeard given w) INSTANCE-TAG ≤ GIVEN
     instance-tag Instance.Absent h = h
     instance-tag (Instance.Given id size) h = rw (three-first w INSTANCE-TAG GIVEN (id .0) size (omega arith)) (omega arith)
 
-    pub context-tag : (given : Context) → word w CONTEXT-TAG ≤ GIVEN → word (contextHeard given w) CONTEXT-TAG ≤ GIVEN
-    context-tag Context.Absent h = h
-    context-tag (Context.Given bytes size) h = rw (three-first w CONTEXT-TAG GIVEN (bytes .0) size (omega arith)) (omega arith)
+-- ---- the Context
+context-back : (given : Context) → contextOf (contextTag given) (contextValue given) (contextSize given) ≡ given
+unfolding contextOf
+context-back Context.Absent = refl
+context-back (Context.Given bytes size) = refl
+
+context-few : (given : Context) → contextTag given ≤ GIVEN
+context-few Context.Absent = omega arith
+context-few (Context.Given bytes size) = omega arith
+
+module _ (w : List ℕ) (given : Context) where
+  pub context-length : length (contextHeard given w) ≡ length w
+  unfolding contextHeard
+  context-length = simp length-set
+
+  pub context-slot : (i : ℕ) → slot (contextHeard given w) i ≡ slot w i
+  unfolding contextHeard
+  context-slot i = three-slot w CONTEXT-TAG (contextTag given) (contextValue given) (contextSize given) (omega arith) i
+
+  pub context-before : (k : ℕ) → k < CONTEXT-TAG → word (contextHeard given w) k ≡ word w k
+  unfolding contextHeard
+  context-before k h = three-other w CONTEXT-TAG (contextTag given) (contextValue given) (contextSize given) k (λ e. omega arith) (λ e. omega arith) (λ e. omega arith)
+
+  module _ (room : HEAD ≤ length w) where
+    pub tag-written : word (contextHeard given w) CONTEXT-TAG ≡ contextTag given
+    unfolding contextHeard
+    tag-written = three-first w CONTEXT-TAG (contextTag given) (contextValue given) (contextSize given) (omega arith)
+
+    pub value-written : word (contextHeard given w) CONTEXT-VALUE ≡ contextValue given
+    unfolding contextHeard
+    value-written = three-second w CONTEXT-TAG (contextTag given) (contextValue given) (contextSize given) (omega arith)
+
+    pub size-written : word (contextHeard given w) CONTEXT-LENGTH ≡ contextSize given
+    unfolding contextHeard
+    size-written = three-third w CONTEXT-TAG (contextTag given) (contextValue given) (contextSize given) (omega arith)
+
+    pub context-said : contextOf (word (contextHeard given w) CONTEXT-TAG) (word (contextHeard given w) CONTEXT-VALUE) (word (contextHeard given w) CONTEXT-LENGTH) ≡ given
+    context-said = rw (tag-written, value-written, size-written) (context-back given)
+
+    pub context-tag : word (contextHeard given w) CONTEXT-TAG ≤ GIVEN
+    context-tag = rw tag-written (context-few given)

@@ -11,7 +11,7 @@ use Rattle.meaning.specs.declared.message.Context.{Context}
 use Rattle.meaning.specs.declared.message.Control.{Control}
 use Rattle.flow.specs.Counting.{flowAfter}
 use Rattle.ips_radio.specs.Heard.{statusIn, windowIn}
-use Rattle.ips_words.specs.Words.{ID, KIND, CONTROLLED, STATUS-TAG, STATUS-VALUE, FLOW-TAG, FLOW-WINDOW, COUNT-WORD, GIVEN, INSTANCE-TAG, INSTANCE-VALUE, INSTANCE-LENGTH, CONTEXT-TAG, CONTEXT-VALUE, CONTEXT-LENGTH, word, slot, putSlot, statusTag, statusValue, flowTag, flowWindow}
+use Rattle.ips_words.specs.Words.{ID, KIND, CONTROLLED, STATUS-TAG, STATUS-VALUE, FLOW-TAG, FLOW-WINDOW, COUNT-WORD, ABSENT, GIVEN, INSTANCE-TAG, INSTANCE-VALUE, INSTANCE-LENGTH, CONTEXT-TAG, CONTEXT-VALUE, CONTEXT-LENGTH, word, slot, putSlot, statusTag, statusValue, flowTag, flowWindow}
 
 -- ---- one channel's words: "a configured channel that it names takes its Status; one that it doesn't name is not reported"
 abbrev pub statusHeard : Status → List ℕ → List ℕ
@@ -39,10 +39,21 @@ abbrev pub instanceHeard : Instance → List ℕ → List ℕ
 instanceHeard Instance.Absent words = words
 instanceHeard (Instance.Given id size) words = set (set (set words INSTANCE-TAG GIVEN) INSTANCE-VALUE (id .0)) INSTANCE-LENGTH size
 
--- "the last Context received"
-abbrev pub contextHeard : Context → List ℕ → List ℕ
-contextHeard Context.Absent words = words
-contextHeard (Context.Given bytes size) words = set (set (set words CONTEXT-TAG GIVEN) CONTEXT-VALUE (bytes .0)) CONTEXT-LENGTH size
+-- Document 02 §2: the Context of "the control message just before", "no Context at all" too; its three words are written in either case
+abbrev pub contextTag : Context → ℕ
+contextTag Context.Absent = ABSENT
+contextTag (Context.Given bytes size) = GIVEN
+
+abbrev pub contextValue : Context → ℕ
+contextValue Context.Absent = 0
+contextValue (Context.Given bytes size) = bytes .0
+
+abbrev pub contextSize : Context → ℕ
+contextSize Context.Absent = 0
+contextSize (Context.Given bytes size) = size
+
+unfoldable pub contextHeard : Context → List ℕ → List ℕ
+contextHeard given words = set (set (set words CONTEXT-TAG (contextTag given)) CONTEXT-VALUE (contextValue given)) CONTEXT-LENGTH (contextSize given)
 
 -- THE WORDS AFTER AN ACCEPTED RADIO CONTROL MESSAGE
 unfoldable pub heardWords : Control → List ℕ → List ℕ

@@ -7,6 +7,7 @@ ghost use Rattle.ips_state.specs.Limits.{stateFits};
 ghost use Rattle.ips_words.specs.Words.{HEAD, SLOT, COUNT-WORD, word, stateIn};
 ghost use Rattle.ips_words_radio.specs.HeardWords.{statusHeard, flowHeard, heardPart, heardSlots, instanceHeard, contextHeard, heardWords};
 use flow::Flow;
+use ips_words::layout::ABSENT;
 use ips_words::layout::CONTEXT_LENGTH;
 use ips_words::layout::CONTEXT_TAG;
 use ips_words::layout::CONTEXT_VALUE;
@@ -97,11 +98,15 @@ fn hear_instance(words: &mut [u64], given: Instance)
     words[INSTANCE_LENGTH] = waiting::wide(size);
 }
 
+// A message without a Context leaves none.
 fn hear_context(words: &mut [u64], given: Context)
     requires { ⌜ HEAD ≤ length (now words) ⌝ }
     ensures { λ _. ⌜ now (words .exit) ≡ contextHeard given (now (words .entry)) ⌝ }
 {
     let Context::Given(bytes, size) = given else {
+        words[CONTEXT_TAG] = ABSENT;
+        words[CONTEXT_VALUE] = 0;
+        words[CONTEXT_LENGTH] = 0;
         return;
     };
     words[CONTEXT_TAG] = GIVEN;

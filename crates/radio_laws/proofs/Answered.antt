@@ -17,14 +17,14 @@ use Rattle.acceptance.specs.Account.{tableOf, Accepts, controlMeaning}
 use Rattle.ips_state.specs.State.{State}
 use Rattle.ips_state.specs.Limits.{stateFits}
 use Rattle.ips_radio.specs.declared.RadioAnswer.{RadioAnswer}
-use Rattle.ips_radio.specs.Heard.{keptInstance, keptContext, heardBy, dueOf}
+use Rattle.ips_radio.specs.Heard.{keptInstance, heardBy, dueOf}
 use Rattle.ips_run.specs.Run.{radio}
 use Rattle.ips_calls.specs.Radio.{AfterRadio, handedIn}
 use Rattle.ips_calls.specs.Replies.{ofRadio}
 use Rattle.ips_calls.specs.Calls.{PerformedWithAny}
 use Rattle.ips_calls.proofs.Exactly.{radio-heard}
 use Rattle.radio_laws.specs.OptionByOption.{Holds}
-use Rattle.radio_laws.specs.Answered.{Answers}
+use Rattle.radio_laws.specs.Answered.{Answers, GapAnswers}
 use Rattle.radio_laws.proofs.Holding.{ForMessage, says-once, said-once}
 use Rattle.radio_laws.proofs.OptionByOption.{brings, left}
 
@@ -59,7 +59,7 @@ module _ (s : State) (fits : stateFits s ≡ true) (datagram : List ℕ) (octets
       let is : answer ≡ handedIn s datagram .answer = cc (h [] .reply-is) in
       is ∙ ap (λ (r : AfterRadio). r .answer) (radio-heard s datagram fits (controlMeaning ends.Radio f) (brings (s .datalink) datagram f a octets))
 
-  context-left : s′ .context ≡ keptContext (s .context) (contextFrom (table 4 0))
+  context-left : s′ .context ≡ contextFrom (table 4 0)
   unfolding heardBy controlStated
   context-left = ap (λ (t : State). t .context) (left s fits datagram octets f a h)
 
@@ -85,3 +85,13 @@ module _ (s : State) (fits : stateFits s ≡ true) (datagram : List ℕ) (octets
     instance-kept = λ content holds. instance-left ∙ rw (instance-is content holds);
     instance-stays = λ never. instance-left ∙ rw (said-once 3 link-instance (s .datalink) datagram f a never);
   }
+
+-- THE PROMISE: after a gap the same Context is due, and once only
+pub gap-answered : {f g h i : Options} {s t u v w : State} {first without again once-more : RadioAnswer}
+    → Answers f s first t → Answers g t without u → Answers h u again v → Answers i v once-more w
+    → (content : List ℕ) → Holds 4 content f → ((other : List ℕ) → Holds 4 other g → ⊥) → Holds 4 content h → Holds 4 content i → GapAnswers without again once-more
+gap-answered one two three four content a none b d = record {
+  none-due = two .no-context none .0;
+  due-again = three .first-context content b (two .no-context none .1);
+  due-once = four .same-context content d (three .context-kept content b);
+}

@@ -15,8 +15,9 @@ use Rattle.radio_laws.specs.OptionByOption.{Holds}
 
 -- Link Instance is type 3, Datalink Context type 4.
 pub record Answers (options : Options) (s : State) (answer : RadioAnswer) (s′ : State) : Type 0 where
-  -- "A mobility message is reported due when a Context comes that differs from the last Context received (in length or bytes), or is the first."
-  pub no-context : ((content : List ℕ) → Holds 4 content options → ⊥) → (answer ≡ RadioAnswer.Accepted) × (s′ .context ≡ s .context)
+  -- "A mobility message is reported due when a Context comes that differs from the last Context received (in length or bytes), or is the first."; document 02 §2: "a
+  -- Context that follows an accepted control message without one is due even if equal to the older", so that none is kept of such a message.
+  pub no-context : ((content : List ℕ) → Holds 4 content options → ⊥) → (answer ≡ RadioAnswer.Accepted) × (s′ .context ≡ Context.Absent)
   pub first-context : (content : List ℕ) → Holds 4 content options → s .context ≡ Context.Absent → answer ≡ RadioAnswer.Due
   pub other-context : (content : List ℕ) → Holds 4 content options → (last : ContextBytes) (size : ℕ) → s .context ≡ Context.Given last size
       → (last .0 ≡ bigEndian content → size ≡ length content → ⊥) → answer ≡ RadioAnswer.Due
@@ -25,3 +26,9 @@ pub record Answers (options : Options) (s : State) (answer : RadioAnswer) (s′ 
   -- "Link Instance is kept when given."
   pub instance-kept : (content : List ℕ) → Holds 3 content options → s′ .instance ≡ Instance.Given (record { 0 = bigEndian content }) (length content)
   pub instance-stays : ((content : List ℕ) → Holds 3 content options → ⊥) → s′ .instance ≡ s .instance
+
+-- Document 02 §2 as a short life: four control messages accepted one after another, which have a Context, none, the same Context, and that once more.
+pub record GapAnswers (without again once-more : RadioAnswer) : Type 0 where
+  pub none-due : without ≡ RadioAnswer.Accepted
+  pub due-again : again ≡ RadioAnswer.Due
+  pub due-once : once-more ≡ RadioAnswer.Accepted
