@@ -231,7 +231,7 @@ nespovarda_answer nespovarda_query(const uint64_t *words, size_t words_length,
 /* What nespovarda_kept gives of a state. */
 #define NESPOVARDA_KEPT_LINK_LENGTH 0    /* bytes of the Link Instance last given, 1 to 8; 0: none */
 #define NESPOVARDA_KEPT_LINK 1           /* its number */
-#define NESPOVARDA_KEPT_CONTEXT_LENGTH 2 /* bytes of the Datalink Context of the last accepted control message, 1 to 8; 0: none */
+#define NESPOVARDA_KEPT_CONTEXT_LENGTH 2 /* bytes of the last accepted control message's Context, 1 to 8; 0: none */
 #define NESPOVARDA_KEPT_CONTEXT 3        /* the number that its bytes spell, big-endian */
 #define NESPOVARDA_KEPT_NUMBERS 4
 
