@@ -77,7 +77,7 @@ def versions():
 
 
 def kept():
-    """Link Instance and Context given, not given again, another; refused messages and a fresh start."""
+    """Link Instance and Context given, not given again, another; refused messages, after a gap too; a fresh start."""
     yield from (start((0, "plain", 0, 1500)), "kept")
     links = (None, (1, 0), None, (1, 1), (2, 1), (8, 2**64 - 1), (8, 2**63), (3, 65536), None)
     contexts = (None, b"\0", None, b"\0", b"\0\0", EIGHT, EIGHT[:7], None, b"\1")
@@ -89,8 +89,11 @@ def kept():
         yield from (radio({0: 7}, context=context, link_instance=link and ciri.LinkInstance(*link)), "kept", "show 0")
     new = "0300015504000166"
     refused = ("1001000107" + new, f"1001000108{new}{STATUS}", f"2001000107{new}{STATUS}", f"1001000107{STATUS}{new}01")
-    for message in refused:
-        yield from (f"radio {message}", "kept", "show 0")
+    for context in (b"A", None):
+        yield from (radio({0: 7}, context=context), "kept")
+        for message in refused:
+            yield from (f"radio {message}", "kept", "show 0")
+    yield from (radio({0: 7}, context=b"\x66"), "kept")
     yield from (f"radio 1801000107{PACKET}", "kept", offer(0, 1, 9, packet(40)), f"next 0 1 {ROOMY}", "kept")
     yield from (start((0, "plain", 0, 1499)), "kept", "query 100", "withdraw 0", "kept", start((0, "plain", 0, 1500)))
     yield from ("kept", f"radio 1001000107{STATUS}{new}", "kept")

@@ -30,11 +30,11 @@ use Rattle.endpoint.specs.Radio.{MessageHeard, ReadingHeard, DataAnswere
 use Rattle.endpoint.proofs.Placing.{says-so}
 
 -- ---- an accepted control message
-pub message-heard : (message : Control) (words : List ℕ) → stateFits (stateIn words) ≡ true → (last : Context) → last ≡ stateOf words .context
-    → (due : Bool) → due ≡ dueOf last (message .context) → (r : RadioAnswer) → r ≡ cond due RadioAnswer.Due RadioAnswer.Accepted
+pub message-heard : (message : Control) (words : List ℕ) → stateFits (stateIn words) ≡ true → (before : Context) → before ≡ stateOf words .context
+    → (due : Bool) → due ≡ dueOf before (message .context) → (r : RadioAnswer) → r ≡ cond due RadioAnswer.Due RadioAnswer.Accepted
     → (words′ : List ℕ) → words′ ≡ heardWords message words → MessageHeard message words r words′
-message-heard message words fits last e due told r is words′ heard =
-    record { answer-is = is ∙ rw (told, says-so words fits (λ (s : State). s .context) last e); words-are = heard }
+message-heard message words fits before e due told r is words′ heard =
+    record { answer-is = is ∙ rw (told, says-so words fits (λ (s : State). s .context) before e); words-are = heard }
 
 -- ---- a datagram
 module _ (words datagram : List ℕ) (r : RadioAnswer) where

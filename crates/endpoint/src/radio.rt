@@ -24,10 +24,10 @@ fn accepted(words: &mut [u64], message: Control) -> RadioAnswer
     requires { ⌜ stateFits (stateIn (now words)) ≡ true ⌝ }
     ensures { λ r. ⌜ MessageHeard message (now (words .entry)) r (now (words .exit)) ⌝ }
 {
-    let last = head::context(words);
+    let kept = head::context(words);
     let given = message.context;
     ips_words_radio::hear(words, message);
-    if ips_radio::is_due(last, given) {
+    if ips_radio::is_due(kept, given) {
         return RadioAnswer::Due;
     }
     RadioAnswer::Accepted

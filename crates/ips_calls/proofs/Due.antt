@@ -35,9 +35,9 @@ module _ (s : State) (datagram : List ℕ) where
   brought (passed f p v) e = clash (cc)
 
   -- by the Context that the state keeps
-  pub due-by-state : stateFits s ≡ true → (datalink : DatalinkId) → s .datalink ≡ datalink → (last : Context) → s .context ≡ last
-      → (handedIn s datagram .answer ≡ RadioAnswer.Due) ↔ ((m : Control) × (acceptedIn datalink datagram ≡ m ∷ []) × Comes last (m .context))
-  due-by-state fits datalink own last kept =
+  pub due-by-state : stateFits s ≡ true → (datalink : DatalinkId) → s .datalink ≡ datalink → (before : Context) → s .context ≡ before
+      → (handedIn s datagram .answer ≡ RadioAnswer.Due) ↔ ((m : Control) × (acceptedIn datalink datagram ≡ m ∷ []) × Comes before (m .context))
+  due-by-state fits datalink own before kept =
       rw (← own, ← kept)
       (brought (handed s datagram), λ h. ap (λ (r : AfterRadio). r .answer) (radio-heard s datagram fits (h .0) (h .1)) ∙ rw (due-when (s .context) (h .0 .context) .1 (h .2)))
 

@@ -45,4 +45,4 @@ heardBy message s =
 abbrev pub dueOf : Context → Context → Bool
 dueOf before Context.Absent = false
 dueOf Context.Absent (Context.Given bytes length) = true
-dueOf (Context.Given last long) (Context.Given bytes length) = not (eqb (bytes .0) (last .0) && eqb length long)
+dueOf (Context.Given before long) (Context.Given bytes length) = not (eqb (bytes .0) (before .0) && eqb length long)

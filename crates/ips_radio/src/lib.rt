@@ -12,14 +12,14 @@ pub enum RadioAnswer {
 }
 
 // Whether a mobility message is due: a Context came, and the control message just before had none, or another in length or bytes.
-pub fn is_due(last: Context, given: Context) -> bool
-    ensures { λ r. ⌜ r ≡ dueOf last given ⌝ }
+pub fn is_due(kept: Context, given: Context) -> bool
+    ensures { λ r. ⌜ r ≡ dueOf kept given ⌝ }
 {
     let Context::Given(bytes, length) = given else {
         return false;
     };
-    let Context::Given(last_bytes, last_length) = last else {
+    let Context::Given(kept_bytes, kept_length) = kept else {
         return true;
     };
-    bytes.0 != last_bytes.0 || length != last_length
+    bytes.0 != kept_bytes.0 || length != kept_length
 }

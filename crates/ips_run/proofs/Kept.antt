@@ -18,7 +18,7 @@ use Rattle.ips_state.specs.Memory.{World}
 use Rattle.ips_run.specs.Calling.{WorldResult, Judged, outside, unknown, served}
 use Rattle.ips_run.specs.Run.{Call, on, radio, query, acceptedBy, hearEach, after, afterAll, acceptedAll, freshWorld}
 use Rattle.ips_run.specs.Demand.{reached}
-use Rattle.ips_run.specs.Kept.{givenIn, lastOr, ifInstance, lastInstance, contextBefore, ifContext, lastContext, Comes, is-first, in-length, in-bytes, MobilityDue, as-before, after-gap}
+use Rattle.ips_run.specs.Kept.{givenIn, lastOr, ifInstance, lastInstance, contextBefore, ifContext, lastContext, Comes, is-first, in-length, in-bytes, MobilityDue, first-or-differs, after-gap}
 use Rattle.ips_run.proofs.Exact.{judged}
 
 last-append : {A : Type 0} (none : A) (xs ys : List A) → lastOr none (xs ++ ys) ≡ lastOr (lastOr none xs) ys
@@ -63,7 +63,7 @@ context-all : (cs : List Call) (w : World) → afterAll cs w .state .context ≡
 unfolding heardBy withChannel
 context-all = kept-all (λ s. s .context) (λ m. m .context ∷ []) (λ m s. refl) (λ s index c. refl)
 
--- radio data messages and refused messages are no gap: only an accepted control message moves the kept Context
+-- calls that accept no control message leave the kept Context; radio data messages and refused datagrams are such (`unheard-when`)
 pub no-gap : (cs : List Call) (w : World) → acceptedAll cs w ≡ [] → afterAll cs w .state .context ≡ w .state .context
 no-gap cs w none = context-all cs w ∙ rw none
 
@@ -79,8 +79,8 @@ module _ (k : Configuration) (cs : List Call) where
   whole-context = context-all cs (freshWorld k)
 
 -- ---- a mobility message
-comes : (last given : Context) → dueOf last given ≡ true → Comes last given
-comes last Context.Absent e = clash e
+comes : (before given : Context) → dueOf before given ≡ true → Comes before given
+comes before Context.Absent e = clash e
 comes Context.Absent (Context.Given bytes length) e = is-first
 comes (Context.Given before long) (Context.Given bytes length) e = go (eqb (bytes .0) (before .0)) refl (eqb length long) refl e
   where
@@ -89,13 +89,13 @@ comes (Context.Given before long) (Context.Given bytes length) e = go (eqb (byte
     go true p false q h = in-length (eqb-false _ _ q)
     go true p true q h = clash h
 
-comes-due : {last given : Context} → Comes last given → dueOf last given ≡ true
+comes-due : {before given : Context} → Comes before given → dueOf before given ≡ true
 comes-due is-first = refl
 comes-due (in-length {before} {bytes} {long} {length} other) = rw (ne-eqb length long other, and-false)
 comes-due (in-bytes {before} {bytes} other) = rw (ne-eqb (bytes .0) (before .0) other)
 
-pub due-when : (last given : Context) → (dueOf last given ≡ true) ↔ Comes last given
-due-when last given = (comes last given, comes-due)
+pub due-when : (before given : Context) → (dueOf before given ≡ true) ↔ Comes before given
+due-when before given = (comes before given, comes-due)
 
 -- ---- by the accepted messages: document 01's condition and the mended one
 data Ends : List Control → Type 0 where
@@ -126,12 +126,12 @@ first-comes (in-length other) = is-first
 first-comes (in-bytes other) = is-first
 
 mended : {ms : List Control} {given : Context} → Ends ms → Comes (contextBefore ms) given → MobilityDue ms given
-mended empty h = as-before h
+mended empty h = first-or-differs h
 mended (ends earlier before) h = go (before .context) refl (rw (context-before earlier before) at h)
   where
     go : (last : Context) {given : Context} → before .context ≡ last → Comes last given → MobilityDue (earlier ++ (before ∷ [])) given
     go Context.Absent e is-first = after-gap earlier before refl e
-    go (Context.Given bytes length) {given} e h = as-before {given = given} (rw (context-received earlier before, e) h)
+    go (Context.Given bytes length) {given} e h = first-or-differs {given = given} (rw (context-received earlier before, e) h)
 
 older : {ms : List Control} {given : Context} → Ends ms → Comes (lastContext ms) given → Comes (contextBefore ms) given
 older empty h = h
@@ -142,20 +142,20 @@ older {given = given} (ends earlier before) h = rw (context-before earlier befor
     go (Context.Given bytes length) h = h
 
 kept-so : {ms : List Control} {given : Context} → MobilityDue ms given → Comes (contextBefore ms) given
-kept-so {ms} (as-before h) = older (ends-of ms) h
+kept-so {ms} (first-or-differs h) = older (ends-of ms) h
 kept-so (after-gap earlier before e none) = rw (e, context-before earlier before, none) is-first
 
--- what is kept decides both
+-- what is kept decides whether one of the two holds
 pub due-mended : (accepted : List Control) (given : Context) → Comes (contextBefore accepted) given ↔ MobilityDue accepted given
 due-mended accepted given = (mended (ends-of accepted), kept-so)
 
 -- ---- the same case by case
-comes-other : {last given : Context} → Comes last given → last ≡ given → ⊥
+comes-other : {before given : Context} → Comes before given → before ≡ given → ⊥
 comes-other is-first e = clash (cc)
 comes-other (in-length other) e = other (cc)
 comes-other (in-bytes other) e = other (cc)
 
-comes-given : {last given : Context} → Comes last given → given ≡ Context.Absent → ⊥
+comes-given : {before given : Context} → Comes before given → given ≡ Context.Absent → ⊥
 comes-given is-first e = clash (cc)
 comes-given (in-length other) e = clash (cc)
 comes-given (in-bytes other) e = clash (cc)

@@ -36,14 +36,15 @@ lastContext ms = lastOr Context.Absent (givenIn (λ m. ifContext (m .context)) m
 abbrev pub contextBefore : List Control → Context
 contextBefore ms = lastOr Context.Absent (givenIn (λ m. m .context ∷ []) ms)
 
--- Document 01: "a Context comes that differs from the last Context received (in length or bytes), or is the first"
-pub data Comes : (last given : Context) → Type 0 where
+-- Document 01: "a Context comes that differs from the last Context received (in length or bytes), or is the first"; said of `lastContext` in `MobilityDue`, and of what is
+-- kept in `due-when` and `due-mended`
+pub data Comes : (before given : Context) → Type 0 where
   is-first : {bytes : ContextBytes} {length : ℕ} → Comes Context.Absent (Context.Given bytes length)
   in-length : {before bytes : ContextBytes} {long length : ℕ} → (length ≡ long → ⊥) → Comes (Context.Given before long) (Context.Given bytes length)
   in-bytes : {before bytes : ContextBytes} {long length : ℕ} → (bytes .0 ≡ before .0 → ⊥) → Comes (Context.Given before long) (Context.Given bytes length)
 
 -- Document 01's condition, or document 02 §2's: "a Context that follows an accepted control message without one is due even if equal to the older"
 pub data MobilityDue (accepted : List Control) : (given : Context) → Type 0 where
-  as-before : {given : Context} → Comes (lastContext accepted) given → MobilityDue accepted given
+  first-or-differs : {given : Context} → Comes (lastContext accepted) given → MobilityDue accepted given
   after-gap : {bytes : ContextBytes} {length : ℕ} (earlier : List Control) (before : Control) → accepted ≡ earlier ++ (before ∷ []) → before .context ≡ Context.Absent
       → MobilityDue accepted (Context.Given bytes length)

@@ -216,24 +216,24 @@ module _ (w : List ℕ) (given : Context) where
 
   pub context-slot : (i : ℕ) → slot (contextHeard given w) i ≡ slot w i
   unfolding contextHeard
-  context-slot i = three-slot w CONTEXT-TAG (contextTag given) (contextValue given) (contextSize given) (omega arith) i
+  context-slot i = three-slot w CONTEXT-TAG _ _ _ (omega arith) i
 
   pub context-before : (k : ℕ) → k < CONTEXT-TAG → word (contextHeard given w) k ≡ word w k
   unfolding contextHeard
-  context-before k h = three-other w CONTEXT-TAG (contextTag given) (contextValue given) (contextSize given) k (λ e. omega arith) (λ e. omega arith) (λ e. omega arith)
+  context-before k h = three-other w CONTEXT-TAG _ _ _ k (λ e. omega arith) (λ e. omega arith) (λ e. omega arith)
 
   module _ (room : HEAD ≤ length w) where
     pub tag-written : word (contextHeard given w) CONTEXT-TAG ≡ contextTag given
     unfolding contextHeard
-    tag-written = three-first w CONTEXT-TAG (contextTag given) (contextValue given) (contextSize given) (omega arith)
+    tag-written = three-first w CONTEXT-TAG _ _ _ (omega arith)
 
     pub value-written : word (contextHeard given w) CONTEXT-VALUE ≡ contextValue given
     unfolding contextHeard
-    value-written = three-second w CONTEXT-TAG (contextTag given) (contextValue given) (contextSize given) (omega arith)
+    value-written = three-second w CONTEXT-TAG _ _ _ (omega arith)
 
     pub size-written : word (contextHeard given w) CONTEXT-LENGTH ≡ contextSize given
     unfolding contextHeard
-    size-written = three-third w CONTEXT-TAG (contextTag given) (contextValue given) (contextSize given) (omega arith)
+    size-written = three-third w CONTEXT-TAG _ _ _ (omega arith)
 
     pub context-said : contextOf (word (contextHeard given w) CONTEXT-TAG) (word (contextHeard given w) CONTEXT-VALUE) (word (contextHeard given w) CONTEXT-LENGTH) ≡ given
     context-said = rw (tag-written, value-written, size-written) (context-back given)

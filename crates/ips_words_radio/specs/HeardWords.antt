@@ -39,7 +39,7 @@ abbrev pub instanceHeard : Instance → List ℕ → List ℕ
 instanceHeard Instance.Absent words = words
 instanceHeard (Instance.Given id size) words = set (set (set words INSTANCE-TAG GIVEN) INSTANCE-VALUE (id .0)) INSTANCE-LENGTH size
 
--- Document 02 §2: the Context of "the control message just before", "no Context at all" too; its three words are written in either case
+-- Document 02 §2: the accepted message's own Context, "no Context at all" too, by which the next one is judged; its three words are written in either case
 abbrev pub contextTag : Context → ℕ
 contextTag Context.Absent = ABSENT
 contextTag (Context.Given bytes size) = GIVEN

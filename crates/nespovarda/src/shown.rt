@@ -101,22 +101,22 @@ pub extern "C" fn nespovarda_waiting(
 }
 
 // Of each the length, 0 where there is none, and the number that the bytes spell.
-fn show_kept(link: Instance, last: Context, shown: &mut [u64; KEPT_NUMBERS])
-    ensures { λ _. ⌜ now (shown .exit) ≡ keptNumbers link last ⌝ }
+fn show_kept(link: Instance, kept: Context, shown: &mut [u64; KEPT_NUMBERS])
+    ensures { λ _. ⌜ now (shown .exit) ≡ keptNumbers link kept ⌝ }
 {
     let given = stated::instance(link);
-    let received = stated::context(last);
-    *shown = [given.second, given.first, received.second, received.first];
+    let before = stated::context(kept);
+    *shown = [given.second, given.first, before.second, before.first];
 }
 
-// `KEPT` with the Link Instance as last given and the Context as last received; or 19.
+// `KEPT` with the Link Instance as last given and the Context of the last accepted control message; or 19.
 #[no_mangle]
 pub extern "C" fn nespovarda_kept(words: &[u64], shown: &mut [u64; KEPT_NUMBERS]) -> Answer
     ensures { λ r. ⌜ ShowsKept (stateIn (now (words .entry))) (now (shown .entry)) r (now (shown .exit)) ⌝ }
 {
     match endpoint::kept(words) {
-        KeptAnswer::Kept(link, last) => {
-            show_kept(link, last, shown);
+        KeptAnswer::Kept(link, context) => {
+            show_kept(link, context, shown);
             plain(KEPT)
         }
         KeptAnswer::Refused(refusal) => refused(refusal),

@@ -16,15 +16,18 @@ use Rattle.read_option.specs.Stated.{Table, instanceFrom, contextFrom, controlS
 use Rattle.acceptance.specs.Account.{tableOf, Accepts, controlMeaning}
 use Rattle.ips_state.specs.State.{State}
 use Rattle.ips_state.specs.Limits.{stateFits}
+use Rattle.ips_state.specs.Memory.{World}
 use Rattle.ips_radio.specs.declared.RadioAnswer.{RadioAnswer}
 use Rattle.ips_radio.specs.Heard.{keptInstance, heardBy, dueOf}
-use Rattle.ips_run.specs.Run.{radio}
+use Rattle.ips_run.specs.Run.{radio, acceptedBy, after}
+use Rattle.ips_run.proofs.Kept.{no-gap}
 use Rattle.ips_calls.specs.Radio.{AfterRadio, handedIn}
-use Rattle.ips_calls.specs.Replies.{ofRadio}
-use Rattle.ips_calls.specs.Calls.{PerformedWithAny}
+use Rattle.ips_calls.specs.Replies.{EndpointReply, ofRadio}
+use Rattle.ips_calls.specs.Calls.{lending, Performed, PerformedWithAny}
 use Rattle.ips_calls.proofs.Exactly.{radio-heard}
+use Rattle.ips_calls.proofs.Ran.{ran-world}
 use Rattle.radio_laws.specs.OptionByOption.{Holds}
-use Rattle.radio_laws.specs.Answered.{Answers, GapAnswers}
+use Rattle.radio_laws.specs.Answered.{Answers, HandedIn, Between, GapAnswers}
 use Rattle.radio_laws.proofs.Holding.{ForMessage, says-once, said-once}
 use Rattle.radio_laws.proofs.OptionByOption.{brings, left}
 
@@ -77,7 +80,7 @@ module _ (s : State) (fits : stateFits s ≡ true) (datagram : List ℕ) (octets
   pub answered : Answers f s answer s′
   answered = record {
     no-context = λ never. let e = said-once 4 datalink-context (s .datalink) datagram f a never in (given ∙ rw e, context-left ∙ rw e);
-    first-context = λ content holds first. given ∙ rw (context-is content holds, first);
+    none-before = λ content holds none. given ∙ rw (context-is content holds, none);
     other-context = λ content holds last size before other. given ∙ rw (context-is content holds, before, differs last size content other);
     same-context = λ content holds before.
         given ∙ rw (context-is content holds, before, eq-eqb (bigEndian content) (bigEndian content) refl, eq-eqb (length content) (length content) refl);
@@ -86,12 +89,24 @@ module _ (s : State) (fits : stateFits s ≡ true) (datagram : List ℕ) (octets
     instance-stays = λ never. instance-left ∙ rw (said-once 3 link-instance (s .datalink) datagram f a never);
   }
 
--- THE PROMISE: after a gap the same Context is due, and once only
-pub gap-answered : {f g h i : Options} {s t u v w : State} {first without again once-more : RadioAnswer}
-    → Answers f s first t → Answers g t without u → Answers h u again v → Answers i v once-more w
-    → (content : List ℕ) → Holds 4 content f → ((other : List ℕ) → Holds 4 other g → ⊥) → Holds 4 content h → Holds 4 content i → GapAnswers without again once-more
-gap-answered one two three four content a none b d = record {
-  none-due = two .no-context none .0;
-  due-again = three .first-context content b (two .no-context none .1);
-  due-once = four .same-context content d (three .context-kept content b);
+-- ---- after a gap
+-- a message handed in leaves any memory that is lent with it
+with-any : {datagram : List ℕ} {w w′ : World} {x : EndpointReply} → Performed (radio datagram) w x w′ → PerformedWithAny (radio datagram) (w .state) x (w′ .state)
+unfolding after acceptedBy
+with-any h memory = record { reply-is = h .reply-is; world-is = ap (λ (w : World). lending (w .state) memory) (h .world-is) }
+
+answers : {f : Options} {w w′ : World} {answer : RadioAnswer} → HandedIn f w answer w′ → Answers f (w .state) answer (w′ .state)
+answers {f} {w} h = answered (w .state) (h .fits) (h .datagram) (h .octets) f (h .accepts) (with-any (h .performed))
+
+kept-between : {w w′ : World} → Between w w′ → w′ .state .context ≡ w .state .context
+kept-between {w} b = ap (λ (w : World). w .state .context) (ran-world (b .performed)) ∙ no-gap (b .calls) w (b .no-control)
+
+-- THE PROMISE, drawn from `answered` and `no-gap`: after a message without a Context the next one is due, and the same again is not, whatever other calls come between
+pub gap-answered : {f g h : Options} {r s s′ t t′ u : World} {without again once-more : RadioAnswer}
+    → HandedIn f r without s → Between s s′ → HandedIn g s′ again t → Between t t′ → HandedIn h t′ once-more u
+    → ((other : List ℕ) → Holds 4 other f → ⊥) → (content : List ℕ) → Holds 4 content g → Holds 4 content h → GapAnswers without again once-more
+gap-answered one quiet two still three none content a b = record {
+  none-due = answers one .no-context none .0;
+  due-again = answers two .none-before content a (kept-between quiet ∙ answers one .no-context none .1);
+  not-twice = answers three .same-context content b (kept-between still ∙ answers two .context-kept content a);
 }

@@ -6,15 +6,15 @@ use Rattle.ips_radio.proofs.is_due.Tie as tie
 
 returns-3 : tie.Need-returns-3
 returns-3 c =
-    let last = c .before .before .before .before in
-    let given = last .before .before .before in
-    rw (given .given .given .1, last .last .given .1, ne-eqb _ _ (c .if1 .taken))
+    let kept = c .before .before .before .before in
+    let given = kept .before .before .before in
+    rw (given .given .given .1, kept .kept .given .1, ne-eqb _ _ (c .if1 .taken))
 
 returns-4 : tie.Need-returns-4
 returns-4 c =
-    let last = c .before .before .before .before in
-    let given = last .before .before .before in
-    rw (given .given .given .1, last .last .given .1, eq-eqb _ _ (c .if1 .left))
+    let kept = c .before .before .before .before in
+    let given = kept .before .before .before in
+    rw (given .given .given .1, kept .kept .given .1, eq-eqb _ _ (c .if1 .left))
 
 pub is-due-spec : {M : Type 1} → statement M
 is-due-spec =
