@@ -25,7 +25,7 @@ use Rattle.ips_state.specs.Memory.{memoryFits, World, worldFits, isConfigured, 
 use Rattle.ips_state.proofs.Channels.{stands-among, ids-length, ids-at}
 use Rattle.ips_state.proofs.Places.{with-back, store-back, index-one}
 use Rattle.ips_run.specs.Calling.{termsIn, conditionIn, resultIn, WorldResult, refusing, atChannel, calling, Judged, outside, unknown, served}
-use Rattle.ips_run.specs.Run.{radio, ifAccepted, ifControl, acceptedIn, acceptedBy}
+use Rattle.ips_run.specs.Run.{radio, ifAccepted, ifControl, acceptedIn, acceptedBy, after}
 
 -- the ID of a configured channel is among the IDs
 pub named : (w : World) (index id : ℕ) → index < length (w .state .channels) → channelIn w index .setting .id ≡ id → isConfigured w id ≡ true
@@ -158,3 +158,21 @@ module _ (w : World) (datagram : List ℕ) where
   pub accepted-fits : stateFits (w .state) ≡ true → acceptedBy (radio datagram) w ≡ acceptedIn (w .state .datalink) datagram
   unfolding acceptedBy
   accepted-fits e = rw e
+
+  pub accepted-outside : stateFits (w .state) ≡ false → acceptedBy (radio datagram) w ≡ []
+  unfolding acceptedBy
+  accepted-outside e = rw e
+
+  pub unaccepted-same : acceptedBy (radio datagram) w ≡ [] → after (radio datagram) w ≡ w
+  unfolding after
+  unaccepted-same e = rw e
+
+  pub outside-same : stateFits (w .state) ≡ false → after (radio datagram) w ≡ w
+  outside-same e = unaccepted-same (accepted-outside e)
+
+  pub unread-same : (planeOf datagram ≡ PlaneAnswer.Control → readControl ends.Radio (w .state .datalink) datagram .verdict ≡ Verdict.Accepted → ⊥) → after (radio datagram) w ≡ w
+  unread-same never = go (stateFits (w .state)) refl
+    where
+      go : (b : Bool) → stateFits (w .state) ≡ b → after (radio datagram) w ≡ w
+      go true f = unaccepted-same (accepted-fits f ∙ unheard-when (w .state .datalink) datagram never)
+      go false f = outside-same f
