@@ -37,7 +37,7 @@ const SCRIPTS: usize = 20_000;
 // Mostly a packet that is taken, of lengths about which a limit turns.
 fn random_packet(dice: &mut Dice) -> Vec<u8> {
     let length = match dice.roll(6) {
-        0 => 1490 + dice.roll(20),
+        0 => [1490, 8990][dice.roll(2)] + dice.roll(20),
         1 => 40 + dice.roll(3),
         2 => 1280,
         _ => 40 + dice.roll(200),
@@ -74,8 +74,8 @@ fn check() {
     let mut seen = Seen::default();
     for _ in 0..SCRIPTS {
         let run = run(random_script(&mut dice), random_packet(&mut dice));
-        let size = [1500, 3000, 65536, 1400 + dice.roll(20_000), 65_000 + dice.roll(1000)][dice.roll(5)];
-        let room = [run.packet.len() + 12, 2000, run.packet.len() + 11, dice.roll(2000)][dice.roll(4)];
+        let size = [1500, 3000, 65536, 1400 + dice.roll(20_000), 65_000 + dice.roll(1000), 8990 + dice.roll(20)][dice.roll(6)];
+        let room = [run.packet.len() + 12, 10_000, run.packet.len() + 11, dice.roll(2000)][dice.roll(4)];
         let (memory, out) = (random_bytes(&mut dice, size), random_bytes(&mut dice, room));
         agree(&setup(size), &run, &memory, size, &out, &mut seen);
     }

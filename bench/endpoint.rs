@@ -24,7 +24,7 @@ const STORE: usize = 3000;
 const SCRIPTS: usize = 20_000;
 
 fn random_packet(dice: &mut Dice) -> Vec<u8> {
-    let mut bytes = packet([40, 41, 100, 700, 1280, 1500, 1501][dice.roll(7)]);
+    let mut bytes = packet([40, 41, 100, 700, 1280, 1500, 1501, 3001, 9000, 9001][dice.roll(10)]);
     match dice.roll(16) {
         0 => bytes[0] = dice.roll(256) as u8,
         1 => bytes.truncate(dice.roll(40)),
@@ -51,10 +51,10 @@ fn random_ids(dice: &mut Dice, count: usize) -> Vec<u8> {
 }
 
 fn random_setup(dice: &mut Dice) -> Setup {
-    let count = [1, 2, 4, 16, 16, [0, 17, 255][dice.roll(3)]][dice.roll(6)];
+    let count = [1, 2, 4, 16, [17, 40, 64][dice.roll(3)], [0, 65, 255][dice.roll(3)]][dice.roll(6)];
     let first = [0, 4_294_967_295 - dice.roll(5000) as u32, dice.roll(1 << 32) as u32][dice.roll(3)];
     let plain = dice.roll(3) == 0;
-    let sizes = [[STORE; 2], [1500, 4000], [1499, 3000]][if dice.roll(3) == 0 { 1 + dice.roll(16) / 15 } else { 0 }];
+    let sizes = [[STORE; 2], [1500, 4000], [8999, 9000], [9001, 20_000], [1499, 3000]][[0, 0, 1, 2, 3, [1, 1, 4][dice.roll(3)]][dice.roll(6)]];
     let starts = random_ids(dice, count).into_iter().map(|id| Start { id, controlled: !(plain && dice.roll(2) == 0), first, size: sizes[dice.roll(2)] }).collect();
     Setup { datalink: DATALINK, starts }
 }
@@ -133,7 +133,7 @@ fn check() {
         let stores = setup.starts.iter().map(|start| start.size).sum();
         let size = if dice.roll(20) == 0 { dice.roll(stores + 2) } else { stores };
         let lent = if size > 0 && dice.roll(20) == 0 { size - 1 } else { size };
-        let room = [2000, run.packet.len() + 20, run.packet.len() + 19, dice.roll(200)][dice.roll(4)];
+        let room = [10_000, run.packet.len() + 20, run.packet.len() + 19, dice.roll(200)][dice.roll(4)];
         let (memory, out) = (random_bytes(&mut dice, size), random_bytes(&mut dice, room));
         agree(&setup, &run, &memory, lent, &out, &mut seen);
     }
@@ -208,8 +208,9 @@ const ALONE: [Case; 7] = [
     Case { name: "refused calls (12)", calls: 3, turn: refused, base: nothing },
 ];
 
-fn setup(channels: u8, first: u32) -> Setup {
-    Setup { datalink: DATALINK, starts: (0..channels).map(|id| Start { id, controlled: true, first, size: STORE }).collect() }
+// Stores with room for two such packets.
+fn setup(channels: u8, first: u32, length: usize) -> Setup {
+    Setup { datalink: DATALINK, starts: (0..channels).map(|id| Start { id, controlled: true, first, size: STORE.max(2 * length) }).collect() }
 }
 
 // The turns behind a start and a radio message; the windows let every packet go, over the wrap.
@@ -230,7 +231,7 @@ fn measure(case: &Case, channels: u8, length: usize) {
     let first = 4_294_967_295 - (TURNS * length) as u32;
     let whole = run(case.turn, channels, first, length);
     let base = run(case.base, channels, first, length);
-    let [proved, plain, trusting] = longer(&setup(channels, first), &whole, &base).map(|time| time / (TURNS * case.calls) as f64);
+    let [proved, plain, trusting] = longer(&setup(channels, first, length), &whole, &base).map(|time| time / (TURNS * case.calls) as f64);
     println!("| {} | {channels} | {length} | {proved:.1} | {plain:.1} | {:.2} | {trusting:.1} |", case.name, proved / plain);
 }
 
@@ -239,8 +240,8 @@ fn main() {
     println!();
     println!("| calls | channels | packet, bytes | proved, ns a call | plain Rust, ns a call | ratio | plain without the test of 19, ns |");
     println!("|---|---|---|---|---|---|---|");
-    for channels in [1, 4, 16] {
-        for length in [100, 1280] {
+    for channels in [1, 4, 16, 64] {
+        for length in [100, 1280, 9000] {
             measure(&MIXED, channels, length);
         }
         for case in &ALONE {

@@ -11,7 +11,7 @@
  *
  * A refusal changes no word, no byte of the memory and no byte of the output.
  *
- * Refusals and limits are document 01's, in its words; sections are those of the draft of ARINC 858 Part 3
+ * Refusals and limits are those of document 01, in its words, and of document 02 where it moved them; sections are those of the draft of ARINC 858 Part 3
  * (docs/DECISIONS.md names both).
  *
  * `include/check` compares this file with the sources that the library is built from.
@@ -88,7 +88,7 @@ typedef struct {
 #define NESPOVARDA_REFUSED_NO_CHANNEL (NESPOVARDA_REFUSED + 12)
 /* 13: packet isn't IPv6: under 40 bytes, version not 6, or length not 40 plus its Payload Length */
 #define NESPOVARDA_REFUSED_NOT_IPV6 (NESPOVARDA_REFUSED + 13)
-/* 14: packet over 1,500 bytes */
+/* 14: packet over the smaller of 9,000 bytes and the store's length */
 #define NESPOVARDA_REFUSED_LONG_PACKET (NESPOVARDA_REFUSED + 14)
 /* 15: time before this channel's latest */
 #define NESPOVARDA_REFUSED_EARLIER_TIME (NESPOVARDA_REFUSED + 15)
@@ -102,7 +102,7 @@ typedef struct {
  * 19: configuration: channel count, ID 255, an ID twice, no channel 0, store length, a Datalink ID without meaning in
  * 3.3.1; in any call that takes them, a state outside these limits (a configuration in it that would be refused, a kept
  * Link Instance or Context outside its lengths, a status above 15, more than 32 waiting, a waiting length outside 40 to
- * 1,500, waiting bytes over the store, a plain channel not free) or a lent memory whose length isn't the sum of the
+ * 9,000, waiting bytes over the store, a plain channel not free) or a lent memory whose length isn't the sum of the
  * stores. Here also: words that are no configuration or no state, or not as many as it needs; and in reading, an end that
  * there isn't, or other than CONTROL_WORDS or DATA_WORDS words to read into
  */
@@ -117,9 +117,9 @@ typedef struct {
 
 #define NESPOVARDA_LONGEST_DATAGRAM 65507 /* bytes of a message */
 #define NESPOVARDA_FEWEST_CHANNELS 1      /* configured channels */
-#define NESPOVARDA_MOST_CHANNELS 16
+#define NESPOVARDA_MOST_CHANNELS 64
 #define NESPOVARDA_SHORTEST_PACKET 40 /* bytes of a packet that is offered */
-#define NESPOVARDA_LONGEST_PACKET 1500
+#define NESPOVARDA_LONGEST_PACKET 9000 /* and no longer than the channel's store */
 #define NESPOVARDA_MOST_WAITING 32     /* packets that wait on a channel */
 #define NESPOVARDA_SMALLEST_STORE 1500 /* bytes of a channel's store */
 #define NESPOVARDA_LARGEST_STORE 65536

@@ -3,9 +3,11 @@
 from broken_messages import of_ciri
 
 STARTING = of_ciri(
-    ("at most 15 channels", "CHANNEL_COUNTS = range(1, 17)", "CHANNEL_COUNTS = range(1, 16)"),
-    ("17 channels", "CHANNEL_COUNTS = range(1, 17)", "CHANNEL_COUNTS = range(1, 18)"),
+    ("at most 16 channels", "CHANNEL_COUNTS = range(1, 65)", "CHANNEL_COUNTS = range(1, 17)"),
+    ("at most 63 channels", "CHANNEL_COUNTS = range(1, 65)", "CHANNEL_COUNTS = range(1, 64)"),
+    ("65 channels", "CHANNEL_COUNTS = range(1, 65)", "CHANNEL_COUNTS = range(1, 66)"),
     ("a store of 1499 bytes", "STORE_LENGTHS = range(1500, 65537)", "STORE_LENGTHS = range(1499, 65537)"),
+    ("no store under 9000 bytes", "STORE_LENGTHS = range(1500, 65537)", "STORE_LENGTHS = range(9000, 65537)"),
     ("no store of 1500 bytes", "STORE_LENGTHS = range(1500, 65537)", "STORE_LENGTHS = range(1501, 65537)"),
     ("no store of 65536 bytes", "STORE_LENGTHS = range(1500, 65537)", "STORE_LENGTHS = range(1500, 65536)"),
     ("a store of 65537 bytes", "STORE_LENGTHS = range(1500, 65537)", "STORE_LENGTHS = range(1500, 65538)"),
@@ -26,8 +28,21 @@ STARTING = of_ciri(
 OFFERING = of_ciri(
     ("at most 31 packets wait", "WAITING_LIMIT = 32", "WAITING_LIMIT = 31"),
     ("33 packets wait", "WAITING_LIMIT = 32", "WAITING_LIMIT = 33"),
-    ("packets up to 1499 bytes", "PACKET_LIMIT = 1500", "PACKET_LIMIT = 1499"),
-    ("packets up to 1501 bytes", "PACKET_LIMIT = 1500", "PACKET_LIMIT = 1501"),
+    ("packets up to 1500 bytes", "PACKET_LIMIT = 9000", "PACKET_LIMIT = 1500"),
+    ("packets up to 8999 bytes", "PACKET_LIMIT = 9000", "PACKET_LIMIT = 8999"),
+    ("packets up to 9001 bytes", "PACKET_LIMIT = 9000", "PACKET_LIMIT = 9001"),
+    ("14 above 9000 bytes whatever the store", "len(packet) > min(PACKET_LIMIT, channel.configuration.store_length)",
+     "len(packet) > PACKET_LIMIT"),
+    ("14 above the store's length alone", "len(packet) > min(PACKET_LIMIT, channel.configuration.store_length)",
+     "len(packet) > channel.configuration.store_length"),
+    ("14 at the store's length", "len(packet) > min(PACKET_LIMIT, channel.configuration.store_length)",
+     "len(packet) > min(PACKET_LIMIT, channel.configuration.store_length - 1)"),
+    ("14 above the first channel's store", "    test_length(channel, packet)\n",
+     "    test_length(endpoint.channels[0], packet)\n"),
+    ("a state with a waiting length over 1500 is refused", "IPV6_HEADER_LENGTH <= length <= PACKET_LIMIT",
+     "IPV6_HEADER_LENGTH <= length <= 1500"),
+    ("a state with a waiting length of 9000 is refused", "IPV6_HEADER_LENGTH <= length <= PACKET_LIMIT",
+     "IPV6_HEADER_LENGTH <= length < PACKET_LIMIT"),
     ("no packet of 40 bytes", "if len(packet) < IPV6_HEADER_LENGTH or", "if len(packet) <= IPV6_HEADER_LENGTH or"),
     ("version 7 is IPv6", "packet[0] >> 4 != 6", "packet[0] >> 5 != 3"),
     ("version 4 is IPv6", "packet[0] >> 4 != 6", "packet[0] >> 4 not in (4, 6)"),
@@ -38,18 +53,24 @@ OFFERING = of_ciri(
     ("a packet shorter than its Payload Length", "if len(packet) != IPV6_HEADER_LENGTH +",
      "if len(packet) > IPV6_HEADER_LENGTH +"),
     ("the Payload Length's low byte alone", "int.from_bytes(packet[4:6]", "int.from_bytes(packet[5:6]"),
-    ("14 before 13", "    if len(packet) < IPV6_HEADER_LENGTH or",
-     "    if len(packet) > PACKET_LIMIT:\n        raise Refusal(14)\n    if len(packet) < IPV6_HEADER_LENGTH or"),
-    ("13 before 12", "    channel = find_channel(endpoint, channel_id)\n    test_packet(packet)\n",
-     "    test_packet(packet)\n    channel = find_channel(endpoint, channel_id)\n"),
+    ("13 before 12", "    channel = find_channel(endpoint, channel_id)\n    test_ipv6(packet)\n",
+     "    test_ipv6(packet)\n    channel = find_channel(endpoint, channel_id)\n"),
+    ("14 before 13",
+     "    test_ipv6(packet)\n" "    test_length(channel, packet)\n",
+     "    test_length(channel, packet)\n" "    test_ipv6(packet)\n"),
     ("15 before 13",
-     "    test_packet(packet)\n" "    test_time(channel, now)\n",
-     "    test_time(channel, now)\n" "    test_packet(packet)\n"),
+     "    test_ipv6(packet)\n" "    test_length(channel, packet)\n",
+     "    test_time(channel, now)\n" "    test_ipv6(packet)\n" "    test_length(channel, packet)\n"),
+    ("15 before 14",
+     "    test_length(channel, packet)\n" "    test_time(channel, now)\n",
+     "    test_time(channel, now)\n" "    test_length(channel, packet)\n"),
     ("16 before 15",
-     "    test_packet(packet)\n" "    test_time(channel, now)\n" "    if expiry <= now:\n"
-     "        raise Refusal(16)\n",
-     "    test_packet(packet)\n" "    if expiry <= now:\n" "        raise Refusal(16)\n"
-     "    test_time(channel, now)\n"),
+     "    test_time(channel, now)\n" "    if expiry <= now:\n" "        raise Refusal(16)\n",
+     "    if expiry <= now:\n" "        raise Refusal(16)\n" "    test_time(channel, now)\n"),
+    ("17 before 14",
+     "    test_length(channel, packet)\n",
+     "    test_room(channel, find_unexpired(endpoint, memory, channel, now), packet)\n"
+     "    test_length(channel, packet)\n"),
     ("17 before 16",
      "    if expiry <= now:\n" "        raise Refusal(16)\n"
      "    unexpired = find_unexpired(endpoint, memory, channel, now)\n" "    test_room(channel, unexpired, packet)\n",
@@ -217,4 +238,20 @@ QUERYING = of_ciri(
      "meaning.sequences[channel.configuration.channel_id] = channel.configuration.first_sequence"),
 )
 
-STATE_WAYS = [*STARTING, *OFFERING, *SENDING, *HEARING, *QUERYING]
+# What a loop of as many turns as there were channels once leaves out.
+SIXTEEN_TURNS = of_ciri(
+    ("only sixteen channels are looked through",
+     "    for channel in endpoint.channels:\n        if channel.configuration.channel_id ==",
+     "    for channel in endpoint.channels[:16]:\n        if channel.configuration.channel_id =="),
+    ("only sixteen channels hear a radio message", "    for channel in endpoint.channels:\n        update_channel(",
+     "    for channel in endpoint.channels[:16]:\n        update_channel("),
+    ("only sixteen channels are queried",
+     "    for channel in endpoint.channels:\n        if channel.configuration.is_flow",
+     "    for channel in endpoint.channels[:16]:\n        if channel.configuration.is_flow"),
+    ("only sixteen stores are in the memory", "    for other in endpoint.channels:\n        if other is channel:",
+     "    for other in endpoint.channels[:16]:\n        if other is channel:"),
+    ("only sixteen stores are counted", "sum(configuration.store_length for configuration in configurations):",
+     "sum(configuration.store_length for configuration in configurations[:16]):"),
+)
+
+STATE_WAYS = [*SIXTEEN_TURNS, *STARTING, *OFFERING, *SENDING, *HEARING, *QUERYING]

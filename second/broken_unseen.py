@@ -33,7 +33,7 @@ UNSEEN_WAYS = of_ciri(
      "    for other in sorted(endpoint.channels, key=lambda one: one.configuration.channel_id):\n"
      "        if other is channel:"),
     # Number 19 is given then too, since there is no channel 0.
-    ("no channel configured", "CHANNEL_COUNTS = range(1, 17)", "CHANNEL_COUNTS = range(0, 17)"),
+    ("no channel configured", "CHANNEL_COUNTS = range(1, 65)", "CHANNEL_COUNTS = range(0, 65)"),
     # A Datalink ID is one byte's number: the session reads no other.
     ("a Datalink ID over 255 configured",
      "        fits_bits(datalink_id, 8)\n" "        and len(channel_ids)", "        len(channel_ids)"),

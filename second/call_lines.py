@@ -5,7 +5,7 @@ from session import show_bytes
 
 DATALINK_ID = 7
 # An output that holds any data message, and an expiry that no time reaches.
-ROOMY = 1600
+ROOMY = 9100
 NEVER = 100000
 
 

@@ -1,4 +1,4 @@
-"""A CIRI endpoint (ARINC 858 Part 3), written from document 01 with plain Python integers.
+"""A CIRI endpoint (ARINC 858 Part 3), written from documents 01 and 02 with plain Python integers.
 
 First the messages of both ends and both planes, then the state of the Airborne IPS System's end.
 """
@@ -58,11 +58,11 @@ DATAGRAM_LIMIT = 65507
 RESERVED_CHANNEL = 255
 PRIMARY_CHANNEL = 0
 
-CHANNEL_COUNTS = range(1, 17)
+CHANNEL_COUNTS = range(1, 65)
 STORE_LENGTHS = range(1500, 65537)
 WAITING_LIMIT = 32
 IPV6_HEADER_LENGTH = 40
-PACKET_LIMIT = 1500
+PACKET_LIMIT = 9000
 MODULUS = 2**32
 
 # A channel's flow state is FREE, NO_WINDOW or the number of the window in force.
@@ -467,7 +467,8 @@ def offer_packet(endpoint, memory, channel_id, now, expiry, packet):
     test_state(endpoint)
     test_memory(configurations_of(endpoint), memory)
     channel = find_channel(endpoint, channel_id)
-    test_packet(packet)
+    test_ipv6(packet)
+    test_length(channel, packet)
     test_time(channel, now)
     if expiry <= now:
         raise Refusal(16)
@@ -477,13 +478,17 @@ def offer_packet(endpoint, memory, channel_id, now, expiry, packet):
     channel.latest = now
 
 
-def test_packet(packet):
-    """Number 13, a packet that isn't IPv6 (RFC 8200), and number 14, one over 1,500 bytes."""
+def test_ipv6(packet):
+    """Number 13: a packet that isn't IPv6 (RFC 8200)."""
     if len(packet) < IPV6_HEADER_LENGTH or packet[0] >> 4 != 6:
         raise Refusal(13)
     if len(packet) != IPV6_HEADER_LENGTH + int.from_bytes(packet[4:6], "big"):
         raise Refusal(13)
-    if len(packet) > PACKET_LIMIT:
+
+
+def test_length(channel, packet):
+    """Number 14: a packet over the smaller of 9,000 and the store's length."""
+    if len(packet) > min(PACKET_LIMIT, channel.configuration.store_length):
         raise Refusal(14)
 
 

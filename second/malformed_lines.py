@@ -1,14 +1,14 @@
 """Lines with something wrong, drawn by lot."""
 
 BAD_WORDS = (
-    "-1", "+1", "01", "00", "0x7", "256", "4294967296", "18446744073709551616", "1048577", "9" * 400, "1.0", "x", "--",
+    "-1", "+1", "01", "00", "0x7", "256", "4294967296", "18446744073709551616", "4194305", "9" * 400, "1.0", "x", "--",
     "-", "", "\t", "\r", "\0", "\xff", "\xd9\xa0", "AB", "0g", "abc", "plain", "memory", "ips", "IPS",
 )
 ODD_LINES = (
     "", " ", "-", "read", "echo", "start", "offer", "next", "show", "stop", "Show 0", "show 0 0", "query",
     " query 100", "query\t100", "query 100\r", "start 7 0", "start 7 81", "start 7 1 memory 1500", "memory 1500",
     "start 7 1 0 plain 0 1500 memory", "start 7 1 0 plain 0 1500 memory 1500 0", "start 7 1 0 Flow 0 1500",
-    "\x00", "\xff\xfe", "refused 12 0", "radio", "radio  ", "store -1", "withdraw 256", "next 0 0 1048577",
+    "\x00", "\xff\xfe", "refused 12 0", "radio", "radio  ", "store -1", "withdraw 256", "next 0 0 4194305",
     "kept 0", "kept ", " kept", "Kept",
 )
 LINE_ENDS = (" ", "\r", "\t", "\0", "\xe4")

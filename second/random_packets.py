@@ -24,10 +24,12 @@ def spoil_packet(dice, packet):
     ))
 
 
-def draw_offered(dice, is_filling):
-    """A packet to offer, often at the limits."""
+def draw_offered(dice, is_filling, store_length):
+    """A packet to offer, often at the limits: of packets then, and of the packets that this store's length allows."""
     small, large = dice.randrange(40, 120), dice.randrange(1200, 1501)
-    lengths = ((6, 40), (12, small), (4, dice.randrange(120, 500)), (3, large), (3, 1500), (0.6, 1501), (0.4, 39))
-    filling = ((3, 40), (12, small), (1, 1500), (1, large))
-    packet = draw_packet(dice, pick(dice, *(filling if is_filling else lengths), (0.1, dice.randrange(3000))))
+    longest = min(ciri.PACKET_LIMIT, store_length)
+    short = ((6, 40), (12, small), (4, dice.randrange(120, 500)), (3, large), (2, 1500), (0.6, 1501), (0.4, 39))
+    long = ((0.6, longest), (0.6, longest + 1), (0.2, ciri.PACKET_LIMIT), (0.2, ciri.PACKET_LIMIT + 1))
+    filling = ((3, 40), (12, small), (1, large), (0.5, longest))
+    packet = draw_packet(dice, pick(dice, *(filling if is_filling else short + long), (0.1, dice.randrange(10000))))
     return spoil_packet(dice, packet) if chance(dice, 4) else packet

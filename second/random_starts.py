@@ -10,8 +10,9 @@ def draw_configuration(dice, channel_id):
     """A channel's words in `start`, within the limits."""
     kind = pick(dice, (7, "flow"), (3, "plain"))
     first = pick(dice, (3, SEQUENCE_LIMIT - dice.randrange(4000)), (2, draw_number(dice)), (1, 0))
-    any_store = dice.randrange(1500, 65537)
-    store = pick(dice, (3, 1500), (2, 1501), (6, dice.randrange(1501, 6000)), (2, any_store), (1, 65535), (3, 65536))
+    any_store, about_a_packet = dice.randrange(1500, 65537), dice.randrange(8998, 9003)
+    small, large = pick(dice, (3, 1500), (2, 1501), (6, dice.randrange(1501, 6000))), pick(dice, (1, 65535), (3, 65536))
+    store = pick(dice, (11, small), (2, about_a_packet), (2, any_store), (4, large))
     return [channel_id, kind, first, store]
 
 
@@ -24,7 +25,7 @@ def draw_configurations(dice, count):
 
 def draw_start(dice):
     """A start within the limits."""
-    count = pick(dice, (3, 1), (5, 2), (5, 3), (3, 4), (2, dice.randrange(5, 16)), (1.5, 16))
+    count = pick(dice, (3, 1), (5, 2), (5, 3), (3, 4), (2, dice.randrange(5, 17)), (1, dice.randrange(17, 64)), (1, 64))
     channels = draw_configurations(dice, count)
     memory = sum(channel[3] for channel in channels) if chance(dice, 10) else None
     return start(*channels, memory=memory, datalink_id=draw_datalink(dice))
@@ -32,7 +33,7 @@ def draw_start(dice):
 
 def miscount_channels(dice, channels):
     """None, or too many; more than 80 are a bad line."""
-    count = dice.choice((0, 17, 17, 18, 80, 81))
+    count = dice.choice((0, 65, 65, 66, 80, 81))
     channels[:] = draw_configurations(dice, count) if count > 0 else []
 
 
@@ -62,7 +63,7 @@ CHANNELS_DAMAGES = (miscount_channels, reserve_channel, repeat_channel, drop_pri
 
 def draw_refused_start(dice):
     """A start with one thing outside the limits: a memory of another length, or something about the channels."""
-    channels = draw_configurations(dice, pick(dice, (8, dice.randrange(1, 5)), (1, 16)))
+    channels = draw_configurations(dice, pick(dice, (8, dice.randrange(1, 5)), (0.5, 16), (0.5, 64)))
     if chance(dice, 20):
         stores = sum(channel[3] for channel in channels)
         memory = dice.choice((stores - 1, stores + 1, 0, stores + 1500, LENGTH_LIMIT))

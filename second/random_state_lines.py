@@ -1,7 +1,7 @@
 """Lines about a state, drawn by lot."""
 
 import ciri
-from call_lines import offer
+from call_lines import ROOMY, offer
 from damaged_messages import damage, draw_datagram, stretch
 from random_messages import ENDS, Draft, draw_draft, draw_header, finish_options, state_radio_control
 from random_packets import draw_offered
@@ -141,7 +141,7 @@ class StateLines:
         """`offer CHANNEL NOW EXPIRY HEX`"""
         channel = self.draw_configured()
         now = self.draw_now(channel)
-        packet = draw_offered(self.dice, self.phase == "fill")
+        packet = draw_offered(self.dice, self.phase == "fill", channel.configuration.store_length)
         return offer(self.show_channel_id(channel), now, self.draw_expiry(now), packet)
 
     def draw_next(self):
@@ -157,7 +157,7 @@ class StateLines:
         identifiers = 2 * (ciri.FRAME_LENGTH + 1)
         sequence = 0 if channel.flow in (ciri.FREE, ciri.NO_WINDOW) else ciri.FRAME_LENGTH + 5
         size = ciri.HEADER_LENGTH + identifiers + sequence + ciri.FRAME_LENGTH + length
-        return pick(self.dice, (60, 1600), (40, draw_room_near(self.dice, size)))
+        return pick(self.dice, (60, ROOMY), (40, draw_room_near(self.dice, size)))
 
     def draw_withdraw(self):
         """`withdraw CHANNEL`"""

@@ -11,7 +11,7 @@ ID_LIMIT = 255
 COUNT_LIMIT = 80
 SEQUENCE_LIMIT = 2**32 - 1
 TIME_LIMIT = 2**64 - 1
-LENGTH_LIMIT = 1_048_576
+LENGTH_LIMIT = 4_194_304
 
 NUMBER = re.compile(rb"0|[1-9][0-9]{0,19}")
 BYTE_STRING = re.compile(rb"(?:[0-9a-f]{2})+")

@@ -8,7 +8,7 @@ NO_BYTES = ["", "0", "000", "0g", "AB", "-0", "--", "0-", "0x00", "60\t"]
 NO_ID = [*NO_NUMBERS, "256"]
 NO_SEQUENCE = [*NO_NUMBERS, "4294967296"]
 NO_TIME = [*NO_NUMBERS, "18446744073709551616"]
-NO_LENGTH = [*NO_NUMBERS, "1048577"]
+NO_LENGTH = [*NO_NUMBERS, "4194305"]
 FAULTLESS = {
     "start 7 1 0 flow 4294967295 1500 memory 1500": [
         NO_ID, [*NO_NUMBERS, "0", "2", "81"], NO_ID, ["", "Flow", "flows", "0"], NO_SEQUENCE, NO_LENGTH,
@@ -29,7 +29,7 @@ def broken_message_lines():
     yield from ("", " ", "read", "read ips", "read ips 7", "read ips 7 ", "read  ips 7 10", "read ips 7 10 ")
     yield from ("read ips 256 10", "read ips 07 10", "read ips -1 10", "read air 7 10", "READ ips 7 10")
     yield from ("read ips 7 1", "read ips 7 1G", "read ips 7 1A", "read ips 7 - x", "read ips 7 -", "read ips 7 10\r")
-    yield from ("echo ips 7 10", "echo ips 7 10 ips", "echo ips 7 10 ips 1048577", "echo ips 7 10 ips 01", "\xff\0")
+    yield from ("echo ips 7 10", "echo ips 7 10 ips", "echo ips 7 10 ips 4194305", "echo ips 7 10 ips 01", "\xff\0")
     yield from ("x" * 140000, "read ips 7 " + "0" * 139989, "read ips 7 " + "00" * 70000)
     yield from ("read ips 17 " + "00" * 69994, "read ips 7 " + "00" * 69995)
 

@@ -24,9 +24,9 @@ def before_start():
 
 
 def packet_examples():
-    """Packets of 39 and 40 bytes, 1,500 and 1,501; the 32nd and 33rd waiting; expiry equal to the time."""
+    """Packets of 39 and 40 bytes, 9,000 and 9,001; the 32nd and 33rd waiting; expiry equal to the time."""
     yield start((0, "plain", 0, 65536), (2, "flow", 0, 1500))
-    lengths = (0, 1, 39, 40, 41, 1499, 1500, 1501, LONGEST_PACKET)
+    lengths = (0, 1, 39, 40, 41, 1500, 1501, 8999, 9000, 9001, LONGEST_PACKET)
     yield from (offer(0, 5, 6, packet(length, length)) for length in lengths)
     yield from ("show 0", "store 0", "withdraw 0")
     yield from (offer(0, 5, expiry, packet(40)) for expiry in (5, 4, 0, 6))

@@ -1,4 +1,4 @@
-"""The stored script's flight: one state of sixteen channels through 5,000 calls, drawn by lot, always the same.
+"""The stored script's flight: one state of forty channels through 5,000 calls, drawn by lot, always the same.
 
 Each flow-controlled channel begins at most a few thousand bytes before the wrap of its 32-bit count, and most cross it.
 """
@@ -15,6 +15,8 @@ from session import show_bytes
 
 CALLS = 5000
 LOOKS = ("show", "store")
+# Stores: small ones, and such that take the longest packet.
+SMALL, LONG = (1500, 3001), (9000, 20000)
 # How often each line comes in each phase of the flight.
 PHASES = {
     "mixed": ((30, "offer"), (34, "next"), (1, "withdraw"), (14, "radio"), (2, "query"), (8, "show"), (0.6, "store")),
@@ -45,7 +47,8 @@ class Flight(StateLines):
         channel = self.draw_configured()
         now = self.draw_now(channel)
         some, large = self.dice.randrange(40, 130), self.dice.randrange(130, 600)
-        length = pick(self.dice, (60, 40), (120, some), (15, large), (5, 1500), (1, 1501), (1, 39))
+        longest = min(ciri.PACKET_LIMIT, channel.configuration.store_length)
+        length = pick(self.dice, (60, 40), (120, some), (15, large), (5, longest), (1, longest + 1), (1, 39))
         packet = draw_packet(self.dice, length)
         packet = spoil_packet(self.dice, packet) if chance(self.dice, 2) else packet
         return offer(self.show_channel_id(channel), now, self.draw_expiry(now), packet)
@@ -65,12 +68,12 @@ class Flight(StateLines):
 
 
 def draw_flight_start(dice):
-    """Sixteen channels in any order, 0 and 254 among them, three of them plain, with small stores."""
-    channels = [0, 254, *dice.sample(range(1, 254), 14)]
+    """Forty channels in any order, 0 and 254 among them, seven of them plain, with small stores but for four."""
+    channels = [0, 254, *dice.sample(range(1, 254), 38)]
     dice.shuffle(channels)
     firsts = [ciri.MODULUS - dice.randrange(100, 4000) for _ in channels]
     return start(*[
-        (channel, "plain" if place % 6 == 3 else "flow", first, dice.randrange(1500, 3001))
+        (channel, "plain" if place % 6 == 3 else "flow", first, dice.randrange(*(LONG if place % 10 == 7 else SMALL)))
         for place, (channel, first) in enumerate(zip(channels, firsts))])
 
 

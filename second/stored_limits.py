@@ -2,10 +2,11 @@
 
 import ciri
 from call_lines import NEVER, ROOMY, offer, packet, radio, start
-from session import TIME_LIMIT
+from session import LENGTH_LIMIT, TIME_LIMIT
 from stored_orders import PACKET
 
-CHANNELS = (200, 3, 254, 17, 0, 99, 1, 128, 64, 253, 2, 127, 31, 8, 250, 16)
+# Sixty-four Channel IDs in no order: 254 is the twelfth, 0 the forty-first.
+CHANNELS = tuple((44 * place + 25) % 255 for place in range(64))
 
 
 # ---- Starts at the limits ----
@@ -13,19 +14,22 @@ CHANNELS = (200, 3, 254, 17, 0, 99, 1, 128, 64, 253, 2, 127, 31, 8, 250, 16)
 
 def start_limits():
     """Each limit of a configuration and what lies just outside; a refused start leaves the state before it."""
-    yield from (start((0, "plain", 0, store)) for store in (0, 1499, 1500, 65537, 1048576, 65536))
+    yield from (start((0, "plain", 0, store)) for store in (0, 1499, 1500, 65537, LENGTH_LIMIT, 65536))
     yield from (offer(0, 3, 9, packet(40)), "show 0")
-    yield from (start((0, "flow", 4294967295, 1500), memory=memory) for memory in (0, 1499, 1501, 1048576))
+    yield from (start((0, "flow", 4294967295, 1500), memory=memory) for memory in (0, 1499, 1501, LENGTH_LIMIT))
     yield from (start((channel, "flow", 0, 1500)) for channel in (1, 254, 255))
     yield from (start((0, "flow", 0, 1500), (channel, "flow", 0, 1500)) for channel in (0, 255))
-    yield from (start(*[(channel, "plain", 0, 65536) for channel in range(count)]) for count in (0, 17, 80, 81))
+    yield from (start(*[(channel, "plain", 0, 65536) for channel in range(count)]) for count in (0, 65, 80, 81))
+    yield from (start(*[(channel, "plain", 0, 1500) for channel in range(count)]) for count in (66, 65))
     yield from (start(memory=0), "show 0", "next 0 3 100", "query 100")
     yield from (start((0, "flow", 4294967295, 1500), memory=1500), "show 0", "query 100")
     yield from (start((0, "plain", 0, 1500), datalink_id=datalink_id) for datalink_id in (0, 255, 256))
     yield from ("query 6", "query 5", "query 4", "query 0")
     most = [(channel, "flow", 4294967295 - channel, 65536) for channel in CHANNELS]
-    yield from (start(*most, memory=memory) for memory in (1048575, 1048576, 1048577))
-    yield from ("query 133", "query 132", offer(16, 1, 2, packet(1500)), "show 16", "show 200")
+    yield from (start(*most, memory=memory) for memory in (LENGTH_LIMIT - 1, LENGTH_LIMIT + 1, LENGTH_LIMIT))
+    first, last = CHANNELS[0], CHANNELS[-1]
+    yield from ("query 517", "query 516", offer(last, 1, 2, packet(9000)), f"show {last}", f"show {first}")
+    yield from (f"next {last} 1 {ROOMY}", start(*most[:63]), f"show {last}", "query 509")
 
 
 # ---- Queues and stores at the limits ----
@@ -45,6 +49,38 @@ def full_stores():
     yield from (offer(9, 1, NEVER, packet(length, 77)) for length in (1500, 40))
     yield from (offer(8, 1, NEVER, packet(40 + 7 * mark, mark)) for mark in range(33))
     yield from ("show 8", "store 8", "show 0", "store 0")
+
+
+def lengths_by_store():
+    """Packets about 9,000 bytes and about the store's length, where nothing waits and where something does: 14 above
+    the smaller of the two, and never 17 for a packet that no empty store would take."""
+    for store in (1500, 1501, 8999, 9000, 9001, 65536):
+        longest = min(store, 9000)
+        yield start((0, "plain", 0, 65536), (3, "flow", 9, store))
+        yield from (offer(3, 1, NEVER, packet(length, store)) for length in (longest + 1, longest))
+        yield from (offer(3, 1, NEVER, packet(length, store)) for length in (longest + 1, longest, 40))
+        yield from ("show 3", "withdraw 3", offer(3, 1, NEVER, packet(40, 3)))
+        behind = (longest + 1, longest, longest - 39, longest - 40)
+        yield from (offer(3, 1, NEVER, packet(length, 5)) for length in behind)
+        yield "show 3"
+    yield from (offer(3, 1, NEVER, packet(9000, mark)) for mark in range(6))
+    yield from (offer(3, 1, NEVER, packet(length, 9)) for length in (2576, 2575, 40, 9001, 9000))
+    yield from ("show 3", "store 3", "show 0")
+
+
+def long_packets():
+    """Packets of 9,000 bytes wait, expire, are sent by an output of just enough bytes and under a window."""
+    yield start((0, "plain", 0, 9000), (3, "flow", 4294960000, 27000), (7, "flow", 0, 1500))
+    yield radio({0: 7, 3: 7, 7: 7}, {3: 1703, 7: 1500})
+    yield from (offer(0, 1, 9, packet(9000, 1)), "show 0", "store 0", offer(0, 8, 9, packet(40)))
+    yield from (f"next 0 8 {room}" for room in (9011, 9012))
+    yield from ("show 0", "store 0", offer(0, 8, 9, packet(9000, 2)), offer(0, 9, 10, packet(8999, 3)), "show 0")
+    yield from (offer(3, 1, expiry, packet(9000, expiry)) for expiry in (70, 60, 80))
+    yield from (offer(3, 1, 80, packet(40)), f"next 3 2 {ROOMY}", "show 3", radio({0: 7, 3: 7, 7: 7}, {3: 1704}))
+    yield from (*(f"next 3 2 {room}" for room in (9019, 9020)), "show 3", f"next 3 2 {ROOMY}", "query 100")
+    yield from (radio({0: 7, 3: 7}), offer(3, 60, 80, packet(9000, 4)), "show 3", "store 3")
+    yield from (offer(7, 1, 9, packet(1501)), offer(7, 1, 9, packet(9000)), offer(7, 1, 9, packet(1500, 7)), "show 7")
+    yield from (f"next 3 60 {ROOMY}", f"next 7 1 {ROOMY}", "kept", "withdraw 3", "show 3", "query 100")
 
 
 def expiries():
@@ -87,9 +123,10 @@ def orders():
     yield start((0, "plain", 0, 1500), (6, "flow", 0, 1500))
     yield radio({0: 7, 6: 7})
     yield from (offer(0, 5, 9, packet(1500)), offer(7, 4, 4, packet(39)), offer(0, 4, 4, packet(39)))
-    yield offer(0, 4, 4, b"\x50" + packet(1501)[1:])
-    yield offer(0, 4, 4, packet(1500) + b"\0")
-    yield from (offer(0, 4, 4, packet(1501)), offer(0, 4, 4, packet(1500)), offer(0, 5, 5, packet(1500)))
+    yield from (offer(0, 4, 4, b"\x50" + packet(length)[1:]) for length in (1501, 9001))
+    yield from (offer(0, 4, 4, packet(length) + b"\0") for length in (1500, 9000))
+    yield from (offer(0, 4, 4, packet(length)) for length in (9001, 9000, 1501, 1500))
+    yield from (offer(0, 5, 5, packet(length)) for length in (9001, 1501, 1500))
     yield from (offer(0, 5, 9, packet(1500)), "next 7 0 0", "next 0 4 0", "next 0 5 0")
     yield from ("withdraw 7", "show 255", "store 7", "show 0", f"next 0 5 {ROOMY}", "next 0 4 0", "next 0 5 0")
 
@@ -127,24 +164,27 @@ def long_messages():
         yield from (f"radio 1001000107c8{skipped:04x}{'5a' * skipped}{named}", "show 0", "show 254")
 
 
-def sixteen_channels():
-    """Sixteen channels in shuffled order: each has its own store, its own status, its own window."""
-    kinds = ["plain" if place % 5 == 4 else "flow" for place in range(16)]
-    places = enumerate(CHANNELS)
+def many_channels(channels, turns):
+    """Channels in shuffled order: each has its own store, its own status, its own window."""
+    kinds = ["plain" if place % 5 == 4 else "flow" for place in range(len(channels))]
+    places = enumerate(channels)
     yield start(*[(channel, kinds[place], 4294967295 - 7 * place, 1500 + place) for place, channel in places])
-    for turn in range(3):
-        yield radio({channel: (3 * channel + turn) % 9 for channel in CHANNELS if channel % 7 != turn + 1},
-                    {channel: 100 * turn + channel for channel in CHANNELS if channel % 4 != turn})
-        for channel in CHANNELS:
+    room = 5 + 8 * kinds.count("flow")
+    for turn in range(turns):
+        yield radio({channel: (3 * channel + turn) % 9 for channel in channels if channel % 7 != turn + 1},
+                    {channel: 100 * turn + channel for channel in channels if channel % 4 != turn})
+        for channel in channels:
             yield from (offer(channel, turn, NEVER, packet(40 + channel % 9, channel + turn)), f"show {channel}")
-            yield from (f"next {channel} {turn} {ROOMY}", f"show {channel}", f"query {109 - turn}")
-    yield from (f"store {channel}" for channel in CHANNELS)
+            yield from (f"next {channel} {turn} {ROOMY}", f"show {channel}", f"query {room - turn}")
+    yield from (f"store {channel}" for channel in channels)
 
 
 def limit_lines():
     """All of them."""
     yield from start_limits()
     yield from full_stores()
+    yield from lengths_by_store()
+    yield from long_packets()
     yield from expiries()
     yield from many_expire()
     yield from times()
@@ -152,4 +192,6 @@ def limit_lines():
     yield from contexts()
     yield from gaps()
     yield from long_messages()
-    yield from sixteen_channels()
+    yield from many_channels(CHANNELS[32:48], 2)
+    yield from many_channels((*CHANNELS[1:40], 0), 2)
+    yield from many_channels(CHANNELS, 1)

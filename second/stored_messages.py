@@ -9,7 +9,7 @@ import random
 import ciri
 from call_lines import DATALINK_ID
 from random_session import draw_lines
-from session import show_bytes
+from session import LENGTH_LIMIT, show_bytes
 
 RANDOM_LINES = 1200
 
@@ -44,7 +44,7 @@ def echo_lines(end, meaning):
     """The message written again with just enough room, a byte less, and as a message of each end."""
     datagram = ciri.write_message(end, meaning, ciri.DATAGRAM_LIMIT)
     words = f"echo {end} {DATALINK_ID} {datagram.hex()}"
-    yield from (f"{words} {end} {room}" for room in (len(datagram), len(datagram) - 1, 0, 1048576))
+    yield from (f"{words} {end} {room}" for room in (len(datagram), len(datagram) - 1, 0, LENGTH_LIMIT))
     yield from (f"{words} {end2} {ciri.DATAGRAM_LIMIT}" for end2 in (ciri.IPS, ciri.RADIO))
 
 

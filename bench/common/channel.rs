@@ -1,10 +1,10 @@
-// A plain channel by document 01, "A channel's life": its queue in place, its store lent. It shares no code with the proved one, but its writer knew that one.
+// A plain channel by document 01, "A channel's life", with the limits of document 02: its queue in place, its store lent. It shares no code with the proved one, but its writer knew that one.
 #![allow(dead_code)]
 use super::message::Window;
 
 const MOST_WAITING: usize = 32;
 const SHORTEST_PACKET: usize = 40;
-const LONGEST_PACKET: usize = 1500;
+const LONGEST_PACKET: usize = 9000;
 const LONGEST_DATAGRAM: usize = 65507;
 
 #[derive(Clone, Copy)]
@@ -119,7 +119,7 @@ impl Channel {
         if !is_ipv6(packet) {
             return Err(13);
         }
-        if packet.len() > LONGEST_PACKET {
+        if packet.len() > LONGEST_PACKET.min(store.len()) {
             return Err(14);
         }
         if time < self.latest {

@@ -5,7 +5,7 @@ use super::library::*;
 use super::message::{read_control, read_data, End, OtherPlane, Refused};
 use super::script::{Calls, Setup};
 
-const MOST_CHANNELS: usize = 16;
+const MOST_CHANNELS: usize = 64;
 
 struct Endpoint {
     datalink: u8,

@@ -189,7 +189,7 @@ pub fn radio_control(ids: &[u8], status: &dyn Fn(u8) -> Option<u8>, window: &dyn
 
 // ---- timing
 
-pub const OUT: usize = 2000;
+pub const OUT: usize = 10_000;
 
 // Nanoseconds by which one script takes longer than another in the same round, of the proved endpoint, the plain one and the plain one without the test of 19. Both begin with a start.
 pub fn longer(setup: &Setup, whole: &Run, base: &Run) -> [f64; 3] {

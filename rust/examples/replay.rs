@@ -6,7 +6,7 @@ use std::fmt::Write as _;
 use std::io::{self, BufRead, Write};
 
 const LONGEST_LINE: usize = 140_000;
-const LARGEST_LENGTH: u64 = 1_048_576;
+const LARGEST_LENGTH: u64 = 4_194_304;
 const MOST_CHANNELS: u64 = 80;
 const WORDS_OF_A_CHANNEL: usize = 4;
 

@@ -59,7 +59,7 @@ pub enum Refusal {
     ChannelNotConfigured,
     /// 13: packet isn't IPv6: under 40 bytes, version not 6, or length not 40 plus its Payload Length.
     NotIpv6,
-    /// 14: packet over 1,500 bytes.
+    /// 14: packet over the smaller of 9,000 bytes and the store's length.
     PacketTooLong,
     /// 15: time before this channel's latest.
     TimeBeforeLatest,

@@ -83,8 +83,16 @@ fn a_flow_window_of_channel_255_is_refused_by_5_at_its_first_byte() {
 }
 
 #[test]
-fn packets_of_40_to_1500_bytes_are_taken() {
-    let rows = [(39, Offered::Refused(Refusal::NotIpv6)), (40, Offered::Taken), (1500, Offered::Taken), (1501, Offered::Refused(Refusal::PacketTooLong))];
+fn packets_of_40_to_9000_bytes_are_taken() {
+    let rows = [(39, Offered::Refused(Refusal::NotIpv6)), (40, Offered::Taken), (9000, Offered::Taken), (9001, Offered::Refused(Refusal::PacketTooLong))];
+    for (length, answer) in rows {
+        assert_eq!(started(0).endpoint().offer(ROOMY, &packet(length, 1), NEVER, 1), answer, "{length}");
+    }
+}
+
+#[test]
+fn a_packet_may_be_as_long_as_the_store_and_no_longer() {
+    let rows = [(STORE, Offered::Taken), (STORE + 1, Offered::Refused(Refusal::PacketTooLong)), (9000, Offered::Refused(Refusal::PacketTooLong))];
     for (length, answer) in rows {
         assert_eq!(started(0).endpoint().offer(PLAIN, &packet(length, 1), NEVER, 1), answer, "{length}");
     }

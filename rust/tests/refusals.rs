@@ -95,9 +95,11 @@ fn by_13_a_packet_that_is_not_ipv6() {
 }
 
 #[test]
-fn by_14_a_packet_over_1500_bytes() {
-    let refusal = refusal_of(&waiting(), |endpoint, _| offered(endpoint.offer(PLAIN, &packet(1501, 1), NEVER, 10)));
-    assert_refused(refusal, Refusal::PacketTooLong, 14);
+fn by_14_a_packet_over_9000_bytes_or_over_its_store() {
+    for (channel, length) in [(ROOMY, 9001), (PLAIN, STORE + 1), (PLAIN, 9000)] {
+        let refusal = refusal_of(&waiting(), |endpoint, _| offered(endpoint.offer(channel, &packet(length, 1), NEVER, 10)));
+        assert_refused(refusal, Refusal::PacketTooLong, 14);
+    }
 }
 
 #[test]
@@ -202,10 +204,10 @@ fn start_refusal(channels: &[(u8, usize)], more_memory: usize) -> Option<Refusal
 
 #[test]
 fn by_19_a_configuration_that_is_outside_the_limits() {
-    let many: Vec<(u8, usize)> = (0..17).map(|id| (id, 1500)).collect();
+    let many: Vec<(u8, usize)> = (0..65).map(|id| (id, 1500)).collect();
     assert_eq!(words_for(0), 0);
-    assert_eq!(words_for(17), 0);
-    assert_eq!(start_refusal(&many[..16], 0), None);
+    assert_eq!(words_for(65), 0);
+    assert_eq!(start_refusal(&many[..64], 0), None);
     let rows: [(&[(u8, usize)], usize); 9] = [
         (&[], 0),
         (&many, 0),

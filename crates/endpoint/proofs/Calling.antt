@@ -22,7 +22,7 @@ use Rattle.ips_words_survey.specs.declared.place.Found.{Found}
 use Rattle.ips_words_survey.specs.declared.place.Place.{Place}
 use Rattle.ips_words_survey.specs.Places.{placeOf, Located}
 use Rattle.ips_words_survey.proofs.Finding.{Finds}
-use Rattle.endpoint.specs.Lent.{Lent, lent, worldIn, wordsCalled, afterIn}
+use Rattle.endpoint.specs.Lent.{Lent, lent, worldIn, wordsCalledUnder, afterInUnder}
 use Rattle.endpoint.specs.Calls.{PerformedIn, PerformedInAt, Placed, atWords, isRefused}
 use Rattle.endpoint.proofs.Finding.{calls-found, calls-refused}
 
@@ -109,7 +109,7 @@ module _ (l : Lent) (found : Found) (located : Located (worldIn l) found) where
 -- ---- the calls by Channel ID, where the channel is found
 pub performed-found : (l : Lent) (id : ℕ) (found : Found) → Finds (worldIn l) id found → (call : ChannelCall) (x : Reply) (l′ : Lent)
     → PerformedInAt call l (found .index) x l′ → PerformedIn (on id call) l (ofChannel x) l′
-unfolding afterIn wordsCalled atWords
+unfolding afterInUnder wordsCalledUnder atWords
 performed-found l id found finds call x l′ h =
     let same = calls-found (worldIn l) id call found finds in
     let here = at-with-same (stateIn (l .words)) (found .index) (channelAfter (channelIn (worldIn l) (found .index)) (resultIn call (worldIn l) (found .index))) (finds .located .within) in
@@ -118,7 +118,7 @@ performed-found l id found finds call x l′ h =
 -- ---- and where it is not
 pub performed-refused : (l : Lent) (id number : ℕ) → placeOf (stateIn (l .words)) id (length (l .memory)) ≡ Place.Refused number → (call : ChannelCall)
     → PerformedIn (on id call) l (ofChannel (replyTo (termsIn (worldIn l) (indexIn (worldIn l) id)) call (refused number))) l
-unfolding afterIn wordsCalled
+unfolding afterInUnder wordsCalledUnder
 performed-refused l id number e call =
     let same = calls-refused (worldIn l) id call number e in
     record { reply-is = rw same; lent-is = rw same }

@@ -25,7 +25,7 @@ use Rattle.ips_words.specs.Words.{SLOT, word, slot, slotStart, entryAt, fixedWo
 use Rattle.ips_words.proofs.Entries.{entries-waiting, tidy-back}
 use Rattle.ips_words.proofs.Slots.{channel-length}
 use Rattle.ips_words.proofs.Whole.{fit-room, fit-put, put-same}
-use Rattle.endpoint.specs.Lent.{Lent, worldIn, wordsCalled, afterIn}
+use Rattle.endpoint.specs.Lent.{Lent, worldIn, wordsCalledUnder, afterInUnder}
 use Rattle.endpoint.specs.Calls.{PerformedIn, isRefused}
 use Rattle.endpoint.proofs.Calling.{unless-told}
 use Rattle.endpoint.proofs.Simulating.{served-placed, served-narrow, served-same}
@@ -79,7 +79,7 @@ module _ {l l′ : Lent} {id : ℕ} {call : ChannelCall} {x : Reply} (h : Perfor
 
   -- EVERY OTHER WORD STANDS: the endpoint's own, and those of every other channel
   pub other-words : (k : ℕ) → (k < slotStart index) ⊎ (slotStart index + SLOT ≤ k) → word (l′ .words) k ≡ word (l .words) k
-  unfolding afterIn wordsCalled
+  unfolding afterInUnder wordsCalledUnder
   other-words k o = rw (h .lent-is) (by-judged (judged id call (worldIn l)) k o)
 
   -- the channel that a call leaves, unless it refuses: no length and no expiry behind what waits
@@ -104,7 +104,7 @@ module _ {l l′ : Lent} {id : ℕ} {call : ChannelCall} {x : Reply} (h : Perfor
           rw (put-same (l .words) index (fit-room (l .words) (p .fits) index (p .within)) left (narrow .tidy)) (zeros-behind left (narrow .tidy) k (rw said at behind) few)
 
   pub zeros-left : isRefused x ≡ false → Zeros (l′ .words)
-  unfolding afterIn wordsCalled
+  unfolding afterInUnder wordsCalledUnder
   zeros-left e = rw (h .lent-is) (zeros-judged (judged id call (worldIn l)) none)
     where
       none : (number : ℕ) → calling id call (worldIn l) .answer ≡ refused number → ⊥

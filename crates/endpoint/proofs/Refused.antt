@@ -18,14 +18,14 @@ use Rattle.ips_state.specs.declared.StartAnswer.{StartAnswer}
 use Rattle.ips_radio.specs.declared.RadioAnswer.{RadioAnswer}
 use Rattle.ips_radio.specs.Heard.{dueOf}
 use Rattle.ips_run.specs.Calling.{termsIn, calling}
-use Rattle.ips_run.specs.Run.{Call, on, radio, query, acceptedIn, acceptedBy}
+use Rattle.ips_run.specs.Run.{Call, on, radio, query, acceptedIn, acceptedUnder, acceptedBy}
 use Rattle.ips_run.proofs.Exact.{refused-world}
-use Rattle.ips_calls.specs.Radio.{handedIn}
+use Rattle.ips_calls.specs.Radio.{handedInUnder, handedIn}
 use Rattle.ips_calls.specs.Replies.{EndpointReply, ofChannel, ofRadio, ofQuery}
 use Rattle.ips_calls.proofs.Refused.{not-refused, next-refused-same, query-refused-same}
 use Rattle.ips_words.specs.Words.{stateIn}
 use Rattle.ips_words_start.specs.Start.{startsIn, StartedIn}
-use Rattle.endpoint.specs.Lent.{Lent, worldIn, wordsCalled, afterIn}
+use Rattle.endpoint.specs.Lent.{Lent, worldIn, wordsCalledUnder, afterInUnder, afterIn}
 use Rattle.endpoint.specs.Calls.{PerformedIn, isRefused}
 use Rattle.endpoint.proofs.Calling.{unless-told}
 use Rattle.endpoint.proofs.Simulating.{performed-in}
@@ -48,7 +48,7 @@ module _ {l l′ : Lent} {id : ℕ} {call : ChannelCall} {x : Reply} (h : Perfor
   reply-told = cc (h .reply-is)
 
   pub refused-in : isRefused x ≡ true → l′ ≡ l
-  unfolding afterIn wordsCalled
+  unfolding afterInUnder wordsCalledUnder
   refused-in e =
       let told = refused-told (termsIn (worldIn l) (indexIn (worldIn l) id)) call (calling id call (worldIn l) .answer) (rw reply-told at e) in
       h .lent-is ∙ rw (refused-world id call (worldIn l) (told .0) (told .1), told .1)
@@ -63,7 +63,7 @@ next-refused-in {l} {l′} {id} {time} {out} {out′} {refusal} h =
 module _ (l : Lent) (datagram : List ℕ) where
   verdict-refused : (v : Verdict) (refusal : Refusal) → readControl ends.Radio (stateIn (l .words) .datalink) datagram .verdict ≡ v → stateFits (stateIn (l .words)) ≡ true → planeOf datagram ≡ PlaneAnswer.Control
       → handedIn (stateIn (l .words)) datagram .answer ≡ RadioAnswer.Refused refusal → acceptedBy (radio datagram) (worldIn l) ≡ []
-  unfolding handedIn acceptedBy acceptedIn
+  unfolding handedInUnder acceptedUnder acceptedIn
   verdict-refused Verdict.Accepted refusal v f p e =
       let reading = readControl ends.Radio (stateIn (l .words) .datalink) datagram in
       absurd (not-refused (stateIn (l .words)) (dueOf (stateIn (l .words) .context) (reading .message .context)) refusal (rw (f, p, v) at e))
@@ -71,7 +71,7 @@ module _ (l : Lent) (datagram : List ℕ) where
   verdict-refused (Verdict.Refused why) refusal v f p e = rw (f, p, v)
 
   accepted-none : (refusal : Refusal) → handedIn (stateIn (l .words)) datagram .answer ≡ RadioAnswer.Refused refusal → acceptedBy (radio datagram) (worldIn l) ≡ []
-  unfolding acceptedBy acceptedIn
+  unfolding acceptedUnder acceptedIn
   accepted-none refusal e = go (stateFits (stateIn (l .words))) refl (planeOf datagram) refl
     where
       go : (fits : Bool) → stateFits (stateIn (l .words)) ≡ fits → (plane : PlaneAnswer) → planeOf datagram ≡ plane → acceptedBy (radio datagram) (worldIn l) ≡ []
@@ -82,12 +82,12 @@ module _ (l : Lent) (datagram : List ℕ) where
 
 module _ {l l′ : Lent} {datagram : List ℕ} where
   pub radio-refused-in : {refusal : Refusal} → PerformedIn (radio datagram) l (ofRadio (RadioAnswer.Refused refusal)) l′ → l′ ≡ l
-  unfolding afterIn
+  unfolding afterInUnder
   radio-refused-in {refusal} h = h .lent-is ∙ rw (accepted-none l datagram refusal (cc (h .reply-is)))
 
   -- "An accepted radio data message changes nothing."
   pub radio-data-in : planeOf datagram ≡ PlaneAnswer.Data → {x : EndpointReply} → PerformedIn (radio datagram) l x l′ → l′ ≡ l
-  unfolding afterIn acceptedBy acceptedIn
+  unfolding afterInUnder acceptedUnder acceptedIn
   radio-data-in p h = h .lent-is ∙ go (stateFits (stateIn (l .words))) refl
     where
       go : (fits : Bool) → stateFits (stateIn (l .words)) ≡ fits → afterIn (radio datagram) l ≡ l
@@ -96,7 +96,7 @@ module _ {l l′ : Lent} {datagram : List ℕ} where
 
 -- ---- a query, whatever its answer; refused, it leaves the output too
 pub query-in : {l l′ : Lent} {out : List ℕ} {x : EndpointReply} → PerformedIn (query out) l x l′ → l′ ≡ l
-unfolding afterIn
+unfolding afterInUnder
 query-in h = h .lent-is
 
 pub query-refused-in : {l l′ : Lent} {out out′ : List ℕ} {refusal : Refusal} → PerformedIn (query out) l (ofQuery (WriteAnswer.Refused refusal) out′) l′ → out′ ≡ out

@@ -13,7 +13,7 @@ use Rattle.ips_state.specs.Memory.{memoryFits, World, worldFits, isConfigured, 
 use Rattle.ips_state.proofs.Channels.{ChannelFit}
 use Rattle.ips_state.proofs.Places.{found, channel-fitting-at, store-length, at-with-same, with-back}
 use Rattle.ips_run.specs.Calling.{resultIn, WorldResult, calling, Judged, outside, unknown, served}
-use Rattle.ips_run.specs.Run.{Call, on, radio, query, after}
+use Rattle.ips_run.specs.Run.{Call, on, radio, query, afterUnder, after}
 use Rattle.ips_run.specs.Demand.{bytesIn, BytesIn}
 use Rattle.ips_run.proofs.Exact.{judged}
 use Rattle.ips_calls.specs.Replies.{EndpointReply}
@@ -24,7 +24,7 @@ use Rattle.ips_words.specs.Words.{slot, stateIn, putChannel, Narrow}
 use Rattle.ips_words.proofs.Slots.{in-narrow}
 use Rattle.ips_words.proofs.Whole.{readable-facts, fit-readable, fit-count, fit-channel, fit-put}
 use Rattle.ips_words_radio.proofs.Datagrams.{radio-in}
-use Rattle.endpoint.specs.Lent.{Lent, worldIn, wordsCalled, afterIn}
+use Rattle.endpoint.specs.Lent.{Lent, worldIn, wordsCalledUnder, wordsCalled, afterInUnder, afterIn}
 use Rattle.endpoint.specs.Calls.{PerformedIn, Placed}
 use Rattle.endpoint.specs.Ran.{RanIn, over, ran}
 use Rattle.endpoint.proofs.Leaving.{left-narrow}
@@ -85,12 +85,12 @@ module _ (l : Lent) (id : ℕ) (call : ChannelCall) where
 
   -- THE LAW OF A CALL ON A CHANNEL: the words that it leaves stand for the state that the call on the state leaves
   pub in-state : stateIn (wordsCalled id call l) ≡ calling id call (worldIn l) .world .state
-  unfolding wordsCalled
+  unfolding wordsCalledUnder
   in-state = by-judged (judged id call (worldIn l))
 
 -- ---- any call, on any words and any memory
 pub step-in : (c : Call) → bytesIn c → (l : Lent) → worldIn (afterIn c l) ≡ after c (worldIn l)
-unfolding afterIn after
+unfolding afterInUnder afterUnder
 step-in (on id call) bytes l = ap {B = World} (λ (s : State). record { state = s; memory = calling id call (worldIn l) .world .memory }) (in-state l id call)
 step-in (radio datagram) bytes l = ap {B = World} (λ (s : State). record { state = s; memory = l .memory }) (radio-in (l .words) datagram bytes (l .memory))
 step-in (query out) bytes l = refl

@@ -16,7 +16,7 @@ use Rattle.ips_calls.specs.Own.{ServedSimply}
 use Rattle.ips_calls.proofs.Ran.{begins}
 use Rattle.ips_calls.proofs.Own.{started-own}
 use Rattle.ips_words.specs.Words.{wordsFor}
-use Rattle.ips_words_start.specs.Start.{configurationIn, startsIn, StartedIn}
+use Rattle.ips_words_start.specs.Start.{configurationIn, startsInUnder, startsIn, StartedIn}
 use Rattle.ips_words_start.proofs.FreshWords.{configuration-small, fresh-in-words}
 use Rattle.endpoint.specs.Lent.{Lent, lent, worldIn}
 use Rattle.endpoint.specs.Ran.{RanIn}
@@ -27,7 +27,7 @@ abbrev pub roomIn : (configuration words : List ℕ) → Bool
 roomIn configuration words = eqb (length words) (wordsFor (length (configurationIn configuration .starts)))
 
 starts-is : (configuration words memory : List ℕ) → startFits (configurationIn configuration) (roomIn configuration words) memory ≡ startsIn configuration words memory
-unfolding startFits startsIn storesOf memoryFits
+unfolding startFits startsInUnder storesOf memoryFits
 starts-is configuration words memory = refl
 
 module _ {configuration words memory words′ memory′ : List ℕ} where

@@ -1,9 +1,9 @@
 -- Each answer of Offer, Next and Withdraw, as they should be on a state, is given if and only if its facts hold, the numbers 12 to 19 among them. Assumes nothing.
 use Prim.Native.Nat.{ℕ, _+_, _%_, _≤_, _<_}
 use mathlib.Core.Bool.{Bool, true, false, and-eq-true-iff}
-use mathlib.Core.List.{List, _∷_}
+use mathlib.Core.List.{List, [], _∷_}
 use mathlib.Core.Logic.{_↔_, _⊎_, inl, inr}
-use mathlib.Core.Path.{_≡_, refl, sym, subst, _∙_}
+use mathlib.Core.Path.{_≡_, refl, sym, ap, subst, _∙_}
 use borrow.Author.Tests.{eqb-true, eq-eqb, ltb-true, ltb-false}
 use lib.Dec.{ltb}
 use lib.IntN.{ℤ, pos}
@@ -17,14 +17,15 @@ use Rattle.writer.specs.Written.{noRoom}
 use Rattle.store.specs.Packets.{Packet}
 use Rattle.flow.specs.declared.Flow.{Flow}
 use Rattle.flow.specs.Counting.{mayGo, sequenceOn, carriedBy}
+use Rattle.ipv6.specs.FixedHeader.{FixedHeader}
 use Rattle.ipv6.proofs.FixedHeader.{ipv6-exactly}
-use Rattle.ips_channel_rules.specs.Rules.{ChannelCall, offer, next, withdraw, Taken, Tried, Emptied, Terms, Result, grown, messageBytes}
+use Rattle.ips_channel_rules.specs.Rules.{ChannelCall, offer, next, withdraw, Taken, Tried, Emptied, Terms, longestOn, Result, grown, messageBytes}
 use Rattle.ips_channel_rules.specs.Machine.{machine}
 use Rattle.ips_channel_rules.specs.Exactly.{Offered, offered-not-ipv6, offered-long, offered-early, offered-past, offered-full, offered-taken, Asked, asked-early, asked-nothing, asked-not-operational, asked-shut, asked-no-room, asked-sent}
 use Rattle.ips_channel_rules.specs.FlowCases.{IsUnder, DistanceFrom}
 use Rattle.ips_channel_rules.proofs.Exact as rules
 use Rattle.ips_channel_rules.proofs.Exact.{withdraw-is}
-use Rattle.ips_channel_rules.proofs.Limits.{machine-limited}
+use Rattle.ips_channel_rules.proofs.Limits.{machine-limited, short-both, place-empty}
 use Rattle.ips_channel_rules.proofs.FlowCases.{free-words, shut-words, under-words, distance-exists}
 use Rattle.ips_channel_rules.proofs.CallCases as cases
 use Rattle.ips_channel_rules.proofs.CallCases.{false-unless, size-free, size-under}
@@ -39,13 +40,14 @@ use Rattle.ips_state.specs.Memory.{memoryFits, World, worldFits, isConfigured, 
 use Rattle.ips_state.proofs.Places.{found}
 use Rattle.ips_state.proofs.WithinLimits.{within-fits, fits-within}
 use Rattle.ips_run.specs.Calling.{termsIn, conditionIn, WorldResult, atChannel, calling, Judged, outside, unknown, served}
-use Rattle.ips_run.specs.Run.{on}
+use Rattle.ips_run.specs.Run.{on, afterUnder}
 use Rattle.ips_run.proofs.Exact.{named, gives-configuration, gives-no-channel, serves-at, judged}
-use Rattle.ips_calls.specs.Replies.{ofChannel}
+use Rattle.ips_run.proofs.Ordered.{in-order, order-fits, called-order}
+use Rattle.ips_calls.specs.Replies.{EndpointReply, ofChannel}
 use Rattle.ips_calls.specs.Calls.{Performed}
 use Rattle.ips_calls.specs.ReadBack.{SequenceWords}
+use Rattle.endpoint_laws.specs.Given.{Admitted, Configured, NotConfigured, notDueIn, numbered, NotLong, OfferGiven, offer-19, offer-12, offer-13, offer-14, offer-15, offer-16, offer-17, offer-taken, Goes, goes-free, goes-under, Shut, shut-none, shut-past, NextGiven, next-19, next-12, next-15, next-nothing, next-down, next-shut, next-18, next-sent, WithdrawGiven, withdraw-19, withdraw-12, withdraw-done}
 use Rattle.ips_calls.proofs.Refused.{one-reply}
-use Rattle.endpoint_laws.specs.Given.{Admitted, Configured, NotConfigured, notDueIn, numbered, OfferGiven, offer-19, offer-12, offer-13, offer-14, offer-15, offer-16, offer-17, offer-taken, Goes, goes-free, goes-under, Shut, shut-none, shut-past, NextGiven, next-19, next-12, next-15, next-nothing, next-down, next-shut, next-18, next-sent, WithdrawGiven, withdraw-19, withdraw-12, withdraw-done}
 
 module _ (w : World) where
   -- ---- 19
@@ -83,15 +85,18 @@ module _ (w : World) where
 
     -- ---- Offer
     module _ (p : Packet) (time : ℕ) where
+      not-long : (index : ℕ) → length (p .bytes) ≤ longestOn (termsIn w index) → NotLong w index p
+      not-long index l = let both = short-both machine machine-limited (termsIn w index) (length (p .bytes)) l in record { longest = both .0; store = both .1 }
+
       offer-when : (index : ℕ) → Configured w id index → (r : Result machine Taken) → Offered machine (termsIn w index) p time (conditionIn w index) r → OfferGiven w id p time (offerAnswer (r .answer))
       unfolding conditionOf
       offer-when index n _ (offered-not-ipv6 v) = offer-13 n (λ h. clash (sym v ∙ ipv6-exactly (p .bytes) .1 h))
-      offer-when index n _ (offered-long v l) = offer-14 n (ipv6-exactly (p .bytes) .0 v) l
-      offer-when index n _ (offered-early v l t) = offer-15 n (ipv6-exactly (p .bytes) .0 v) l t
-      offer-when index n _ (offered-past v l t x) = offer-16 n (ipv6-exactly (p .bytes) .0 v) l t x
-      offer-when index n _ (offered-full v l t x f) = offer-17 n (ipv6-exactly (p .bytes) .0 v) l t x (machine-limited .full-only (termsIn w index) _ p f)
+      offer-when index n _ (offered-long v l) = offer-14 n (ipv6-exactly (p .bytes) .0 v) (machine-limited .long (termsIn w index) _ .0 l)
+      offer-when index n _ (offered-early v l t) = offer-15 n (ipv6-exactly (p .bytes) .0 v) (not-long index l) t
+      offer-when index n _ (offered-past v l t x) = offer-16 n (ipv6-exactly (p .bytes) .0 v) (not-long index l) t x
+      offer-when index n _ (offered-full v l t x f) = offer-17 n (ipv6-exactly (p .bytes) .0 v) (not-long index l) t x (machine-limited .full-only (termsIn w index) _ p f)
       offer-when index n _ (offered-taken v l t x f) =
-          offer-taken n (ipv6-exactly (p .bytes) .0 v) l t x (λ none. clash (sym f ∙ machine-limited .full-then (termsIn w index) _ p none))
+          offer-taken n (ipv6-exactly (p .bytes) .0 v) (not-long index l) t x (λ none. clash (sym f ∙ machine-limited .full-then (termsIn w index) _ p none))
 
       offer-judged : {r : WorldResult Taken} → Judged id (offer p time) w r → OfferGiven w id p time (offerAnswer (r .answer))
       offer-judged (outside f) = offer-19 (fits-unadmitted f)
@@ -107,19 +112,27 @@ module _ (w : World) where
       offer-then (offer-14 {index} n h l) =
           rw (named-serves (offer p time) index n, cases.offer-fourteen machine machine-limited (termsIn w index) p time (conditionIn w index) h l)
       offer-then (offer-15 {index} n h l t) =
-          rw (named-serves (offer p time) index n, cases.offer-fifteen machine machine-limited (termsIn w index) p time (conditionIn w index) h l t)
+          rw (named-serves (offer p time) index n, cases.offer-fifteen machine machine-limited (termsIn w index) p time (conditionIn w index) h (l .longest) (l .store) t)
       offer-then (offer-16 {index} n h l t x) =
-          rw (named-serves (offer p time) index n, cases.offer-sixteen machine machine-limited (termsIn w index) p time (conditionIn w index) h l t x)
+          rw (named-serves (offer p time) index n, cases.offer-sixteen machine machine-limited (termsIn w index) p time (conditionIn w index) h (l .longest) (l .store) t x)
       offer-then (offer-17 {index} n h l t x none) =
-          rw (named-serves (offer p time) index n, cases.offer-seventeen machine machine-limited (termsIn w index) p time (conditionIn w index) h l t x none)
+          rw (named-serves (offer p time) index n, cases.offer-seventeen machine machine-limited (termsIn w index) p time (conditionIn w index) h (l .longest) (l .store) t x none)
       offer-then (offer-taken {index} n h l t x place) =
-          rw (named-serves (offer p time) index n, cases.offer-joins machine machine-limited (termsIn w index) p time (conditionIn w index) h l t x place)
+          rw (named-serves (offer p time) index n, cases.offer-joins machine machine-limited (termsIn w index) p time (conditionIn w index) h (l .longest) (l .store) t x place)
 
       -- what Offer answers
       pub offer-exactly : {answer : OfferAnswer} {w′ : World} → Performed (on id (offer p time)) w (ofChannel (offered answer)) w′ → (x : OfferAnswer) → (answer ≡ x) ↔ OfferGiven w id p time x
       offer-exactly {answer} h x =
           let is : answer ≡ offerAnswer (calling id (offer p time) w .answer) = cc (one-reply (h .reply-is)) in
           (λ e. subst (OfferGiven w id p time) (sym is ∙ e) (offer-judged (judged id (offer p time) w)), λ g. is ∙ offer-then g)
+
+      -- where every packet that waits is due, an offer that 12 to 16 pass is taken: 17 is never given there
+      pub empty-taken : {answer : OfferAnswer} {w′ : World} → Performed (on id (offer p time)) w (ofChannel (offered answer)) w′ → {index : ℕ} → Configured w id index
+          → FixedHeader (p .bytes) → NotLong w index p → channelIn w index .latest ≤ time → time < p .expiry → notDueIn w index time ≡ [] → answer ≡ OfferAnswer.Taken
+      unfolding conditionOf
+      empty-taken h {index} n header short t x none =
+          offer-exactly h OfferAnswer.Taken .1
+          (offer-taken n header short t x (place-empty machine machine-limited (termsIn w index) p time (conditionIn w index) none (short .store)))
 
     -- ---- Withdraw
     withdraw-judged : {r : WorldResult Emptied} → Judged id withdraw w r → WithdrawGiven w id (withdrawAnswer (r .answer))
@@ -137,6 +150,14 @@ module _ (w : World) where
     withdraw-exactly {answer} h x =
         let is : answer ≡ withdrawAnswer (calling id withdraw w .answer) = cc (one-reply (h .reply-is)) in
         (λ e. subst (WithdrawGiven w id) (sym is ∙ e) (withdraw-judged (judged id withdraw w)), λ g. is ∙ withdraw-then g)
+
+-- ---- what a call leaves
+-- "19 moves with the limits": no call on a channel makes a state that 19 refuses, an Offer of 9,000 bytes neither
+pub call-admitted : {w w′ : World} {id : ℕ} {c : ChannelCall} {x : EndpointReply} → Performed (on id c) w x w′ → Admitted w → Admitted w′
+unfolding afterUnder
+call-admitted {w} {w′} {id} {c} h admitted =
+    let order = called-order (length (w .state .channels)) w (in-order w (admitted-fits w admitted)) id c (judged id c w) in
+    fits-admitted w′ (ap (λ (u : World). worldFits u) (h .world-is) ∙ order-fits order)
 
 -- ---- 18, and the length of Next's message
 room-none : (size room : ℕ) → noRoom size room ≡ true → (room < size) ⊎ (65507 < size)

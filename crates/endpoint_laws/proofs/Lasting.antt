@@ -23,7 +23,7 @@ use Rattle.ips_state.specs.State.{Configuration, startAt}
 use Rattle.ips_state.specs.Limits.{configurationFits}
 use Rattle.ips_state.specs.Memory.{World, channelIn, storeIn}
 use Rattle.ips_radio.specs.Heard.{statusIn, windowIn}
-use Rattle.ips_run.specs.Run.{Call, on, radio, query, ifOwn, partOf, acceptedBy, acceptedAll, freshWorld, after, seesAll}
+use Rattle.ips_run.specs.Run.{Call, on, radio, query, ifOwn, partOf, acceptedUnder, acceptedBy, acceptedAll, freshWorld, after, seesAll}
 use Rattle.ips_run.specs.Demand.{BytesIn, idAt, ruled, seen, freshAt}
 use Rattle.ips_run.specs.Kept.{lastOr}
 use Rattle.ips_run.proofs.Fresh.{fresh-in}
@@ -103,7 +103,7 @@ module _ {A : Type 0} (from : Status → Window → A) where
 
   -- what a channel sees said are the messages accepted
   said-is : (own : ℕ) (cs : List Call) (w : World) → saidIn (seesAll own cs w) ≡ map (λ m. from (statusIn m own) (windowIn m own)) (acceptedAll cs w)
-  unfolding acceptedBy
+  unfolding acceptedUnder
   said-is own [] w = refl
   said-is own (on id c ∷ cs) w = said-own own id c _ ∙ said-is own cs (after (on id c) w)
   said-is own (radio datagram ∷ cs) w =

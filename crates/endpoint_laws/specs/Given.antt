@@ -50,18 +50,25 @@ abbrev pub numbered : ℕ → Refusal
 numbered number = record { number = number; place = 0 }
 
 -- ---- Offer
+
+-- "14 is given above the smaller of 9,000 and the store's length": no longer than either
+pub record NotLong (w : World) (index : ℕ) (p : Packet) : Type 0 where
+  pub longest : length (p .bytes) ≤ 9000
+  pub store : length (p .bytes) ≤ channelIn w index .setting .size .0
+
 pub data OfferGiven (w : World) (id : ℕ) (p : Packet) (time : ℕ) : OfferAnswer → Type 0 where
   offer-19 : (Admitted w → ⊥) → OfferGiven w id p time (OfferAnswer.Refused (numbered 19))
   offer-12 : Admitted w → NotConfigured w id → OfferGiven w id p time (OfferAnswer.Refused (numbered 12))
   offer-13 : {index : ℕ} → Configured w id index → (FixedHeader (p .bytes) → ⊥) → OfferGiven w id p time (OfferAnswer.Refused (numbered 13))
-  offer-14 : {index : ℕ} → Configured w id index → FixedHeader (p .bytes) → 1500 < length (p .bytes) → OfferGiven w id p time (OfferAnswer.Refused (numbered 14))
-  offer-15 : {index : ℕ} → Configured w id index → FixedHeader (p .bytes) → length (p .bytes) ≤ 1500 → time < channelIn w index .latest
+  offer-14 : {index : ℕ} → Configured w id index → FixedHeader (p .bytes) → (9000 < length (p .bytes)) ⊎ (channelIn w index .setting .size .0 < length (p .bytes))
+      → OfferGiven w id p time (OfferAnswer.Refused (numbered 14))
+  offer-15 : {index : ℕ} → Configured w id index → FixedHeader (p .bytes) → NotLong w index p → time < channelIn w index .latest
       → OfferGiven w id p time (OfferAnswer.Refused (numbered 15))
-  offer-16 : {index : ℕ} → Configured w id index → FixedHeader (p .bytes) → length (p .bytes) ≤ 1500 → channelIn w index .latest ≤ time → p .expiry ≤ time
+  offer-16 : {index : ℕ} → Configured w id index → FixedHeader (p .bytes) → NotLong w index p → channelIn w index .latest ≤ time → p .expiry ≤ time
       → OfferGiven w id p time (OfferAnswer.Refused (numbered 16))
-  offer-17 : {index : ℕ} → Configured w id index → FixedHeader (p .bytes) → length (p .bytes) ≤ 1500 → channelIn w index .latest ≤ time → time < p .expiry
+  offer-17 : {index : ℕ} → Configured w id index → FixedHeader (p .bytes) → NotLong w index p → channelIn w index .latest ≤ time → time < p .expiry
       → NoPlace (channelIn w index .setting .size .0) (notDueIn w index time) p → OfferGiven w id p time (OfferAnswer.Refused (numbered 17))
-  offer-taken : {index : ℕ} → Configured w id index → FixedHeader (p .bytes) → length (p .bytes) ≤ 1500 → channelIn w index .latest ≤ time → time < p .expiry
+  offer-taken : {index : ℕ} → Configured w id index → FixedHeader (p .bytes) → NotLong w index p → channelIn w index .latest ≤ time → time < p .expiry
       → (NoPlace (channelIn w index .setting .size .0) (notDueIn w index time) p → ⊥) → OfferGiven w id p time OfferAnswer.Taken
 
 -- ---- Next

@@ -32,7 +32,7 @@ use Rattle.ips_run.proofs.Exact.{heard-when}
 use Rattle.ips_radio.specs.declared.RadioAnswer.{RadioAnswer}
 use Rattle.ips_state.specs.declared.StartAnswer.{StartAnswer}
 use Rattle.ips_state.specs.Memory.{World}
-use Rattle.ips_calls.specs.Radio.{AfterRadio, refusedHeard, unchanged, heardControl, byVerdict, controlHeard, dataHeard, byPlane, handedIn, ReadingRefuses, by-header, by-control, by-data}
+use Rattle.ips_calls.specs.Radio.{AfterRadio, refusedHeard, unchanged, heardControl, byVerdict, controlHeard, dataHeard, byPlane, handedInUnder, handedIn, ReadingRefuses, by-header, by-control, by-data}
 use Rattle.ips_calls.specs.Query.{queryBytes, queryAnswer}
 use Rattle.ips_calls.specs.Replies.{ofQuery}
 use Rattle.ips_calls.specs.Calls.{lending, Performed}
@@ -72,7 +72,7 @@ module _ (s : State) (datagram : List ℕ) where
     passed : stateFits s ≡ true → planeOf datagram ≡ PlaneAnswer.Data → readData ends.Radio (s .datalink) datagram .verdict ≡ Verdict.Accepted → Handed (unchanged s)
 
   pub handed : Handed (handedIn s datagram)
-  unfolding handedIn
+  unfolding handedInUnder
   handed = go (stateFits s) refl (planeOf datagram) refl
     where
       control : stateFits s ≡ true → planeOf datagram ≡ PlaneAnswer.Control → (v : Verdict) → control-read .verdict ≡ v → Handed (byVerdict v s (heardControl (control-read .message) s))
@@ -94,7 +94,7 @@ module _ (s : State) (datagram : List ℕ) where
 
   -- "a state outside these limits": 19, before any reading; the state is the one handed in
   pub radio-unfit : stateFits s ≡ false → handedIn s datagram ≡ refusedHeard (record { number = OUTSIDE-LIMITS; place = 0 }) s
-  unfolding handedIn
+  unfolding handedInUnder
   radio-unfit e = rw e
 
   outside-only : {h : AfterRadio} → Handed h → (refusal : Refusal) → h .answer ≡ RadioAnswer.Refused refusal → refusal .number ≡ OUTSIDE-LIMITS → stateFits s ≡ false
@@ -110,7 +110,7 @@ module _ (s : State) (datagram : List ℕ) where
   module _ (fits : stateFits s ≡ true) where
     -- the state then is the one handed in
     pub radio-refused : (refusal : Refusal) → ReadingRefuses (s .datalink) datagram refusal → handedIn s datagram ≡ refusedHeard refusal s
-    unfolding handedIn
+    unfolding handedInUnder
     radio-refused refusal (by-header p) = rw (fits, p)
     radio-refused refusal (by-control p v) = rw (fits, p, v)
     radio-refused refusal (by-data p v) = rw (fits, p, v)
@@ -137,7 +137,7 @@ module _ (s : State) (datagram : List ℕ) where
 
     -- "An accepted radio data message changes nothing."
     pub radio-passed : planeOf datagram ≡ PlaneAnswer.Data → readData ends.Radio (s .datalink) datagram .verdict ≡ Verdict.Accepted → handedIn s datagram ≡ unchanged s
-    unfolding handedIn
+    unfolding handedInUnder
     radio-passed p v = rw (fits, p, v)
 
 -- ---- a query: "Refusals 19, then 18", and no other

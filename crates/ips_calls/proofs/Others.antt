@@ -1,27 +1,20 @@
 -- Promise: an Offer, a Next and a Withdraw on one channel leave every other channel, "and the other stores as lent": of any state and any lent memory, also one that
 -- no run reaches, with stores in no order; and its own store in order. Assumes nothing.
 use Prim.Native.Nat.{ℕ, _<_}
-use mathlib.Core.Bool.{true, and-eq-true-iff}
 use mathlib.Core.Path.{_≡_, refl, sym, ap, subst, _∙_}
 use lib.ListN.{length}
 use Rattle.quantity.specs.Refusals.{NO-CHANNEL, OUTSIDE-LIMITS}
 use Rattle.ips_channel_rules.specs.Rules.{ChannelCall, Says, refused}
-use Rattle.ips_state.specs.Limits.{stateFits}
-use Rattle.ips_state.specs.Memory.{memoryFits, World, worldFits, indexIn, channelIn, storeIn}
+use Rattle.ips_state.specs.Memory.{World, indexIn, channelIn, storeIn}
 use Rattle.ips_state.proofs.Places.{found}
 use Rattle.ips_run.specs.Calling.{WorldResult, calling, Judged, outside, unknown, served}
-use Rattle.ips_run.specs.Run.{on, after}
-use Rattle.ips_run.specs.Demand.{InOrder, Untouched, TidyIn}
+use Rattle.ips_run.specs.Run.{on, afterUnder}
+use Rattle.ips_run.specs.Demand.{Untouched, TidyIn}
 use Rattle.ips_run.proofs.Exact.{judged}
+use Rattle.ips_run.proofs.Ordered.{in-order}
 use Rattle.ips_run.proofs.Serving.{tidy-unless, at-same, store-same, at-other, store-other}
 use Rattle.ips_calls.specs.Replies.{EndpointReply}
 use Rattle.ips_calls.specs.Calls.{Performed}
-
--- a state and a memory that 19 does not refuse
-in-order : (w : World) → worldFits w ≡ true → InOrder (length (w .state .channels)) w
-in-order w fits =
-    let parts = and-eq-true-iff (stateFits (w .state)) (memoryFits (w .state) (w .memory)) .0 fits in
-    record { counted = refl; state-fits = parts .0; memory-fits = parts .1 }
 
 module _ (w : World) (id : ℕ) (c : ChannelCall) where
   module _ (other : ℕ) (there : other < length (w .state .channels)) (apart : channelIn w other .setting .id ≡ id → ⊥) where
@@ -42,7 +35,7 @@ module _ (w : World) (id : ℕ) (c : ChannelCall) where
     others-as-lent = untouched (judged id c w)
 
     pub call-others-as-lent : (x : EndpointReply) (w′ : World) → Performed (on id c) w x w′ → Untouched other w w′
-    unfolding after
+    unfolding afterUnder
     call-others-as-lent x w′ h = subst (Untouched other w) (sym (h .world-is)) others-as-lent
 
   -- ---- "An accepted Offer, Next or Withdraw leaves its channel's store so even if other bytes stood there": the waiting packets end to end, and zeros behind them

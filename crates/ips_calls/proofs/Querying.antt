@@ -14,14 +14,14 @@ use Rattle.ips_state.specs.Limits.{stateFits}
 use Rattle.ips_state.specs.Memory.{World}
 use Rattle.ips_query.specs.Query.{queryOf}
 use Rattle.ips_query.proofs.Queries.{query-allowed}
-use Rattle.ips_run.specs.Run.{query, after}
+use Rattle.ips_run.specs.Run.{query, afterUnder}
 use Rattle.ips_calls.specs.Query.{queryAnswer, queryOut}
 use Rattle.ips_calls.specs.Replies.{ofQuery}
 use Rattle.ips_calls.specs.Calls.{lending, Performed}
 
 module _ (s : State) (out : List ℕ) (r : WriteAnswer) (memory : List ℕ) where
   performed : (out′ : List ℕ) → r ≡ queryAnswer s out → out′ ≡ queryOut s out → Performed (query out) (lending s memory) (ofQuery r out′) (lending s memory)
-  unfolding after
+  unfolding afterUnder
   performed out′ answer-is out-is = record { reply-is = ap₂ ofQuery answer-is out-is; world-is = refl }
 
   pub query-unfit : stateFits s ≡ false → r ≡ WriteAnswer.Refused (record { number = OUTSIDE-LIMITS; place = 0 }) → Performed (query out) (lending s memory) (ofQuery r out) (lending s memory)

@@ -14,9 +14,9 @@ use Rattle.ips_state.specs.State.{Configuration, State, freshState}
 use Rattle.ips_state.specs.Limits.{sizes, stateFits, configurationFits}
 use Rattle.ips_state.specs.Memory.{World}
 use Rattle.ips_radio.specs.declared.RadioAnswer.{RadioAnswer}
-use Rattle.ips_run.specs.Run.{Call, radio, ifAccepted, acceptedIn, acceptedBy, hearEach, after, afterAll, freshWorld}
+use Rattle.ips_run.specs.Run.{Call, radio, ifAccepted, acceptedIn, acceptedUnder, acceptedBy, hearEach, afterUnder, after, afterAll, freshWorld}
 use Rattle.ips_state.specs.declared.StartAnswer.{StartAnswer}
-use Rattle.ips_calls.specs.Radio.{handedIn, controlHeard}
+use Rattle.ips_calls.specs.Radio.{handedInUnder, handedIn, controlHeard}
 use Rattle.ips_calls.specs.Replies.{EndpointReply, ofRadio}
 use Rattle.ips_calls.specs.Calls.{lending, PerformedWithAny}
 use Rattle.ips_calls.specs.Start.{storesOf, startFits, Started}
@@ -33,7 +33,7 @@ control-hears reading s = go (reading .verdict) refl
     go (Verdict.Refused refusal) e = rw e
 
 handed-state : (w : World) (datagram : List ℕ) → handedIn (w .state) datagram .state ≡ hearEach (acceptedBy (radio datagram) w) (w .state)
-unfolding handedIn acceptedIn acceptedBy
+unfolding handedInUnder acceptedIn acceptedUnder
 handed-state w datagram = go (stateFits (w .state)) refl (planeOf datagram) refl
   where
     go : (fits : Bool) → stateFits (w .state) ≡ fits → (plane : PlaneAnswer) → planeOf datagram ≡ plane
@@ -46,7 +46,7 @@ handed-state w datagram = go (stateFits (w .state)) refl (planeOf datagram) refl
 -- so a radio message handed in as it should be, with any memory, is answered and leaves a state as `handedIn` says: the laws over `handedIn` are laws of the call
 pub radio-handed : {s : State} {datagram : List ℕ} {answer : RadioAnswer} {s′ : State} → PerformedWithAny (radio datagram) s (ofRadio answer) s′
     → (answer ≡ handedIn s datagram .answer) × (s′ ≡ handedIn s datagram .state)
-unfolding after
+unfolding afterUnder
 radio-handed {s} {datagram} h = (cc (h [] .reply-is), ap (λ (w : World). w .state) (h [] .world-is) ∙ sym (handed-state (lending s []) datagram))
 
 -- ---- any calls

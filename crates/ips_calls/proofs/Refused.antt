@@ -20,13 +20,13 @@ use Rattle.ips_state.specs.State.{Configuration, State}
 use Rattle.ips_state.specs.Limits.{stateFits}
 use Rattle.ips_state.specs.Memory.{World, indexIn}
 use Rattle.ips_run.specs.Calling.{termsIn, calling}
-use Rattle.ips_run.specs.Run.{on, query, after}
+use Rattle.ips_run.specs.Run.{on, query, afterUnder}
 use Rattle.ips_run.proofs.Exact.{refused-world}
 use Rattle.ips_radio.specs.Heard.{dueOf}
 use Rattle.ips_channel_calls.specs.declared.offering.WithdrawAnswer.{WithdrawAnswer}
 use Rattle.ips_radio.specs.declared.RadioAnswer.{RadioAnswer}
 use Rattle.ips_state.specs.declared.StartAnswer.{StartAnswer}
-use Rattle.ips_calls.specs.Radio.{AfterRadio, byVerdict, heardControl, unchanged, handedIn}
+use Rattle.ips_calls.specs.Radio.{AfterRadio, byVerdict, heardControl, unchanged, handedInUnder, handedIn}
 use Rattle.ips_calls.specs.Query.{queryBytes}
 use Rattle.ips_calls.specs.Replies.{ofChannel, ofQuery}
 use Rattle.ips_calls.specs.Calls.{Performed}
@@ -55,7 +55,7 @@ one-reply e = cc
 module _ (w : World) (id : ℕ) (refusal : Refusal) (w′ : World) where
   -- any call that the rules refuse
   refused-same : (c : ChannelCall) (x : Reply) → Performed (on id c) w (ofChannel x) w′ → calling id c w .answer ≡ refused (refusal .number) → w′ ≡ w
-  unfolding after
+  unfolding afterUnder
   refused-same c x h e = h .world-is ∙ refused-world id c w (refusal .number) e
 
   pub offer-refused-same : (p : Packet) (time : ℕ) (answer : OfferAnswer) → Performed (on id (offer p time)) w (ofChannel (offered answer)) w′ → answer ≡ OfferAnswer.Refused refusal → w′ ≡ w
@@ -97,7 +97,7 @@ module _ (s : State) where
 
   module _ (datagram : List ℕ) where
     pub radio-data-same : planeOf datagram ≡ PlaneAnswer.Data → handedIn s datagram .state ≡ s
-    unfolding handedIn
+    unfolding handedInUnder
     radio-data-same p = go (stateFits s) refl
       where
         go : (fits : Bool) → stateFits s ≡ fits → handedIn s datagram .state ≡ s
@@ -105,7 +105,7 @@ module _ (s : State) where
         go false f = rw f
 
     pub radio-refused-same : (refusal : Refusal) → handedIn s datagram .answer ≡ RadioAnswer.Refused refusal → handedIn s datagram .state ≡ s
-    unfolding handedIn
+    unfolding handedInUnder
     radio-refused-same refusal e = go (stateFits s) refl (planeOf datagram) refl
       where
         go : (fits : Bool) → stateFits s ≡ fits → (plane : PlaneAnswer) → planeOf datagram ≡ plane → handedIn s datagram .state ≡ s
@@ -127,7 +127,7 @@ start-refused-same k room w answer w′ refusal h e = go (startFits k room (w .m
 
 pub query-refused-same : (w : World) (out : List ℕ) (r : WriteAnswer) (out′ : List ℕ) (w′ : World) (refusal : Refusal) → Performed (query out) w (ofQuery r out′) w′ → r ≡ WriteAnswer.Refused refusal
     → (w′ ≡ w) × (out′ ≡ out)
-unfolding after
+unfolding afterUnder
 query-refused-same w out r out′ w′ refusal h e = (h .world-is, go (stateFits (w .state)) refl (noRoom (length (queryBytes (w .state))) (length out)) refl)
   where
     go : (fits : Bool) → stateFits (w .state) ≡ fits → (full : Bool) → noRoom (length (queryBytes (w .state))) (length out) ≡ full → out′ ≡ out

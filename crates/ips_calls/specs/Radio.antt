@@ -5,13 +5,14 @@ use mathlib.Core.List.{List}
 use mathlib.Core.Path.{_≡_}
 use Rattle.quantity.specs.declared.count.DatalinkId.{DatalinkId}
 use Rattle.quantity.specs.declared.refusal.Refusal.{Refusal}
+use Rattle.quantity.specs.Limits.{Limits, CURRENT-LIMITS}
 use Rattle.quantity.specs.Refusals.{OUTSIDE-LIMITS}
 use Rattle.meaning.specs.declared.message.End.the-variants as ends
 use Rattle.meaning.specs.declared.message.Control.{Control}
 use Rattle.reader.specs.Readings.{Verdict, ControlReading, DataReading, readControl, readData, planeOf}
 use Rattle.reader.specs.declared.answer.PlaneAnswer.{PlaneAnswer}
 use Rattle.ips_state.specs.State.{State}
-use Rattle.ips_state.specs.Limits.{stateFits}
+use Rattle.ips_state.specs.Limits.{stateFitsUnder}
 use Rattle.ips_radio.specs.Heard.{heardBy, dueOf}
 use Rattle.ips_radio.specs.declared.RadioAnswer.{RadioAnswer}
 
@@ -47,11 +48,14 @@ byPlane PlaneAnswer.Control s control data′ = control
 byPlane PlaneAnswer.Data s control data′ = data′
 byPlane (PlaneAnswer.Refused refusal) s control data′ = refusedHeard refusal s
 
-unfoldable pub handedIn : State → List ℕ → AfterRadio
-handedIn s datagram =
-    cond (stateFits s)
+unfoldable pub handedInUnder : Limits → State → List ℕ → AfterRadio
+handedInUnder limits s datagram =
+    cond (stateFitsUnder limits s)
     (byPlane (planeOf datagram) s (controlHeard (readControl ends.Radio (s .datalink) datagram) s) (dataHeard (readData ends.Radio (s .datalink) datagram) s))
     (refusedHeard (record { number = OUTSIDE-LIMITS; place = 0 }) s)
+
+abbrev pub handedIn : State → List ℕ → AfterRadio
+handedIn s datagram = handedInUnder CURRENT-LIMITS s datagram
 
 -- ---- "A radio message handed in: as for reading": what reading the datagram refuses it by, number and place
 pub data ReadingRefuses (datalink : DatalinkId) (datagram : List ℕ) (refusal : Refusal) : Type 0 where

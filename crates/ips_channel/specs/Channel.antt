@@ -4,6 +4,7 @@ use mathlib.Core.Bool.{cond}
 use mathlib.Core.List.{List, []}
 use Rattle.quantity.specs.declared.count.DatalinkId.{DatalinkId}
 use Rattle.quantity.specs.declared.count.FlowSequence.{FlowSequence}
+use Rattle.quantity.specs.Limits.{LONGEST-PACKET}
 use Rattle.meaning.specs.declared.message.Status.{Status}
 use Rattle.meaning.specs.declared.message.Window.{Window}
 use Rattle.store.specs.declared.queue.Queue.{Queue}
@@ -14,9 +15,12 @@ use Rattle.ips_channel_rules.specs.Machine.{machine}
 use Rattle.ips_channel.specs.declared.state.Setting.{Setting}
 use Rattle.ips_channel.specs.declared.state.Channel.{Channel}
 
--- ---- how a channel is configured, as the rules take it
+-- ---- how a channel is configured, as the rules take it, by the longest packet
+abbrev pub termsUnder : (longest : ℕ) → DatalinkId → Setting → Terms
+termsUnder longest datalink setting = record { datalink = datalink; id = setting .id; controlled = setting .controlled; size = setting .size .0; longest = longest }
+
 abbrev pub termsOf : DatalinkId → Setting → Terms
-termsOf datalink setting = record { datalink = datalink; id = setting .id; controlled = setting .controlled; size = setting .size .0 }
+termsOf datalink setting = termsUnder LONGEST-PACKET datalink setting
 
 -- ---- a channel and its store as a condition, however untidy they are behind what waits
 unfoldable pub conditionOf : Channel → List ℕ → Condition machine

@@ -21,6 +21,7 @@ use Rattle.ips_channel_rules.specs.Rules.{ChannelCall, offer, next, withdraw, T
 use Rattle.ips_channel_rules.specs.Machine.{WordCounter, machine, freshMachine}
 use Rattle.ips_channel_rules.specs.Exactly.{Offered, offered-not-ipv6, offered-long, offered-early, offered-past, offered-full, offered-taken, Asked, asked-early, asked-nothing, asked-not-operational, asked-shut, asked-no-room, asked-sent}
 use Rattle.ips_channel_rules.proofs.Exact.{offered, asked, withdraw-is}
+use Rattle.ips_channel_rules.proofs.Limits.{machine-limited, short-both}
 use Rattle.ips_channel.specs.declared.state.Setting.{Setting}
 use Rattle.ips_channel.specs.declared.state.Channel.{Channel}
 use Rattle.ips_channel.specs.Channel.{termsOf, conditionOf, withCondition, heardOf, freshChannel}
@@ -88,7 +89,7 @@ module _ (c : Channel) (store : List ℕ) (ready : Ready c store) where
   Left : {A : Type 0} → Result machine A → Type 0
   Left r = Again c (r .condition) (channelAfter c r) (storeAfter c store r)
 
-  module _ (k : Terms) (sized : k .size ≡ c .setting .size .0) where
+  module _ (k : Terms) (longest : k .longest ≡ LONGEST-PACKET) (sized : k .size ≡ c .setting .size .0) where
     by-offer : {p : Packet} {time : ℕ} (r : Result machine Taken) → Offered machine k p time (conditionOf c store) r → Left r
     unfolding Left channelAfter storeAfter
     by-offer _ (offered-not-ipv6 v) = unchanged
@@ -97,7 +98,7 @@ module _ (c : Channel) (store : List ℕ) (ready : Ready c store) where
     by-offer _ (offered-past v l t x) = unchanged
     by-offer _ (offered-full v l t x f) = unchanged
     by-offer {p} {time} _ (offered-taken v l t x f) =
-        changed _ (fit-join (c .setting .size .0) (alive time (conditionOf c store .keeping)) p (alive-fit time) (offered-within p v l) (rw sized at f))
+        changed _ (fit-join (c .setting .size .0) (alive time (conditionOf c store .keeping)) p (alive-fit time) (offered-within p v (rw longest at (short-both machine machine-limited k _ l .0))) (rw sized at f))
 
     by-next : {time room : ℕ} (r : Result machine Tried) → Asked machine k time room (conditionOf c store) r → Left r
     unfolding Left channelAfter storeAfter
@@ -112,8 +113,8 @@ module _ (c : Channel) (store : List ℕ) (ready : Ready c store) where
     -- after any call, refused ones among them
     pub after : (call : ChannelCall) → let r = resultOf datalink call c store in Again c (r .condition) (channelAfter c r) (storeAfter c store r)
     unfolding Left channelAfter storeAfter
-    after (offer p time) = by-offer (termsOf datalink (c .setting)) refl _ (offered machine (termsOf datalink (c .setting)) p time (conditionOf c store))
-    after (next time out) = by-next (termsOf datalink (c .setting)) refl _ (asked machine (termsOf datalink (c .setting)) time (length out) (conditionOf c store))
+    after (offer p time) = by-offer (termsOf datalink (c .setting)) refl refl _ (offered machine (termsOf datalink (c .setting)) p time (conditionOf c store))
+    after (next time out) = by-next (termsOf datalink (c .setting)) refl refl _ (asked machine (termsOf datalink (c .setting)) time (length out) (conditionOf c store))
     after withdraw = rw (withdraw-is machine (termsOf datalink (c .setting)) (conditionOf c store)) (changed _ (fit-none (c .setting .size .0)))
 
     pub after-call : {call : ChannelCall} {reply : Reply} {c′ : Channel} {store′ : List ℕ} → Serves datalink call c store reply c′ store′

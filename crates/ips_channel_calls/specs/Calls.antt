@@ -8,15 +8,15 @@ use Rattle.quantity.specs.declared.count.ByteCount.{ByteCount}
 use Rattle.quantity.specs.declared.count.DatalinkId.{DatalinkId}
 use Rattle.quantity.specs.declared.count.FlowSequence.{FlowSequence}
 use Rattle.quantity.specs.declared.refusal.Refusal.{Refusal}
-use Rattle.quantity.specs.Limits.{RESERVED-CHANNEL}
+use Rattle.quantity.specs.Limits.{RESERVED-CHANNEL, LONGEST-PACKET}
 use Rattle.wire.specs.Options.{over}
 use Rattle.store.specs.Packets.{Packet}
 use Rattle.store.specs.Moves.{Stretch, displaced, expiring, sending, withdrawing, unchanging}
 use Rattle.store.specs.Waiting.{packetsOf, storeOf, wellFormed}
-use Rattle.ips_channel_rules.specs.Rules.{ChannelCall, offer, next, withdraw, Taken, taken, Tried, nothingWaiting, notOperational, windowShut, sent, Emptied, emptied, Says, Answer, refused, answered, unlessRefused, Terms, Result, messageBytes, callAt}
+use Rattle.ips_channel_rules.specs.Rules.{ChannelCall, offer, next, withdraw, Taken, taken, Tried, nothingWaiting, notOperational, windowShut, sent, Emptied, emptied, Says, Answer, refused, answered, unlessRefused, Terms, longestOn, Result, messageBytes, callAt}
 use Rattle.ips_channel_rules.specs.Machine.{machine}
 use Rattle.ips_channel.specs.declared.state.Channel.{Channel}
-use Rattle.ips_channel.specs.Channel.{termsOf, conditionOf, withCondition}
+use Rattle.ips_channel.specs.Channel.{termsUnder, termsOf, conditionOf, withCondition}
 use Rattle.ips_channel_calls.specs.declared.offering.OfferAnswer.{OfferAnswer}
 use Rattle.ips_channel_calls.specs.declared.offering.WithdrawAnswer.{WithdrawAnswer}
 use Rattle.ips_channel_calls.specs.declared.asking.NextAnswer.{NextAnswer}
@@ -75,9 +75,16 @@ pub record Ready (c : Channel) (store : List ℕ) : Type 0 where
   pub well : wellFormed (c .queue) (c .setting .size .0) ≡ true
   pub size : length store ≡ c .setting .size .0
 
+-- 14 is given above `longest` on every channel whose store has `size` bytes, under the limits in force
+abbrev pub IsLongest : (size longest : ℕ) → Type 0
+IsLongest size longest = (k : Terms) → k .longest ≡ LONGEST-PACKET → k .size ≡ size → longestOn k ≡ longest
+
 -- by the rules
+abbrev pub resultUnder : (longest : ℕ) → DatalinkId → (call : ChannelCall) → Channel → List ℕ → Result machine (Says call)
+resultUnder longest datalink call c store = callAt machine (termsUnder longest datalink (c .setting)) call (conditionOf c store)
+
 abbrev pub resultOf : DatalinkId → (call : ChannelCall) → Channel → List ℕ → Result machine (Says call)
-resultOf datalink call c store = callAt machine (termsOf datalink (c .setting)) call (conditionOf c store)
+resultOf datalink call c store = resultUnder LONGEST-PACKET datalink call c store
 
 pub record Serves (datalink : DatalinkId) (call : ChannelCall) (c : Channel) (store : List ℕ) (reply : Reply) (c′ : Channel) (store′ : List ℕ) : Type 0 where
   pub reply-is : reply ≡ replyTo (termsOf datalink (c .setting)) call (resultOf datalink call c store .answer)

@@ -2,7 +2,7 @@
 ghost use mathlib.Core.Path.{_≡_};
 ghost use Rattle.store.specs.Packets.{packetFor};
 ghost use Rattle.ips_channel_rules.specs.Rules as rules;
-ghost use Rattle.ips_channel_calls.specs.Calls.{refusedWith, offered, withdrawn, Ready, ServesAnywhere, MovesAnywhere};
+ghost use Rattle.ips_channel_calls.specs.Calls.{refusedWith, offered, withdrawn, Ready, IsLongest, ServesAnywhere, MovesAnywhere};
 use ips_channel::state;
 use ips_channel::state::Channel;
 use quantity::count::ByteCount;
@@ -45,6 +45,16 @@ fn refused(channel: Channel, number: u8) -> OfferOutcome
     }
 }
 
+// How long a packet may be on a store of so many bytes: the smaller of the longest packet and the store.
+fn longest_on(size: usize) -> usize
+    ensures { λ r. ⌜ IsLongest size r ⌝ }
+{
+    if LONGEST_PACKET <= size {
+        return LONGEST_PACKET;
+    }
+    size
+}
+
 // 13 to 16, then the store's own judgement, 17, which changes nothing where it refuses.
 pub fn offer(
     channel: Channel,
@@ -60,7 +70,7 @@ pub fn offer(
     if !ipv6::is_ipv6(packet) {
         return refused(channel, refusal::NOT_IPV6);
     }
-    if packet.len() > LONGEST_PACKET {
+    if packet.len() > longest_on(store.len()) {
         return refused(channel, refusal::LONG_PACKET);
     }
     let latest = channel.latest;

@@ -19,8 +19,9 @@ use Rattle.store.specs.Packets.{Packet}
 use Rattle.ipv6.specs.FixedHeader.{FixedHeader}
 use Rattle.ipv6.proofs.FixedHeader.{ipv6-exactly}
 use Rattle.ips_channel_rules.specs.Rules.{taken, Tried, nothingWaiting, notOperational, windowShut, sent, Terms, ChannelParts, Condition, Result, messageBytes, refusal, left, grown, offerAt, nextAt}
-use Rattle.ips_channel_rules.specs.Limits.{NoPlace, Limited}
+use Rattle.ips_channel_rules.specs.Limits.{NoPlace, TooLong, Limited}
 use Rattle.ips_channel_rules.specs.FlowCases.{IsFree, IsShut, IsUnder}
+use Rattle.ips_channel_rules.proofs.Limits.{both-short, place-empty}
 use Rattle.ips_channel_rules.proofs.Exact.{offer-not-ipv6, offer-long, offer-early, offer-past, offer-full, offer-taken, next-early, next-nothing, next-not-operational, next-shut, next-no-room, next-sent}
 
 pub false-unless : (t : Bool) → (t ≡ true → ⊥) → t ≡ false
@@ -33,25 +34,33 @@ module _ (P : ChannelParts) (limited : Limited P) (k : Terms) (p : Packet) (time
   offer-thirteen not = offer-not-ipv6 P k p time st (false-unless _ (λ e. not (ipv6-exactly (p .bytes) .0 e)))
 
   module _ (header : FixedHeader (p .bytes)) where
-    pub offer-fourteen : 1500 < length (p .bytes) → offerAt P k p time st ≡ refusal P 14 st
-    offer-fourteen l = offer-long P k p time st (ipv6-exactly (p .bytes) .1 header) (rw (limited .longest k) l)
+    -- whatever time it is and whatever waits: 14 comes before 15 to 17
+    pub offer-fourteen : TooLong k (length (p .bytes)) → offerAt P k p time st ≡ refusal P 14 st
+    offer-fourteen l = offer-long P k p time st (ipv6-exactly (p .bytes) .1 header) (limited .long k _ .1 l)
 
-    module _ (short : length (p .bytes) ≤ 1500) where
+    module _ (short : length (p .bytes) ≤ k .longest) (room : length (p .bytes) ≤ k .size) where
+      passes : length (p .bytes) ≤ P .longest k
+      passes = both-short P limited k (length (p .bytes)) short room
+
       pub offer-fifteen : time < st .latest → offerAt P k p time st ≡ refusal P 15 st
-      offer-fifteen t = offer-early P k p time st (ipv6-exactly (p .bytes) .1 header) (rw (limited .longest k) short) t
+      offer-fifteen t = offer-early P k p time st (ipv6-exactly (p .bytes) .1 header) passes t
 
       module _ (t : st .latest ≤ time) where
         pub offer-sixteen : p .expiry ≤ time → offerAt P k p time st ≡ refusal P 16 st
-        offer-sixteen x = offer-past P k p time st (ipv6-exactly (p .bytes) .1 header) (rw (limited .longest k) short) t x
+        offer-sixteen x = offer-past P k p time st (ipv6-exactly (p .bytes) .1 header) passes t x
 
         module _ (x : time < p .expiry) where
           pub offer-seventeen : NoPlace (k .size) (P .waiting (P .expire time (st .keeping))) p → offerAt P k p time st ≡ refusal P 17 st
-          offer-seventeen n = offer-full P k p time st (ipv6-exactly (p .bytes) .1 header) (rw (limited .longest k) short) t x (limited .full-then k _ p n)
+          offer-seventeen n = offer-full P k p time st (ipv6-exactly (p .bytes) .1 header) passes t x (limited .full-then k _ p n)
 
           pub offer-joins : (NoPlace (k .size) (P .waiting (P .expire time (st .keeping))) p → ⊥)
               → offerAt P k p time st ≡ left P taken (st .counting) (P .join p (P .expire time (st .keeping))) time st
           offer-joins place =
-              offer-taken P k p time st (ipv6-exactly (p .bytes) .1 header) (rw (limited .longest k) short) t x (false-unless _ (λ f. place (limited .full-only k _ p f)))
+              offer-taken P k p time st (ipv6-exactly (p .bytes) .1 header) passes t x (false-unless _ (λ f. place (limited .full-only k _ p f)))
+
+          -- where nothing waits after expiry, a packet that passes 13 to 16 is taken
+          pub offer-where-none-waits : P .waiting (P .expire time (st .keeping)) ≡ [] → offerAt P k p time st ≡ left P taken (st .counting) (P .join p (P .expire time (st .keeping))) time st
+          offer-where-none-waits w = offer-joins (place-empty P limited k p time st w room)
 
 -- ---- how long Next's message is: the header of 1 byte, Datalink Identifier and Channel Identifier of 4 each, and 3 before the packet; a Flow Sequence takes 8 more
 pub size-free : (k : Terms) (packet : List ℕ) → length (messageBytes k Sequence.Absent packet) ≡ 12 + length packet

@@ -27,7 +27,7 @@ module _ (P : ChannelParts) (k : Terms) where
     offer-not-ipv6 v = simp v
 
     module _ (v : isIpv6 (p .bytes) ≡ true) where
-      -- "14: packet over 1,500 bytes"
+      -- "14 is given above the smaller of 9,000 and the store's length"
       pub offer-long : P .longest k < length (p .bytes) → offerAt P k p time st ≡ refusal P LONG-PACKET st
       unfolding offerAt
       offer-long l = simp (v, lt-ltb (P .longest k) (length (p .bytes)) l)

@@ -5,6 +5,7 @@ use mathlib.Core.List.{List, [], _∷_, _++_, map}
 use mathlib.Core.Path.{_≡_}
 use lib.ListN.{replicate}
 use Rattle.quantity.specs.declared.count.FlowSequence.{FlowSequence}
+use Rattle.quantity.specs.Limits.{LONGEST-PACKET}
 use Rattle.meaning.specs.declared.message.Status.the-variants as statuses
 use Rattle.meaning.specs.declared.message.Sequence.{Sequence}
 use Rattle.meaning.specs.declared.message.Window.{Window}
@@ -12,26 +13,30 @@ use Rattle.ips_channel_rules.specs.Rules.{offer, next, withdraw, Taken, 
 
 -- ---- a row, and when it is right
 
--- the life of a fresh channel; of a flow-controlled one with its first sequence
+-- the life of a fresh channel, with a store of 1,500 bytes or of this length; of a flow-controlled one with its first sequence
 pub data Life : Type 0 where
   plain : List Happened → Life
+  plainStoring : (size : ℕ) → List Happened → Life
   controlled : (first : ℕ) → List Happened → Life
 
 abbrev pub story : Life → List Happened
 story (plain happened) = happened
+story (plainStoring size happened) = happened
 story (controlled first happened) = happened
 
 abbrev pub eventOf : Happened → Event
 eventOf (called c answer) = call c
 eventOf (heard status window) = radio status window
 
-abbrev pub terms : Bool → Terms
-terms isControlled = record { datalink = record { 0 = 7 }; id = 3; controlled = isControlled; size = 1500 }
+-- with the longest packet of the limits in force, so that the rows with 9,000 and 9,001 bytes pin it
+abbrev pub terms : Bool → (size : ℕ) → Terms
+terms isControlled size = record { datalink = record { 0 = 7 }; id = 3; controlled = isControlled; size = size; longest = LONGEST-PACKET }
 
 -- the same events on a channel made of these parts, with the answers that the rules give
 abbrev pub lived : (P : ChannelParts) → (Bool → FlowSequence → Condition P) → Life → List Happened
-lived P fresh (plain happened) = history P (terms false) (map eventOf happened) (fresh false (record { 0 = 0 }))
-lived P fresh (controlled first happened) = history P (terms true) (map eventOf happened) (fresh true (record { 0 = first }))
+lived P fresh (plain happened) = history P (terms false 1500) (map eventOf happened) (fresh false (record { 0 = 0 }))
+lived P fresh (plainStoring size happened) = history P (terms false size) (map eventOf happened) (fresh false (record { 0 = 0 }))
+lived P fresh (controlled first happened) = history P (terms true 1500) (map eventOf happened) (fresh true (record { 0 = first }))
 
 -- the answers of every row are those that the rules give
 abbrev pub AllRight : (P : ChannelParts) → (Bool → FlowSequence → Condition P) → List Life → Type 0
@@ -201,7 +206,9 @@ table =
     ∷ offers (headed 6 0 41) 100 0 (refused 13)
     ∷ offers (packetOf 40) 100 0 took
     ∷ [])
-    -- number 14: "packet over 1,500 bytes"
+    -- number 14: "above the smaller of 9,000 and the store's length, so long packets need a long store"
+    ∷ plainStoring 65536 (offers (packetOf 9001) 100 0 (refused 14) ∷ offers (packetOf 9000) 100 0 took ∷ [])
+    ∷ plainStoring 8999 (offers (packetOf 9000) 100 0 (refused 14) ∷ offers (packetOf 8999) 100 0 took ∷ [])
     ∷ plain (offers (packetOf 1501) 100 0 (refused 14) ∷ offers (packetOf 1500) 100 0 took ∷ [])
     -- number 15: "time before this channel's latest", which is that of the last accepted Offer or Next
     ∷ plain
@@ -233,14 +240,16 @@ table =
     ∷ replicate 31 (offers (packetOf 40) 100 0 took)
     ++ (offers (packetOf 40) 100 5 (refused 17) ∷ offers (packetOf 40) 100 6 took ∷ offers (packetOf 40) 100 6 (refused 17) ∷ []))
     -- "offering a packet: .. 13, 14, 15, 16, 17"
-    ∷ plain
+    ∷ plainStoring 10000
     (replicate 31 (offers (packetOf 40) 100 5 took)
-    ++ (offers (headed 5 1461 1501) 4 4 (refused 13)
-    ∷ offers (packetOf 1501) 4 4 (refused 14)
-    ∷ offers (packetOf 1500) 4 4 (refused 15)
-    ∷ offers (packetOf 1500) 5 5 (refused 16)
-    ∷ offers (packetOf 1500) 6 5 (refused 17)
+    ++ (offers (headed 5 8961 9001) 4 4 (refused 13)
+    ∷ offers (packetOf 9001) 4 4 (refused 14)
+    ∷ offers (packetOf 9000) 4 4 (refused 15)
+    ∷ offers (packetOf 9000) 5 5 (refused 16)
+    ∷ offers (packetOf 9000) 6 5 (refused 17)
     ∷ []))
+    -- a packet longer than the store is 14 and never 17, though 32 wait
+    ∷ plain (replicate 32 (offers (packetOf 40) 100 0 took) ++ (offers (packetOf 1501) 100 0 (refused 14) ∷ offers (packetOf 40) 100 0 (refused 17) ∷ []))
     -- "every packet of that channel whose expiry is at or before the time given is expired, wherever it waits"
     ∷ plain
     (states 7 Window.Absent

@@ -2,12 +2,11 @@
 use mathlib.Core.Bool.{Bool}
 use mathlib.Core.List.{List, [], _∷_, _++_, tail}
 use Rattle.quantity.specs.declared.count.FlowSequence.{FlowSequence}
-use Rattle.quantity.specs.Limits.{LONGEST-PACKET}
 use Rattle.meaning.specs.declared.message.Status.the-variants as statuses
 use Rattle.store.specs.Packets.{Packet, alive, isFull}
 use Rattle.flow.specs.declared.Flow.{Flow}
 use Rattle.flow.specs.Counting.{mayGo, sequenceOn, carriedBy, flowAfter, firstFlow}
-use Rattle.ips_channel_rules.specs.Rules.{ChannelParts, Condition}
+use Rattle.ips_channel_rules.specs.Rules.{ChannelParts, Condition, longestOn}
 
 pub record WordCounter : Type 0 where
   pub flow : Flow
@@ -27,7 +26,7 @@ machine =
       join = λ p ps. ps ++ (p ∷ []);
       send = tail;
       clear = λ ps. [];
-      longest = λ k. LONGEST-PACKET;
+      longest = longestOn;
       full = λ k ps p. isFull (k .size) ps p;
     }
 

@@ -65,12 +65,17 @@ pub data Happened : Type 0 where
   called : (c : ChannelCall) → Answer (Says c) → Happened
   heard : Status → Window → Happened
 
--- ---- how a channel is configured, with its datalink
+-- ---- how a channel is configured, with its datalink and the longest packet that the endpoint takes
 pub record Terms : Type 0 where
   pub datalink : DatalinkId
   pub id : ℕ
   pub controlled : Bool
   pub size : ℕ
+  pub longest : ℕ
+
+-- number 14: "above the smaller of 9,000 and the store's length"
+abbrev pub longestOn : Terms → ℕ
+longestOn k = cond (leb (k .longest) (k .size)) (k .longest) (k .size)
 
 -- ---- what a channel is made of
 pub record ChannelParts : Type 1 where

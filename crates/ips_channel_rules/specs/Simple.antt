@@ -6,13 +6,12 @@ use mathlib.Core.List.{List, [], _∷_, _++_, map}
 use lib.IntN.{ℤ, pos}
 use lib.Signed.{leZ}
 use Rattle.quantity.specs.declared.count.FlowSequence.{FlowSequence}
-use Rattle.quantity.specs.Limits.{LONGEST-PACKET}
 use Rattle.quantity.specs.Window.{sequenceAt, standingAt}
 use Rattle.meaning.specs.declared.message.Status.the-variants as statuses
 use Rattle.meaning.specs.declared.message.Sequence.{Sequence}
 use Rattle.meaning.specs.declared.message.Window.{Window}
 use Rattle.store.specs.Packets.{Packet, lastsAt, isFull}
-use Rattle.ips_channel_rules.specs.Rules.{ChannelParts, Condition}
+use Rattle.ips_channel_rules.specs.Rules.{ChannelParts, Condition, longestOn}
 
 -- ---- counting
 
@@ -114,7 +113,7 @@ simple =
       join = λ p ledger. ledger ++ (record { packet = p; fate = waits } ∷ []);
       send = sendFirst;
       clear = map (become (λ p. withdrawn));
-      longest = λ k. LONGEST-PACKET;
+      longest = longestOn;
       full = λ k ledger p. isFull (k .size) (having isWaiting ledger) p;
     }
 

@@ -18,7 +18,7 @@ use Rattle.flow.specs.Counting.{flowAfter}
 use Rattle.ips_channel.specs.declared.state.Channel.{Channel}
 use Rattle.ips_channel.specs.Channel.{heardOf}
 use Rattle.ips_state.specs.State.{State, channelAt, noChannel}
-use Rattle.ips_state.specs.Limits.{flowFits, channelFits, allFit, ids, namesFit, stateFits, sizes}
+use Rattle.ips_state.specs.Limits.{flowFits, channelFits, allFitUnder, allFit, ids, namesFit, stateFits, sizes}
 use Rattle.ips_state.specs.Memory.{startOf}
 use Rattle.ips_radio.specs.Heard.{statusIn, windowIn, keptInstance, heardFrom, heardBy}
 use Rattle.ips_state.proofs.Channels.{getD-mapped, fitting, fitting-fits}
@@ -64,7 +64,7 @@ module _ (message : Control) where
         })
 
     all-heard : (cs : List Channel) → allFit cs ≡ true → allFit (map (heardFrom message) cs) ≡ true
-    unfolding allFit
+    unfolding allFitUnder
     all-heard [] fits = refl
     all-heard (c ∷ cs) fits = let parts = and-eq-true-iff (channelFits c) (allFit cs) .0 fits in rw (fits-heard c (parts .0), all-heard cs (parts .1))
 

@@ -6,14 +6,14 @@ use Rattle.meaning.specs.declared.message.Control.{Control}
 use Rattle.ips_channel_rules.specs.Rules.{Event, Terms, Condition}
 use Rattle.ips_channel_rules.specs.Machine.{machine}
 use Rattle.ips_state.specs.Memory.{World}
-use Rattle.ips_run.specs.Run.{Call, on, radio, query, partOf, acceptedBy, after, acceptedAll, sees, seesAll}
+use Rattle.ips_run.specs.Run.{Call, on, radio, query, partOf, acceptedUnder, acceptedBy, after, acceptedAll, sees, seesAll}
 use Rattle.ips_run.specs.Datagrams.{acceptedWithin, acceptedAllWithin, seesWithin, seesAllWithin}
 use Rattle.ips_run.specs.Demand.{BytesIn, RuledIn}
 use Rattle.ips_run.proofs.Project.{accepted-here, step-follows}
 
 module _ (k : Terms) (count index : ℕ) (inside : index < count) where
   accepted-one : (w : World) (st : Condition machine) → RuledIn k count index w st → (c : Call) → acceptedBy c w ≡ acceptedWithin (k .datalink) c
-  unfolding acceptedBy
+  unfolding acceptedUnder
   accepted-one w st p (on id c) = refl
   accepted-one w st p (radio datagram) = accepted-here k count index inside w st p datagram
   accepted-one w st p (query out) = refl

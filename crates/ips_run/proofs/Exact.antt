@@ -24,8 +24,8 @@ use Rattle.ips_state.specs.Limits.{ids, stateFits}
 use Rattle.ips_state.specs.Memory.{memoryFits, World, worldFits, isConfigured, indexIn, channelIn, storeIn}
 use Rattle.ips_state.proofs.Channels.{stands-among, ids-length, ids-at}
 use Rattle.ips_state.proofs.Places.{with-back, store-back, index-one}
-use Rattle.ips_run.specs.Calling.{termsIn, conditionIn, resultIn, WorldResult, refusing, atChannel, calling, Judged, outside, unknown, served}
-use Rattle.ips_run.specs.Run.{radio, ifAccepted, ifControl, acceptedIn, acceptedBy, after}
+use Rattle.ips_run.specs.Calling.{termsIn, conditionIn, resultIn, WorldResult, refusing, atChannel, callingUnder, calling, Judged, outside, unknown, served}
+use Rattle.ips_run.specs.Run.{radio, ifAccepted, ifControl, acceptedIn, acceptedUnder, acceptedBy, afterUnder, after}
 
 -- the ID of a configured channel is among the IDs
 pub named : (w : World) (index id : ℕ) → index < length (w .state .channels) → channelIn w index .setting .id ≡ id → isConfigured w id ≡ true
@@ -36,16 +36,16 @@ named w index id inside e =
 module _ (id : ℕ) (c : ChannelCall) (w : World) where
   -- ---- given the conditions, the outcome
   pub gives-configuration : worldFits w ≡ false → calling id c w ≡ refusing OUTSIDE-LIMITS w
-  unfolding calling
+  unfolding callingUnder
   gives-configuration e = rw e
 
   module _ (fits : worldFits w ≡ true) where
     pub gives-no-channel : isConfigured w id ≡ false → calling id c w ≡ refusing NO-CHANNEL w
-    unfolding calling
+    unfolding callingUnder
     gives-no-channel e = rw (fits, e)
 
     pub serves : isConfigured w id ≡ true → calling id c w ≡ atChannel c w (indexIn w id)
-    unfolding calling
+    unfolding callingUnder
     serves e = rw (fits, e)
 
     -- the channel of the ID, wherever it stands
@@ -56,7 +56,7 @@ module _ (id : ℕ) (c : ChannelCall) (w : World) where
 
   -- ---- given an outcome, the conditions
   pub judged : Judged id c w (calling id c w)
-  unfolding calling
+  unfolding callingUnder
   judged = first (worldFits w) refl
     where
       second : (t : Bool) → worldFits w ≡ true → isConfigured w id ≡ t → Judged id c w (cond (not t) (refusing NO-CHANNEL w) (atChannel c w (indexIn w id)))
@@ -156,15 +156,15 @@ module _ (datalink : DatalinkId) (datagram : List ℕ) where
 
 module _ (w : World) (datagram : List ℕ) where
   pub accepted-fits : stateFits (w .state) ≡ true → acceptedBy (radio datagram) w ≡ acceptedIn (w .state .datalink) datagram
-  unfolding acceptedBy
+  unfolding acceptedUnder
   accepted-fits e = rw e
 
   pub accepted-outside : stateFits (w .state) ≡ false → acceptedBy (radio datagram) w ≡ []
-  unfolding acceptedBy
+  unfolding acceptedUnder
   accepted-outside e = rw e
 
   pub unaccepted-same : acceptedBy (radio datagram) w ≡ [] → after (radio datagram) w ≡ w
-  unfolding after
+  unfolding afterUnder
   unaccepted-same e = rw e
 
   pub outside-same : stateFits (w .state) ≡ false → after (radio datagram) w ≡ w

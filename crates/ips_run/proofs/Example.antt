@@ -7,7 +7,7 @@ use native.Mathlib.Omega.{arith}
 use Rattle.ips_channel_rules.specs.Rules.{history}
 use Rattle.ips_channel_rules.specs.Simple.{simple}
 use Rattle.ips_state.specs.State.{ChannelStart, Configuration, startAt}
-use Rattle.ips_state.specs.Limits.{distinct, startsFit, startIds, configurationFits}
+use Rattle.ips_state.specs.Limits.{distinct, startsFit, startIds, configurationFitsUnder, configurationFits}
 use Rattle.ips_run.specs.Run.{Call}
 use Rattle.ips_run.specs.Demand.{BytesIn, ruled, seen, happened, simplyAt}
 use Rattle.ips_run.proofs.Whole.{whole-history}
@@ -19,7 +19,7 @@ abbrev two : Configuration
 two = record { datalink = record { 0 = 1 }; starts = start 7 ∷ start 0 ∷ [] }
 
 two-fit : configurationFits two ≡ true
-unfolding configurationFits startsFit startIds distinct
+unfolding configurationFitsUnder startsFit startIds distinct
 two-fit = refl
 
 two-small : startAt two 0 .first .0 < 2 ^ 32

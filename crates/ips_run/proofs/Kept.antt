@@ -16,7 +16,7 @@ use Rattle.ips_state.specs.State.{Configuration, State, withChannel, freshState
 use Rattle.ips_radio.specs.Heard.{keptInstance, heardBy, dueOf}
 use Rattle.ips_state.specs.Memory.{World}
 use Rattle.ips_run.specs.Calling.{WorldResult, Judged, outside, unknown, served}
-use Rattle.ips_run.specs.Run.{Call, on, radio, query, acceptedBy, hearEach, after, afterAll, acceptedAll, freshWorld}
+use Rattle.ips_run.specs.Run.{Call, on, radio, query, acceptedUnder, acceptedBy, hearEach, afterUnder, after, afterAll, acceptedAll, freshWorld}
 use Rattle.ips_run.specs.Demand.{reached}
 use Rattle.ips_run.specs.Kept.{givenIn, lastOr, ifInstance, lastInstance, contextBefore, ifContext, lastContext, Comes, is-first, in-length, in-bytes, MobilityDue, first-or-differs, after-gap}
 use Rattle.ips_run.proofs.Exact.{judged}
@@ -42,7 +42,7 @@ module _ {A : Type 0} (part : State → A) (gives : Control → List A) (hears :
   kept-heard (m ∷ ms) s = kept-heard ms (heardBy m s) ∙ rw (hears m s) (sym (last-append (part s) (gives m) (givenIn gives ms)))
 
   kept-after : (c : Call) (w : World) → part (after c w .state) ≡ lastOr (part (w .state)) (givenIn gives (acceptedBy c w))
-  unfolding after acceptedBy
+  unfolding afterUnder acceptedUnder
   kept-after (on id c) w = kept-called id c w (judged id c w)
   kept-after (radio datagram) w = kept-heard (acceptedBy (radio datagram) w) (w .state)
   kept-after (query out) w = refl

@@ -1,6 +1,7 @@
 -- Any sequence of calls.
 pub mod Exact
 pub mod Serving
+pub mod Ordered
 pub mod Hearing
 pub mod Project
 pub mod Datagrams

@@ -16,7 +16,7 @@ use Rattle.ips_channel_rules.proofs.Leaves.{final-append}
 use Rattle.ips_state.specs.Memory.{World, worldFits, isConfigured, indexIn, channelIn}
 use Rattle.ips_state.proofs.Places.{found, index-one}
 use Rattle.ips_run.specs.Calling.{termsIn, WorldResult, calling, Judged, outside, unknown, served}
-use Rattle.ips_run.specs.Run.{Call, on, radio, query, ifOwn, partOf, partHeard, acceptedIn, acceptedBy, hearEach, after, afterAll, sees, seesAll, happensTo, happensAll}
+use Rattle.ips_run.specs.Run.{Call, on, radio, query, ifOwn, partOf, partHeard, acceptedIn, acceptedBy, hearEach, afterUnder, after, afterAll, sees, seesAll, happensTo, happensAll}
 use Rattle.ips_run.specs.Demand.{bytesIn, BytesIn, RuledIn, Follows, Untouched}
 use Rattle.ips_run.proofs.Exact.{serves-at, judged, accepted-fits}
 use Rattle.ips_run.proofs.Serving.{here, served-order, ruled-same, at-other, store-other, ruled-other}
@@ -120,14 +120,14 @@ module _ (k : Terms) (count index : ℕ) (inside : index < count) (w : World) (s
 
   -- ONE CALL
   pub step-follows : (c : Call) → bytesIn c → Follows k count index (after c w) (happensTo (k .id) c w) (sees (k .id) c w) st
-  unfolding after
+  unfolding afterUnder
   step-follows (on id c) b = any-call id c
   step-follows (radio datagram) b = rw (accepted-here datagram) (heard-by (brings (k .datalink) datagram b))
   step-follows (query out) b = unmoved
 
   -- what the channel doesn't see (a call on another, a radio message that is not accepted, a query) changes no byte of it
   pub untouched : (c : Call) → sees (k .id) c w ≡ [] → Untouched index w (after c w)
-  unfolding after
+  unfolding afterUnder
   untouched (on id c) unseen = call-untouched id c (unseen-other (k .id) id (rules.call c) unseen)
   untouched (radio datagram) unseen = rw (unseen-unaccepted (k .id) (acceptedBy (radio datagram) w) unseen) (record { channel = refl; store = refl })
   untouched (query out) unseen = record { channel = refl; store = refl }

@@ -3,23 +3,30 @@
 use Prim.Native.Nat.{ℕ}
 use mathlib.Core.Bool.{true, false, cond, not}
 use mathlib.Core.Path.{_≡_}
+use Rattle.quantity.specs.Limits.{LONGEST-PACKET, Limits, CURRENT-LIMITS}
 use Rattle.quantity.specs.Refusals.{NO-CHANNEL, OUTSIDE-LIMITS}
 use Rattle.ips_channel_rules.specs.Rules.{ChannelCall, Says, Answer, refused, Terms, Condition, Result}
 use Rattle.ips_channel_rules.specs.Machine.{machine}
-use Rattle.ips_channel.specs.Channel.{termsOf, conditionOf}
-use Rattle.ips_channel_calls.specs.Calls.{channelAfter, storeAfter, resultOf}
+use Rattle.ips_channel.specs.Channel.{termsUnder, conditionOf}
+use Rattle.ips_channel_calls.specs.Calls.{channelAfter, storeAfter, resultUnder}
 use Rattle.ips_state.specs.State.{withChannel}
-use Rattle.ips_state.specs.Memory.{withStore, World, worldFits, isConfigured, indexIn, channelIn, storeIn}
+use Rattle.ips_state.specs.Memory.{withStore, World, worldFitsUnder, worldFits, isConfigured, indexIn, channelIn, storeIn}
 
 -- ---- the channel at an index of the configuration: how it is configured, the condition that it is in, and what the rules give for a call on it
+abbrev pub termsInUnder : (longest : ℕ) → World → ℕ → Terms
+termsInUnder longest w index = termsUnder longest (w .state .datalink) (channelIn w index .setting)
+
 abbrev pub termsIn : World → ℕ → Terms
-termsIn w index = termsOf (w .state .datalink) (channelIn w index .setting)
+termsIn w index = termsInUnder LONGEST-PACKET w index
 
 abbrev pub conditionIn : World → ℕ → Condition machine
 conditionIn w index = conditionOf (channelIn w index) (storeIn w index)
 
+abbrev pub resultInUnder : (longest : ℕ) (c : ChannelCall) → World → ℕ → Result machine (Says c)
+resultInUnder longest c w index = resultUnder longest (w .state .datalink) c (channelIn w index) (storeIn w index)
+
 abbrev pub resultIn : (c : ChannelCall) → World → ℕ → Result machine (Says c)
-resultIn c w index = resultOf (w .state .datalink) c (channelIn w index) (storeIn w index)
+resultIn c w index = resultInUnder LONGEST-PACKET c w index
 
 -- ---- what a call comes to: the answer of the rules, and the world that it leaves
 pub record WorldResult (A : Type 0) : Type 0 where
@@ -39,14 +46,20 @@ puttingBack r w index =
     }
 
 -- a call on the channel at an index, and on its store
+abbrev pub atChannelUnder : (longest : ℕ) (c : ChannelCall) → World → ℕ → WorldResult (Says c)
+atChannelUnder longest c w index = record { answer = resultInUnder longest c w index .answer; world = puttingBack (resultInUnder longest c w index) w index }
+
 abbrev pub atChannel : (c : ChannelCall) → World → ℕ → WorldResult (Says c)
-atChannel c w index = record { answer = resultIn c w index .answer; world = puttingBack (resultIn c w index) w index }
+atChannel c w index = atChannelUnder LONGEST-PACKET c w index
 
 -- 19, 12, then the call
-unfoldable pub calling : (id : ℕ) (c : ChannelCall) → World → WorldResult (Says c)
-calling id c w =
-    cond (not (worldFits w)) (refusing OUTSIDE-LIMITS w)
-    (cond (not (isConfigured w id)) (refusing NO-CHANNEL w) (atChannel c w (indexIn w id)))
+unfoldable pub callingUnder : Limits → (id : ℕ) (c : ChannelCall) → World → WorldResult (Says c)
+callingUnder limits id c w =
+    cond (not (worldFitsUnder limits w)) (refusing OUTSIDE-LIMITS w)
+    (cond (not (isConfigured w id)) (refusing NO-CHANNEL w) (atChannelUnder (limits .packet) c w (indexIn w id)))
+
+abbrev pub calling : (id : ℕ) (c : ChannelCall) → World → WorldResult (Says c)
+calling id c w = callingUnder CURRENT-LIMITS id c w
 
 -- the same by what is given: number 19, number 12, or what the channel judges
 pub data Judged (id : ℕ) (c : ChannelCall) (w : World) : WorldResult (Says c) → Type 0 where

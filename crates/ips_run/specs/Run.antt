@@ -5,6 +5,7 @@ use mathlib.Core.List.{List, [], _∷_, _++_, map}
 use lib.ListN.{replicate}
 use lib.Dec.{eqb}
 use Rattle.quantity.specs.declared.count.DatalinkId.{DatalinkId}
+use Rattle.quantity.specs.Limits.{Limits, CURRENT-LIMITS}
 use Rattle.meaning.specs.declared.message.End.the-variants as ends
 use Rattle.meaning.specs.declared.message.Control.{Control}
 use Rattle.reader.specs.Readings.{Verdict, readControl, planeOf}
@@ -12,10 +13,10 @@ use Rattle.reader.specs.declared.answer.PlaneAnswer.{PlaneAnswer}
 use Rattle.ips_channel_rules.specs.Rules as rules
 use Rattle.ips_channel_rules.specs.Rules.{ChannelCall, Event, Happened}
 use Rattle.ips_state.specs.State.{Configuration, State, freshState}
-use Rattle.ips_state.specs.Limits.{sizes, stateFits}
+use Rattle.ips_state.specs.Limits.{sizes, stateFitsUnder}
 use Rattle.ips_state.specs.Memory.{World}
 use Rattle.ips_radio.specs.Heard.{heardBy, statusIn, windowIn}
-use Rattle.ips_run.specs.Calling.{calling}
+use Rattle.ips_run.specs.Calling.{callingUnder, calling}
 
 -- ---- the calls: on the channel of an ID, a radio message handed in, a query
 pub data Call : Type 0 where
@@ -38,20 +39,26 @@ unfoldable pub acceptedIn : DatalinkId → List ℕ → List Control
 acceptedIn datalink datagram = ifControl (planeOf datagram) (ifAccepted (readControl ends.Radio datalink datagram .verdict) (readControl ends.Radio datalink datagram .message))
 
 -- "A radio message handed in": 19, then "as for reading"
-unfoldable pub acceptedBy : Call → World → List Control
-acceptedBy (on id c) w = []
-acceptedBy (radio datagram) w = cond (stateFits (w .state)) (acceptedIn (w .state .datalink) datagram) []
-acceptedBy (query out) w = []
+unfoldable pub acceptedUnder : Limits → Call → World → List Control
+acceptedUnder limits (on id c) w = []
+acceptedUnder limits (radio datagram) w = cond (stateFitsUnder limits (w .state)) (acceptedIn (w .state .datalink) datagram) []
+acceptedUnder limits (query out) w = []
+
+abbrev pub acceptedBy : Call → World → List Control
+acceptedBy c w = acceptedUnder CURRENT-LIMITS c w
 
 -- ---- what a call leaves
 abbrev pub hearEach : List Control → State → State
 hearEach [] s = s
 hearEach (message ∷ messages) s = hearEach messages (heardBy message s)
 
-unfoldable pub after : Call → World → World
-after (on id c) w = calling id c w .world
-after (radio datagram) w = record { state = hearEach (acceptedBy (radio datagram) w) (w .state); memory = w .memory }
-after (query out) w = w
+unfoldable pub afterUnder : Limits → Call → World → World
+afterUnder limits (on id c) w = callingUnder limits id c w .world
+afterUnder limits (radio datagram) w = record { state = hearEach (acceptedUnder limits (radio datagram) w) (w .state); memory = w .memory }
+afterUnder limits (query out) w = w
+
+abbrev pub after : Call → World → World
+after c w = afterUnder CURRENT-LIMITS c w
 
 abbrev pub afterAll : List Call → World → World
 afterAll [] w = w

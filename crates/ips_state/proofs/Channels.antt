@@ -18,7 +18,7 @@ use Rattle.writable.specs.Allowed.{statusAllowed}
 use Rattle.store.specs.Waiting.{wellFormed}
 use Rattle.ips_channel.specs.declared.state.Channel.{Channel}
 use Rattle.ips_state.specs.State.{noChannel}
-use Rattle.ips_state.specs.Limits.{settingFits, flowFits, channelFits, allFit, ids, distinct, sizes, indexOf}
+use Rattle.ips_state.specs.Limits.{settingFits, flowFits, channelFitsUnder, channelFits, allFitUnder, allFit, ids, distinct, sizes, indexOf}
 
 pub same-or-not : (m n : ℕ) → (m ≡ n) ⊎ (m ≡ n → ⊥)
 same-or-not m n = go (ℕ-discrete m n)
@@ -137,11 +137,11 @@ distinct-by (x ∷ xs) h = rw (alone (among x xs) refl, distinct-by xs (λ i j k
 
 -- ---- channels
 all-rest : (c : Channel) (cs : List Channel) → allFit (c ∷ cs) ≡ true → (channelFits c ≡ true) × (allFit cs ≡ true)
-unfolding allFit
+unfolding allFitUnder
 all-rest c cs e = and-eq-true-iff (channelFits c) (allFit cs) .0 e
 
 pub all-join : (xs ys : List Channel) → allFit (xs ++ ys) ≡ (allFit xs && allFit ys)
-unfolding allFit
+unfolding allFitUnder
 all-join [] ys = refl
 all-join (x ∷ xs) ys = rw (all-join xs ys, and-assoc)
 
@@ -151,12 +151,12 @@ all-at (c ∷ cs) zero h e = all-rest c cs e .0
 all-at (c ∷ cs) (suc i) h e = all-at cs i (omega arith) (all-rest c cs e .1)
 
 pub all-by : (cs : List Channel) → ((i : ℕ) → i < length cs → channelFits (getD cs i noChannel) ≡ true) → allFit cs ≡ true
-unfolding allFit
+unfolding allFitUnder
 all-by [] h = refl
 all-by (c ∷ cs) h = rw (h 0 (omega arith), all-by cs (λ i k. h (suc i) (omega arith)))
 
 pub all-set : (cs : List Channel) (i : ℕ) (c : Channel) → allFit cs ≡ true → channelFits c ≡ true → allFit (set cs i c) ≡ true
-unfolding allFit
+unfolding allFitUnder
 all-set [] i c e h = refl
 all-set (x ∷ cs) zero c e h = rw (h, all-rest x cs e .1)
 all-set (x ∷ cs) (suc i) c e h = rw (all-rest x cs e .0, all-set cs i c (all-rest x cs e .1) h)
@@ -212,7 +212,7 @@ pub record ChannelFit (c : Channel) : Type 0 where
   pub well-formed : wellFormed (c .queue) (c .setting .size .0) ≡ true
 
 pub fitting : (c : Channel) → channelFits c ≡ true → ChannelFit c
-unfolding channelFits
+unfolding channelFitsUnder
 fitting c e =
     let a = and-eq-true-iff (settingFits (c .setting)) _ .0 e in
     let b = and-eq-true-iff (ltb (c .setting .id) RESERVED-CHANNEL) _ .0 (a .0) in
@@ -222,7 +222,7 @@ fitting c e =
     record { unreserved = ltb-true _ _ (b .0); smallest = leb-true _ _ (d .0); largest = leb-true _ _ (d .1); status-allowed = f .0; flow-fits = g .0; well-formed = g .1 }
 
 pub fitting-fits : (c : Channel) → ChannelFit c → channelFits c ≡ true
-unfolding channelFits
+unfolding channelFitsUnder
 fitting-fits c f =
     rw (lt-ltb _ _ (f .unreserved), le-leb _ _ (f .smallest), le-leb _ _ (f .largest), f .status-allowed, f .flow-fits, f .well-formed)
 

@@ -14,12 +14,12 @@ use lib.Seq.{length-take-le, getD-take, getD-set-same, getD-set-other, set-getD,
 use Rattle.quantity.specs.declared.count.ByteCount.{ByteCount}
 use Rattle.quantity.specs.Limits.{FEWEST-CHANNELS, MOST-CHANNELS}
 use Rattle.meaning.specs.Kinds.{among}
-use Rattle.store.specs.Waiting.{waiting, total, listed, queueOf, allWithin, wellFormed}
+use Rattle.store.specs.Waiting.{waiting, total, listed, queueOf, allWithinUnder, wellFormedUnder}
 use Rattle.flow.specs.Counting.{firstFlow}
 use Rattle.ips_channel.specs.declared.state.Channel.{Channel}
 use Rattle.ips_channel.specs.Channel.{freshChannel}
 use Rattle.ips_state.specs.State.{ChannelStart, Configuration, State, noStart, noChannel, channelAt, withChannel, freshOf, freshState, blankState}
-use Rattle.ips_state.specs.Limits.{flowFits, channelFits, allFit, ids, distinct, channelsFit, countFits, namesFit, stateFits, settingFits, startsFit, startIds, configurationFits, sizes, indexOf}
+use Rattle.ips_state.specs.Limits.{flowFits, channelFitsUnder, channelFits, allFitUnder, allFit, ids, distinct, channelsFitUnder, countFits, namesFit, stateFitsUnder, stateFits, settingFits, startsFit, startIds, configurationFitsUnder, configurationFits, sizes, indexOf}
 use Rattle.ips_state.specs.Memory.{memoryFits, startOf, storeAt, withStore}
 use Rattle.ips_state.proofs.Channels.{getD-mapped, index-none, index-stands, distinct-index, all-at, all-set, ids-length, ids-at, ids-set, sizes-room, sizes-set, sizes-all, ChannelFit, fitting}
 
@@ -51,7 +51,7 @@ pub record StateFit (s : State) : Type 0 where
   pub primary : among 0 (ids (s .channels)) ≡ true
 
 pub fit : (s : State) → stateFits s ≡ true → StateFit s
-unfolding stateFits channelsFit
+unfolding stateFitsUnder channelsFitUnder
 fit s e =
     let a = and-eq-true-iff (countFits (length (s .channels))) _ .0 e in
     let b = and-eq-true-iff (leb FEWEST-CHANNELS (length (s .channels))) _ .0 (a .0) in
@@ -61,12 +61,12 @@ fit s e =
     record { some = leb-true _ _ (b .0); few = leb-true _ _ (b .1); names = d .0; each = f .0; apart = g .0; primary = g .1 }
 
 pub fit-fits : (s : State) → StateFit s → stateFits s ≡ true
-unfolding stateFits channelsFit
+unfolding stateFitsUnder channelsFitUnder
 fit-fits s f = rw (le-leb _ _ (f .some), le-leb _ _ (f .few), f .names, f .each, f .apart, f .primary)
 
 -- a state with no channel is outside the limits
 pub blank-unfit : stateFits blankState ≡ false
-unfolding stateFits blankState
+unfolding stateFitsUnder blankState
 blank-unfit = refl
 
 module _ (s : State) (fits : stateFits s ≡ true) where
@@ -230,7 +230,7 @@ module _ (s : State) (index : ℕ) (memory : List ℕ) where
 
 -- ---- a fresh start is within the limits exactly where its configuration is
 fresh-fits-one : (k : ChannelStart) → channelFits (freshOf k) ≡ settingFits (k .setting)
-unfolding channelFits freshChannel wellFormed waiting queueOf listed allWithin total
+unfolding channelFitsUnder freshChannel wellFormedUnder waiting queueOf listed allWithinUnder total
 fresh-fits-one k = rw (leb·zero (k .setting .size .0), plain (k .setting .controlled)) (and-true (settingFits (k .setting)))
   where
     plain : (controlled : Bool) → flowFits controlled (firstFlow controlled) ≡ true
@@ -238,7 +238,7 @@ fresh-fits-one k = rw (leb·zero (k .setting .size .0), plain (k .setting .contr
     plain false = refl
 
 fresh-fits-all : (ks : List ChannelStart) → allFit (map freshOf ks) ≡ startsFit ks
-unfolding allFit startsFit
+unfolding allFitUnder startsFit
 fresh-fits-all [] = refl
 fresh-fits-all (k ∷ ks) = rw (fresh-fits-one k, fresh-fits-all ks)
 
@@ -257,5 +257,5 @@ module _ (k : Configuration) where
   fresh-at index inside = getD-mapped freshOf (k .starts) index noStart noChannel inside
 
   pub fresh-fits : stateFits (freshState k) ≡ configurationFits k
-  unfolding stateFits namesFit freshState channelsFit configurationFits
+  unfolding stateFitsUnder namesFit freshState channelsFitUnder configurationFitsUnder
   fresh-fits = rw (length-map (k .starts) freshOf, fresh-fits-all (k .starts), fresh-ids (k .starts))

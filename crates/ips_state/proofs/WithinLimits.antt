@@ -19,7 +19,7 @@ use Rattle.meaning.specs.Kinds.{lengthListed}
 use Rattle.writable.specs.Allowed.{instanceAllowed, contextAllowed, statusAllowed}
 use Rattle.store.specs.declared.queue.Entry.{Entry}
 use Rattle.store.specs.declared.queue.Queue.{Queue}
-use Rattle.store.specs.Waiting.{waiting, noEntry, within, allWithin, wellFormed}
+use Rattle.store.specs.Waiting.{waiting, noEntry, within, allWithinUnder, allWithin, wellFormedUnder, wellFormed}
 use Rattle.flow.specs.declared.Flow.{Flow}
 use Rattle.ips_channel.specs.declared.state.Channel.{Channel}
 use Rattle.ips_state.specs.State.{State, channelAt}
@@ -33,25 +33,25 @@ Lengths : List Entry → Type 0
 Lengths es = (k : ℕ) → k < length es → (SHORTEST-PACKET ≤ getD es k noEntry .length .0) × (getD es k noEntry .length .0 ≤ LONGEST-PACKET)
 
 lengths-within : (es : List Entry) → Lengths es → allWithin es ≡ true
-unfolding allWithin Lengths
+unfolding allWithinUnder Lengths
 lengths-within [] h = refl
 lengths-within (e ∷ es) h =
     let first = h 0 (omega arith) in
     rw (le-leb _ _ (first .0), le-leb _ _ (first .1), lengths-within es (λ k l. h (suc k) (omega arith)))
 
 within-lengths : (es : List Entry) → allWithin es ≡ true → Lengths es
-unfolding allWithin Lengths
+unfolding allWithinUnder Lengths
 within-lengths [] e k h = absurd (omega arith)
 within-lengths (x ∷ es) e zero h =
     let parts = and-eq-true-iff (leb SHORTEST-PACKET (x .length .0)) _ .0 (and-eq-true-iff (within (x .length .0)) (allWithin es) .0 e .0) in (leb-true _ _ (parts .0), leb-true _ _ (parts .1))
 within-lengths (x ∷ es) e (suc k) h = within-lengths es (and-eq-true-iff (within (x .length .0)) (allWithin es) .0 e .1) k (omega arith)
 
 queue-fits : (queue : Queue) (size : ℕ) → QueueWithin queue size → wellFormed queue size ≡ true
-unfolding wellFormed Lengths
+unfolding wellFormedUnder Lengths
 queue-fits queue size w = rw (le-leb _ _ (w .few), lengths-within (waiting queue) (w .lengths), le-leb _ _ (w .room))
 
 fits-queue : (queue : Queue) (size : ℕ) → wellFormed queue size ≡ true → QueueWithin queue size
-unfolding wellFormed Lengths
+unfolding wellFormedUnder Lengths
 fits-queue queue size e =
     let a = and-eq-true-iff (leb (queue .count) MOST-WAITING && allWithin (waiting queue)) _ .0 e in
     let b = and-eq-true-iff (leb (queue .count) MOST-WAITING) _ .0 (a .0) in

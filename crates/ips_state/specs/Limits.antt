@@ -1,17 +1,17 @@
 -- Number 19: "configuration: channel count, ID 255, an ID twice, no channel 0, store length, a Datalink ID without meaning in 3.3.1" (each has one there); "in any
 -- call that takes them, a state outside these limits (a configuration in it that would be refused, a kept Link Instance or Context outside its lengths, a status
 -- above 15, more than 32 waiting, a waiting length outside 40 to 1,500, waiting bytes over the store, a plain channel not free) or a lent memory whose length
--- isn't the sum of the stores".
+-- isn't the sum of the stores". Document 02: "19 moves with the limits", which are parameters here.
 use Prim.Native.Nat.{ℕ, suc, _+_}
 use mathlib.Core.Bool.{Bool, true, false, cond, not, _&&_}
 use mathlib.Core.List.{List, [], _∷_, map}
 use lib.ListN.{length}
 use lib.Dec.{eqb, leb, ltb}
-use Rattle.quantity.specs.Limits.{FEWEST-CHANNELS, MOST-CHANNELS, RESERVED-CHANNEL, SMALLEST-STORE, LARGEST-STORE}
+use Rattle.quantity.specs.Limits.{FEWEST-CHANNELS, MOST-CHANNELS, LONGEST-PACKET, RESERVED-CHANNEL, SMALLEST-STORE, LARGEST-STORE, Limits, CURRENT-LIMITS}
 use Rattle.meaning.specs.declared.message.End.the-variants as ends
 use Rattle.meaning.specs.Kinds.{among}
 use Rattle.writable.specs.Allowed.{instanceAllowed, contextAllowed, statusAllowed}
-use Rattle.store.specs.Waiting.{wellFormed}
+use Rattle.store.specs.Waiting.{wellFormedUnder}
 use Rattle.flow.specs.declared.Flow.{Flow}
 use Rattle.ips_channel.specs.declared.state.Setting.{Setting}
 use Rattle.ips_channel.specs.declared.state.Channel.{Channel}
@@ -28,14 +28,14 @@ flowFits false Flow.Free = true
 flowFits false Flow.NoWindow = false
 flowFits false (Flow.InForce window) = false
 
-unfoldable pub channelFits : Channel → Bool
-channelFits c =
+unfoldable pub channelFitsUnder : (longest : ℕ) → Channel → Bool
+channelFitsUnder longest c =
     settingFits (c .setting)
-    && (statusAllowed ends.Radio (c .status) && (flowFits (c .setting .controlled) (c .flow) && wellFormed (c .queue) (c .setting .size .0)))
+    && (statusAllowed ends.Radio (c .status) && (flowFits (c .setting .controlled) (c .flow) && wellFormedUnder longest (c .queue) (c .setting .size .0)))
 
-unfoldable pub allFit : List Channel → Bool
-allFit [] = true
-allFit (c ∷ cs) = channelFits c && allFit cs
+unfoldable pub allFitUnder : (longest : ℕ) → List Channel → Bool
+allFitUnder longest [] = true
+allFitUnder longest (c ∷ cs) = channelFitsUnder longest c && allFitUnder longest cs
 
 -- ---- the channels together: "an ID twice", "no channel 0"
 unfoldable pub ids : List Channel → List ℕ
@@ -45,20 +45,20 @@ unfoldable pub distinct : List ℕ → Bool
 distinct [] = true
 distinct (n ∷ ns) = not (among n ns) && distinct ns
 
-unfoldable pub channelsFit : List Channel → Bool
-channelsFit cs = allFit cs && (distinct (ids cs) && among 0 (ids cs))
+unfoldable pub channelsFitUnder : (longest : ℕ) → List Channel → Bool
+channelsFitUnder longest cs = allFitUnder longest cs && (distinct (ids cs) && among 0 (ids cs))
 
 -- "channel count"
-abbrev pub countFits : ℕ → Bool
-countFits n = leb FEWEST-CHANNELS n && leb n MOST-CHANNELS
+abbrev pub countFitsUnder : (most n : ℕ) → Bool
+countFitsUnder most n = leb FEWEST-CHANNELS n && leb n most
 
 -- "a kept Link Instance or Context outside its lengths": as a radio control message may state them
 unfoldable pub namesFit : State → Bool
 namesFit s = instanceAllowed ends.Radio (s .instance) && contextAllowed ends.Radio (s .context)
 
 -- A STATE WITHIN THE LIMITS
-unfoldable pub stateFits : State → Bool
-stateFits s = countFits (length (s .channels)) && (namesFit s && channelsFit (s .channels))
+unfoldable pub stateFitsUnder : Limits → State → Bool
+stateFitsUnder limits s = countFitsUnder (limits .channels) (length (s .channels)) && (namesFit s && channelsFitUnder (limits .packet) (s .channels))
 
 -- the same of a configuration: "channel count, ID 255, an ID twice, no channel 0, store length"
 unfoldable pub startsFit : List ChannelStart → Bool
@@ -68,10 +68,29 @@ startsFit (k ∷ ks) = settingFits (k .setting) && startsFit ks
 unfoldable pub startIds : List ChannelStart → List ℕ
 startIds ks = map (λ (k : ChannelStart). k .setting .id) ks
 
-unfoldable pub configurationFits : Configuration → Bool
-configurationFits k =
-    countFits (length (k .starts))
+unfoldable pub configurationFitsUnder : (most : ℕ) → Configuration → Bool
+configurationFitsUnder most k =
+    countFitsUnder most (length (k .starts))
     && (startsFit (k .starts) && (distinct (startIds (k .starts)) && among 0 (startIds (k .starts))))
+
+-- ---- the same under the limits in force
+abbrev pub channelFits : Channel → Bool
+channelFits c = channelFitsUnder LONGEST-PACKET c
+
+abbrev pub allFit : List Channel → Bool
+allFit cs = allFitUnder LONGEST-PACKET cs
+
+abbrev pub channelsFit : List Channel → Bool
+channelsFit cs = channelsFitUnder LONGEST-PACKET cs
+
+abbrev pub countFits : ℕ → Bool
+countFits n = countFitsUnder MOST-CHANNELS n
+
+abbrev pub stateFits : State → Bool
+stateFits s = stateFitsUnder CURRENT-LIMITS s
+
+abbrev pub configurationFits : Configuration → Bool
+configurationFits k = configurationFitsUnder MOST-CHANNELS k
 
 -- ---- "one store .. for each channel, all of them end to end in configuration order in one lent memory"
 unfoldable pub sizes : List Channel → ℕ

@@ -5,10 +5,11 @@ use mathlib.Core.Bool.{Bool, _&&_}
 use mathlib.Core.List.{List, _++_}
 use lib.ListN.{length, take, drop}
 use lib.Dec.{eqb}
+use Rattle.quantity.specs.Limits.{Limits, CURRENT-LIMITS}
 use Rattle.meaning.specs.Kinds.{among}
 use Rattle.ips_channel.specs.declared.state.Channel.{Channel}
 use Rattle.ips_state.specs.State.{State, channelAt}
-use Rattle.ips_state.specs.Limits.{ids, indexOf, sizes, stateFits}
+use Rattle.ips_state.specs.Limits.{ids, indexOf, sizes, stateFitsUnder}
 
 -- "a lent memory whose length isn't the sum of the stores" is refused by 19
 unfoldable pub memoryFits : State → List ℕ → Bool
@@ -30,8 +31,11 @@ pub record World : Type 0 where
   pub memory : List ℕ
 
 -- what 19 asks of them
+abbrev pub worldFitsUnder : Limits → World → Bool
+worldFitsUnder limits w = stateFitsUnder limits (w .state) && memoryFits (w .state) (w .memory)
+
 abbrev pub worldFits : World → Bool
-worldFits w = stateFits (w .state) && memoryFits (w .state) (w .memory)
+worldFits w = worldFitsUnder CURRENT-LIMITS w
 
 -- a channel is found by its ID, wherever it stands in the configuration
 abbrev pub isConfigured : World → ℕ → Bool

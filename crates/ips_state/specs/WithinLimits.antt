@@ -14,10 +14,10 @@ use Rattle.flow.specs.declared.Flow.{Flow}
 use Rattle.ips_channel.specs.declared.state.Channel.{Channel}
 use Rattle.ips_state.specs.State.{State, channelAt}
 
--- "more than 32 waiting, a waiting length outside 40 to 1,500, waiting bytes over the store"
+-- "more than 32 waiting, a waiting length outside 40 to" 9,000, "waiting bytes over the store"
 pub record QueueWithin (queue : Queue) (size : ℕ) : Type 0 where
   pub few : queue .count ≤ 32
-  pub lengths : (k : ℕ) → k < length (waiting queue) → (40 ≤ getD (waiting queue) k noEntry .length .0) × (getD (waiting queue) k noEntry .length .0 ≤ 1500)
+  pub lengths : (k : ℕ) → k < length (waiting queue) → (40 ≤ getD (waiting queue) k noEntry .length .0) × (getD (waiting queue) k noEntry .length .0 ≤ 9000)
   pub room : total (waiting queue) ≤ size
 
 -- "ID 255", "store length", "a status above 15", "a plain channel not free"
@@ -38,7 +38,7 @@ pub record NameWithin (value size : ℕ) : Type 0 where
 -- "channel count", "an ID twice", "no channel 0"
 pub record WithinLimits (s : State) : Type 0 where
   pub some : 1 ≤ length (s .channels)
-  pub few : length (s .channels) ≤ 16
+  pub few : length (s .channels) ≤ 64
   pub each : (index : ℕ) → index < length (s .channels) → ChannelWithin (channelAt s index)
   pub apart : (i j : ℕ) → i < length (s .channels) → j < length (s .channels) → channelAt s i .setting .id ≡ channelAt s j .setting .id → i ≡ j
   pub primary : ℕ

@@ -26,7 +26,7 @@ use Rattle.ips_state.specs.Limits.{stateFits}
 use Rattle.ips_state.specs.Memory.{World}
 use Rattle.ips_radio.specs.Heard.{statusIn, windowIn}
 use Rattle.ips_radio.proofs.Hearings.{status-heard}
-use Rattle.ips_run.specs.Run.{radio, ifAccepted, ifControl, acceptedIn, acceptedBy, hearEach, after}
+use Rattle.ips_run.specs.Run.{radio, ifAccepted, ifControl, acceptedIn, acceptedUnder, acceptedBy, hearEach, afterUnder, after}
 use Rattle.ips_run.proofs.Hearing.{Brings, nothing, message, brings}
 use Rattle.ips_words.specs.Words.{stateIn, statusValue, flowWindow}
 use Rattle.ips_words_radio.specs.HeardWords.{hearEachIn, Slender}
@@ -81,7 +81,7 @@ module _ (words datagram : List ℕ) (octets : Octets datagram) where
 
   -- THE LAW: they stand for the state after it
   pub radio-in : (memory : List ℕ) → let w : World = record { state = stateIn words; memory = memory } in stateIn (hearEachIn (acceptedBy (radio datagram) w) words) ≡ after (radio datagram) w .state
-  unfolding acceptedBy after
+  unfolding acceptedUnder afterUnder
   radio-in memory = go (stateFits (stateIn words)) refl
     where
       go : (b : Bool) → stateFits (stateIn words) ≡ b

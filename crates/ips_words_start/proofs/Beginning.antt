@@ -11,11 +11,11 @@ use Rattle.facts.proofs.Tests.{clash}
 use Rattle.quantity.specs.Limits.{FEWEST-CHANNELS, MOST-CHANNELS, RESERVED-CHANNEL}
 use Rattle.ips_state.specs.declared.StartAnswer.{StartAnswer}
 use Rattle.ips_state.specs.State.{freshOf, freshState}
-use Rattle.ips_state.specs.Limits.{startsFit, sizes, countFits, configurationFits}
+use Rattle.ips_state.specs.Limits.{startsFit, sizes, countFits, configurationFitsUnder, configurationFits}
 use Rattle.ips_state.specs.Memory.{memoryFits}
 use Rattle.ips_words.specs.Words.{word, wordsFor}
 use Rattle.ips_words_start.specs.declared.judge.Judged.{Judged}
-use Rattle.ips_words_start.specs.Start.{CONFIGURED-DATALINK, CONFIGURED-COUNT, START-ID, configurationLength, startWord, startIn, startsOf, startsSpelled, configurationOf, configurationReadable, configurationIn, headWords, slotsOf, freshWords, startsIn, notStarted, StartedIn, judgedBy, judgedOf, Startable}
+use Rattle.ips_words_start.specs.Start.{CONFIGURED-DATALINK, CONFIGURED-COUNT, START-ID, configurationLength, startWord, startIn, startsOf, startsSpelled, configurationOf, configurationReadable, configurationIn, headWords, slotsOf, freshWords, startsInUnder, startsIn, notStarted, StartedIn, judgedBy, judgedOf, Startable}
 use Rattle.ips_words_start.proofs.Starts.{starts-length, starts-at, setting-fit, starts-fit-at, first-at}
 use Rattle.ips_words_start.proofs.Judging.{says, unreadable}
 
@@ -53,7 +53,7 @@ module _ (w : List ℕ) where
     count-is = rw starts-are (starts-length w count)
 
     parts : (countFits count ≡ true) × (startsFit (startsOf w count) ≡ true)
-    unfolding configurationFits
+    unfolding configurationFitsUnder
     parts =
         let a = and-eq-true-iff (countFits (length (configurationIn w .starts))) _ .0 fits in
         let b = and-eq-true-iff (startsFit (configurationIn w .starts)) _ .0 (a .1) in
@@ -96,7 +96,7 @@ module _ (w : List ℕ) where
       refused-start e r not-started = record { answer-is = not-started ∙ rw e; words-are = rw e; memory-is = rw e }
 
       pub begin-unfit : judged .fits ≡ false → (r : StartAnswer) → r ≡ notStarted → StartedIn w words memory r words memory
-      unfolding startsIn
+      unfolding startsInUnder
       begin-unfit e = refused-start (rw (sym fits-is ∙ e))
 
       module _ (good : judged .fits ≡ true) where
@@ -104,19 +104,19 @@ module _ (w : List ℕ) where
         fits = judged-fits good
 
         pub begin-memory : (judged .total .0 ≡ length memory → ⊥) → (r : StartAnswer) → r ≡ notStarted → StartedIn w words memory r words memory
-        unfolding startsIn memoryFits
+        unfolding startsInUnder memoryFits
         begin-memory f =
             refused-start (rw (ne-eqb (length memory) (sizes (freshState (configurationIn w) .channels)) (λ e. f (stores-are good ∙ sym e)), and-false))
 
         module _ (held : judged .total .0 ≡ length memory) (counted : ℕ) (counted-is : counted ≡ count) where
           pub begin-words : (length words ≡ wordsFor counted → ⊥) → (r : StartAnswer) → r ≡ notStarted → StartedIn w words memory r words memory
-          unfolding startsIn
+          unfolding startsInUnder
           begin-words f =
               refused-start (rw (count-is fits, ne-eqb (length words) (wordsFor count) (λ e. f (e ∙ ap wordsFor (sym counted-is))), and-false, and-false))
 
           module _ (room : length words ≡ wordsFor counted) where
             starts : startsIn w words memory ≡ true
-            unfolding startsIn memoryFits
+            unfolding startsInUnder memoryFits
             starts =
                 rw (fits, count-is fits, eq-eqb (length memory) (sizes (freshState (configurationIn w) .channels)) (sym held ∙ stores-are good), eq-eqb (length words) (wordsFor count) (room ∙ ap wordsFor counted-is))
 

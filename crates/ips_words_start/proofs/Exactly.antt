@@ -20,7 +20,7 @@ use Rattle.ips_state.specs.Limits.{settingFits, startsFit, startIds, distinct, 
 use Rattle.ips_state.specs.Memory.{memoryFits}
 use Rattle.ips_state.proofs.Channels.{StandsAt, stands-among, index-stands, distinct-index, distinct-by}
 use Rattle.ips_words.specs.Words.{CONTROLLED, word, wordsFor, stateIn}
-use Rattle.ips_words_start.specs.Start.{CONFIGURED-DATALINK, CONFIGURED-COUNT, START-KIND, START-FIRST, configurationLength, startWord, startIn, startsOf, startsSpelled, configurationReadable, configurationIn, freshWords, startsIn, notStarted, StartedIn, togetherFit}
+use Rattle.ips_words_start.specs.Start.{CONFIGURED-DATALINK, CONFIGURED-COUNT, START-KIND, START-FIRST, configurationLength, startWord, startIn, startsOf, startsSpelled, configurationReadable, configurationIn, freshWords, startsInUnder, startsIn, notStarted, StartedIn, togetherFit}
 use Rattle.ips_words_start.specs.Exactly.{storesIn, StartsExactly}
 use Rattle.ips_words_start.proofs.Starts.{starts-length, starts-at, one-more, stores-more, setting-fit, starts-fit-at, spelled-at, first-at}
 use Rattle.ips_words_start.proofs.Judging.{counted}
@@ -97,7 +97,7 @@ module _ (w words memory : List ℕ) where
   number = word w CONFIGURED-COUNT
 
   pub starts-exactly : startsIn w words memory ≡ true → StartsExactly w words memory
-  unfolding startsIn memoryFits freshState
+  unfolding startsInUnder memoryFits freshState
   starts-exactly e =
       let a = and-eq-true-iff (configurationFits (configurationIn w)) _ .0 e in
       let b = and-eq-true-iff (eqb (length memory) (sizes (map freshOf (configurationIn w .starts)))) _ .0 (a .1) in
@@ -153,7 +153,7 @@ module _ (w words memory : List ℕ) where
     fits-by = counted w number refl readable-by ∙ rw (le-leb FEWEST-CHANNELS number (x .some), le-leb number MOST-CHANNELS (x .few), together-by)
 
     pub exactly-starts : startsIn w words memory ≡ true
-    unfolding startsIn memoryFits freshState
+    unfolding startsInUnder memoryFits freshState
     exactly-starts =
         rw (fits-by, starts-are w fits-by, starts-length w number, stores-all w number, eq-eqb (length memory) (storesIn w number) (x .stores), eq-eqb (length words) (wordsFor number) (x .room))
 
@@ -171,7 +171,7 @@ module _ (w words memory : List ℕ) where
 
     -- what a start leaves, and that a refusal is 19 and leaves every word and byte
     pub started-leaves : answer ≡ StartAnswer.Started → StartLeaves w memory words′ memory′
-    unfolding startsIn memoryFits
+    unfolding startsInUnder memoryFits
     started-leaves e =
         let fits = started-fits e in
         let a = and-eq-true-iff (configurationFits (configurationIn w)) _ .0 fits in

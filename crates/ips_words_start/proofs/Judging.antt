@@ -12,7 +12,7 @@ use lib.Seq.{take-all, length-take-le, getD-set-same, getD-set-other}
 use Rattle.quantity.specs.Limits.{FEWEST-CHANNELS, MOST-CHANNELS, LARGEST-STORE, CHANNEL-IDS}
 use Rattle.meaning.specs.Kinds.{among}
 use Rattle.ips_state.specs.State.{ChannelStart, freshOf, blankConfiguration}
-use Rattle.ips_state.specs.Limits.{settingFits, startsFit, startIds, distinct, sizes, countFits, configurationFits}
+use Rattle.ips_state.specs.Limits.{settingFits, startsFit, startIds, distinct, sizes, countFits, configurationFitsUnder, configurationFits}
 use Rattle.ips_state.proofs.Channels.{same-or-not, among-first, among-later, among-join, distinct-more, distinct-twice}
 use Rattle.ips_words.specs.Words.{word}
 use Rattle.ips_words_start.specs.Start.{CONFIGURATION-HEAD, CONFIGURATION-SLOT, CONFIGURED-DATALINK, CONFIGURED-COUNT, START-ID, START-KIND, START-FIRST, START-SIZE, configurationLength, startWord, startIn, startsOf, startSpelled, startsSpelled, startFits, configurationOf, configurationReadable, configurationIn, unfit, judgedBy, togetherFit, walked, judgedOf}
@@ -173,7 +173,7 @@ module _ (w : List ℕ) where
   unfit-judged e = out (configurationFits (configurationIn w)) (configurationIn w .starts) e
 
   pub unreadable : configurationReadable w ≡ false → configurationFits (configurationIn w) ≡ false
-  unfolding configurationIn blankConfiguration configurationFits
+  unfolding configurationIn blankConfiguration configurationFitsUnder
   unreadable e = rw e
 
   pub says : configurationReadable w ≡ true → configurationIn w ≡ configurationOf w
@@ -199,7 +199,7 @@ module _ (w : List ℕ) where
     judge-datalink h = unfit-judged (unreadable (other-datalink h))
 
     pub counted : configurationReadable w ≡ true → configurationFits (configurationIn w) ≡ (countFits count && togetherFit (startsOf w count))
-    unfolding configurationFits configurationOf togetherFit
+    unfolding configurationFitsUnder configurationOf togetherFit
     counted e = rw (says e, ← is, starts-length w count)
 
     pub judge-count : countFits count ≡ false → unfit ≡ judgedOf w

@@ -15,7 +15,7 @@ pub record StartsExactly (w words memory : List ℕ) : Type 0 where
   pub long : length w ≡ 2 + 4 * getD w 1 0
   pub datalink : getD w 0 0 < 256
   pub some : 1 ≤ getD w 1 0
-  pub few : getD w 1 0 ≤ 16
+  pub few : getD w 1 0 ≤ 64
   pub ids : (i : ℕ) → i < getD w 1 0 → getD w (2 + 4 * i) 0 < 255
   pub kinds : (i : ℕ) → i < getD w 1 0 → getD w (2 + 4 * i + 1) 0 ≤ 1
   pub firsts : (i : ℕ) → i < getD w 1 0 → getD w (2 + 4 * i + 2) 0 < 2 ^ 32

@@ -13,7 +13,7 @@ use Rattle.meaning.specs.Kinds.{among}
 use Rattle.ips_channel.specs.declared.state.Channel.{Channel}
 use Rattle.ips_state.specs.declared.StartAnswer.{StartAnswer}
 use Rattle.ips_state.specs.State.{ChannelStart, Configuration, freshOf, freshState, blankConfiguration}
-use Rattle.ips_state.specs.Limits.{settingFits, startsFit, startIds, distinct, sizes, configurationFits}
+use Rattle.ips_state.specs.Limits.{settingFits, startsFit, startIds, distinct, sizes, configurationFitsUnder, configurationFits}
 use Rattle.ips_state.specs.Memory.{memoryFits}
 use Rattle.ips_words.specs.Words.{CONTROLLED, ABSENT, word, wordsFor, channelWords}
 use Rattle.ips_words_start.specs.declared.judge.Judged.{Judged}
@@ -91,10 +91,13 @@ unfoldable pub freshWords : Configuration → List ℕ
 freshWords k = headWords (k .datalink .0) (length (k .starts)) ++ slotsOf (map freshOf (k .starts))
 
 -- ---- the call: 19 alone, "a lent memory whose length isn't the sum of the stores" and words that are not as many as the state's too
-unfoldable pub startsIn : (configuration words memory : List ℕ) → Bool
-startsIn configuration words memory =
-    configurationFits (configurationIn configuration)
+unfoldable pub startsInUnder : (most : ℕ) (configuration words memory : List ℕ) → Bool
+startsInUnder most configuration words memory =
+    configurationFitsUnder most (configurationIn configuration)
     && (memoryFits (freshState (configurationIn configuration)) memory && eqb (length words) (wordsFor (length (configurationIn configuration .starts))))
+
+abbrev pub startsIn : (configuration words memory : List ℕ) → Bool
+startsIn configuration words memory = startsInUnder MOST-CHANNELS configuration words memory
 
 abbrev pub notStarted : StartAnswer
 notStarted = StartAnswer.Refused (record { number = OUTSIDE-LIMITS; place = 0 })

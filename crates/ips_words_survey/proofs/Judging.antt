@@ -14,7 +14,7 @@ use Rattle.store.specs.Waiting.{waiting, within, wellFormed}
 use Rattle.store.proofs.Entries.{upcoming, nothing-left}
 use Rattle.store.proofs.Turns.{Judging, judge-start, judge-on, judge-out, judge-end, ill-many, ill-length}
 use Rattle.flow.specs.declared.Flow.{Flow}
-use Rattle.ips_state.specs.Limits.{flowFits, channelFits}
+use Rattle.ips_state.specs.Limits.{flowFits, channelFitsUnder, channelFits}
 use Rattle.ips_words.specs.Words.{CONTROLLED, FREE, NO-WINDOW, FIXED, ENTRY, WAITING, ID, SIZE, KIND, STATUS-TAG, STATUS-VALUE, FLOW-TAG, FLOW-WINDOW, word, statusOf, flowOf, queueIn, channelIn}
 use Rattle.ips_words.proofs.Entries.{entryFrom, entries-length, entries-waiting}
 use Rattle.ips_words_survey.specs.Survey.{plainFree}
@@ -32,7 +32,7 @@ plain-free kind tag window = go (eqb kind CONTROLLED) (eqb tag FREE) (eqb tag NO
 pub fits-in : (w : List ℕ) → channelFits (channelIn w)
     ≡ ((ltb (word w ID) RESERVED-CHANNEL && (leb SMALLEST-STORE (word w SIZE) && leb (word w SIZE) LARGEST-STORE))
     && (statusAllowed ends.Radio (statusOf (word w STATUS-TAG) (word w STATUS-VALUE)) && (plainFree (word w KIND) (word w FLOW-TAG) && wellFormed (queueIn w) (word w SIZE))))
-unfolding channelFits channelIn
+unfolding channelFitsUnder channelIn
 fits-in w = rw (plain-free (word w KIND) (word w FLOW-TAG) (word w FLOW-WINDOW))
 
 -- ---- the waiting entries, one by one

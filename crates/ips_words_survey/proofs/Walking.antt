@@ -14,7 +14,7 @@ use Rattle.quantity.specs.Limits.{FEWEST-CHANNELS, MOST-CHANNELS, LARGEST-STORE
 use Rattle.meaning.specs.Kinds.{among}
 use Rattle.ips_channel.specs.declared.state.Channel.{Channel}
 use Rattle.ips_state.specs.State.{State, noChannel, channelAt}
-use Rattle.ips_state.specs.Limits.{channelFits, allFit, ids, distinct, channelsFit, sizes, indexOf, namesFit, stateFits}
+use Rattle.ips_state.specs.Limits.{channelFits, allFitUnder, allFit, ids, distinct, channelsFitUnder, sizes, indexOf, namesFit, stateFitsUnder}
 use Rattle.ips_words_survey.specs.Survey.{unfit, surveyed, walked, surveyOf}
 use Rattle.ips_state.proofs.Channels.{among-first, among-later, among-join, index-first, index-here, index-past, index-none, index-stands, distinct-more, distinct-twice, all-join, ids-join, ids-length, sizes-join, sizes-most, same-or-not}
 
@@ -46,7 +46,7 @@ pub record Walking (id count : ℕ) (done : List Channel) (seen : List Bool) (to
   pub start-is : start ≡ cond (among id (ids done)) (sizes (take (indexOf id (ids done)) done)) 0
 
 pub walk-start : (id count : ℕ) → Walking id count [] (replicate BYTES false) 0 count 0
-unfolding allFit ids distinct sizes
+unfolding allFitUnder ids distinct sizes
 walk-start id count = record { full = length-replicate BYTES false; fit = refl; apart = refl; seen-is = λ k h. getD-replicate BYTES k false false h; total-is = refl; index-is = refl; start-is = refl }
 
 pub walk-most : (cs : List Channel) (at id count : ℕ) (seen : List Bool) (total index start : ℕ) → Walking id count (take at cs) seen total index start → total ≤ LARGEST-STORE * at
@@ -101,7 +101,7 @@ module _ (id count : ℕ) (done : List Channel) (seen : List Bool) (total index 
         → index′ ≡ cond (among id (ids (more done c new))) (indexOf id (ids (more done c new))) count
         → start′ ≡ cond (among id (ids (more done c new))) (sizes (take (indexOf id (ids (more done c new))) (more done c new))) 0
         → Walking id count (more done c new) (set seen (c .setting .id) true) (total + c .setting .size .0) index′ start′
-    unfolding allFit sizes
+    unfolding allFitUnder sizes
     walk-on index′ start′ i j = record {
       full = simp length-set (w .full);
       fit = all-join done (c ∷ []) ∙ rw (w .fit, fits);
@@ -134,22 +134,22 @@ module _ (id count : ℕ) (done : List Channel) (seen : List Bool) (total index 
   -- the way out at a channel whose ID was there before
   module _ (cs rest : List Channel) (d : cs ≡ done ++ (c ∷ rest)) where
     pub walk-twice : getD seen (c .setting .id) false ≡ true → unfit ≡ walked cs id
-    unfolding walked channelsFit ids
+    unfolding walked channelsFitUnder ids
     walk-twice e = rw (d, ids-join done (c ∷ rest), distinct-twice (ids done) (ids rest) (c .setting .id) (sym known ∙ e), and-false)
 
 -- a channel outside the limits, whatever its ID
 pub walk-unfit : (cs done rest : List Channel) (c : Channel) (id : ℕ) → cs ≡ done ++ (c ∷ rest) → channelFits c ≡ false → unfit ≡ walked cs id
-unfolding walked channelsFit allFit
+unfolding walked channelsFitUnder allFitUnder
 walk-unfit cs done rest c id d e = rw (d, all-join done (c ∷ rest), e, and-false)
 
 -- ---- all are passed
 module _ (id count : ℕ) (cs : List Channel) (seen : List Bool) (total index start : ℕ) (w : Walking id count cs seen total index start) where
   pub walk-none : getD seen 0 false ≡ false → unfit ≡ walked cs id
-  unfolding walked channelsFit
+  unfolding walked channelsFitUnder
   walk-none e = rw (w .fit, w .apart, sym (w .seen-is 0 (omega arith)) ∙ e)
 
   pub walk-end : getD seen 0 false ≡ true → count ≡ length cs → record { fits = true; total = record { 0 = total }; index = index; start = record { 0 = start } } ≡ walked cs id
-  unfolding walked channelsFit surveyed
+  unfolding walked channelsFitUnder surveyed
   walk-end e l = rw (w .fit, w .apart, sym (w .seen-is 0 (omega arith)) ∙ e, w .total-is, w .start-is, place)
     where
       last : (b : Bool) → among id (ids cs) ≡ b → cond b (indexOf id (ids cs)) count ≡ indexOf id (ids cs)
@@ -162,17 +162,17 @@ module _ (id count : ℕ) (cs : List Channel) (seen : List Bool) (total index st
 -- ---- the state's other limits, before the pass
 module _ (s : State) (id : ℕ) where
   pub survey-few : length (s .channels) < FEWEST-CHANNELS → unfit ≡ surveyOf s id
-  unfolding surveyOf stateFits
+  unfolding surveyOf stateFitsUnder
   survey-few h = rw (lt-leb FEWEST-CHANNELS (length (s .channels)) h)
 
   pub survey-many : MOST-CHANNELS < length (s .channels) → unfit ≡ surveyOf s id
-  unfolding surveyOf stateFits
+  unfolding surveyOf stateFitsUnder
   survey-many h = rw (lt-leb (length (s .channels)) MOST-CHANNELS h, and-false)
 
   pub survey-names : namesFit s ≡ false → unfit ≡ surveyOf s id
-  unfolding surveyOf stateFits
+  unfolding surveyOf stateFitsUnder
   survey-names e = rw (e, and-false)
 
   pub survey-walk : FEWEST-CHANNELS ≤ length (s .channels) → length (s .channels) ≤ MOST-CHANNELS → namesFit s ≡ true → walked (s .channels) id ≡ surveyOf s id
-  unfolding surveyOf stateFits walked
+  unfolding surveyOf stateFitsUnder walked
   survey-walk some few e = rw (le-leb FEWEST-CHANNELS (length (s .channels)) some, le-leb (length (s .channels)) MOST-CHANNELS few, e)

@@ -1,23 +1,23 @@
--- Document 01, "What the endpoint covers", Limits: the constants of src/limit.rt under their names, with `-` for `_`.
+-- Document 01, "What the endpoint covers", Limits, and document 02 where it moved them: the constants of src/limit.rt under their names, with `-` for `_`.
 use Prim.Native.Nat.{ℕ}
 
 -- "datagram up to 65,507 bytes"
 abbrev pub LONGEST-DATAGRAM : ℕ
 LONGEST-DATAGRAM = 65507
 
--- "1 to 16 configured channels"
+-- "1 to 16 configured channels"; document 02: "Raise channels to 64"
 abbrev pub FEWEST-CHANNELS : ℕ
 FEWEST-CHANNELS = 1
 
 abbrev pub MOST-CHANNELS : ℕ
-MOST-CHANNELS = 16
+MOST-CHANNELS = 64
 
--- "packet offered 40 to 1,500 bytes"
+-- "packet offered 40 to 1,500 bytes"; document 02: "and packets to 9,000 bytes"
 abbrev pub SHORTEST-PACKET : ℕ
 SHORTEST-PACKET = 40
 
 abbrev pub LONGEST-PACKET : ℕ
-LONGEST-PACKET = 1500
+LONGEST-PACKET = 9000
 
 -- "at most 32 packets waiting on a channel"
 abbrev pub MOST-WAITING : ℕ
@@ -48,3 +48,11 @@ SHORTEST-NAME = 1
 
 abbrev pub LONGEST-NAME : ℕ
 LONGEST-NAME = 8
+
+-- ---- the two limits that document 02 raised, as a parameter: so the limits before and those in force are two instances of one definition
+pub record Limits : Type 0 where
+  pub channels : ℕ
+  pub packet : ℕ
+
+abbrev pub CURRENT-LIMITS : Limits
+CURRENT-LIMITS = record { channels = MOST-CHANNELS; packet = LONGEST-PACKET }

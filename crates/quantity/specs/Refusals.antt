@@ -53,7 +53,7 @@ NO-CHANNEL = 12
 abbrev pub NOT-IPV6 : ℕ
 NOT-IPV6 = 13
 
--- packet over 1,500 bytes
+-- packet over the smaller of 9,000 bytes and the store's length (document 02; over 1,500 bytes in document 01)
 abbrev pub LONG-PACKET : ℕ
 LONG-PACKET = 14
 

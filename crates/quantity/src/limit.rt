@@ -1,13 +1,13 @@
-// The limits of document 01, once. specs/Limits.antt has the same names, with `-` for `_`.
+// The limits of document 01, and of document 02 where it moved them, once. specs/Limits.antt has the same names, with `-` for `_`.
 pub const LONGEST_DATAGRAM: usize = 65507;
 
 pub const FEWEST_CHANNELS: usize = 1;
 
-pub const MOST_CHANNELS: usize = 16;
+pub const MOST_CHANNELS: usize = 64;
 
 pub const SHORTEST_PACKET: usize = 40;
 
-pub const LONGEST_PACKET: usize = 1500;
+pub const LONGEST_PACKET: usize = 9000;
 
 pub const MOST_WAITING: usize = 32;
 

@@ -19,7 +19,7 @@ use Rattle.ips_state.specs.Limits.{stateFits}
 use Rattle.ips_state.specs.Memory.{World}
 use Rattle.ips_radio.specs.declared.RadioAnswer.{RadioAnswer}
 use Rattle.ips_radio.specs.Heard.{keptInstance, heardBy, dueOf}
-use Rattle.ips_run.specs.Run.{radio, acceptedBy, after}
+use Rattle.ips_run.specs.Run.{radio, acceptedUnder, afterUnder, after}
 use Rattle.ips_run.proofs.Kept.{no-gap}
 use Rattle.ips_calls.specs.Radio.{AfterRadio, handedIn}
 use Rattle.ips_calls.specs.Replies.{EndpointReply, ofRadio}
@@ -92,7 +92,7 @@ module _ (s : State) (fits : stateFits s ≡ true) (datagram : List ℕ) (octets
 -- ---- after a gap
 -- a message handed in leaves any memory that is lent with it
 with-any : {datagram : List ℕ} {w w′ : World} {x : EndpointReply} → Performed (radio datagram) w x w′ → PerformedWithAny (radio datagram) (w .state) x (w′ .state)
-unfolding after acceptedBy
+unfolding afterUnder acceptedUnder
 with-any h memory = record { reply-is = h .reply-is; world-is = ap (λ (w : World). lending (w .state) memory) (h .world-is) }
 
 answers : {f : Options} {w w′ : World} {answer : RadioAnswer} → HandedIn f w answer w′ → Answers f (w .state) answer (w′ .state)

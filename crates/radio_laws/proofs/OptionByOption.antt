@@ -37,7 +37,7 @@ use Rattle.ips_state.specs.Memory.{World}
 use Rattle.ips_state.proofs.Places.{channel-fitting-at}
 use Rattle.ips_radio.specs.Heard.{statusIn, windowIn, heardFrom, heardBy}
 use Rattle.ips_radio.proofs.Hearings.{heard-count, heard-at}
-use Rattle.ips_run.specs.Run.{radio, acceptedIn, after}
+use Rattle.ips_run.specs.Run.{radio, acceptedIn, afterUnder}
 use Rattle.ips_run.proofs.Exact.{heard-when, accepted-fits}
 use Rattle.ips_calls.specs.Replies.{EndpointReply}
 use Rattle.ips_calls.specs.Calls.{lending, PerformedWithAny}
@@ -153,7 +153,7 @@ module _ (s : State) (fits : stateFits s ≡ true) (datagram : List ℕ) (octets
     (f : Options) (a : Accepts planes.Control ends.Radio (s .datalink) datagram f) where
   module _ {x : EndpointReply} {s′ : State} (h : PerformedWithAny (radio datagram) s x s′) where
     pub left : s′ ≡ heardBy (controlMeaning ends.Radio f) s
-    unfolding after
+    unfolding afterUnder
     left = ap (λ (w : World). w .state) (h [] .world-is) ∙ rw (accepted-fits (lending s []) datagram fits, brings (s .datalink) datagram f a octets)
 
     after-is : (index : ℕ) → index < length (s .channels) → getD (s′ .channels) index noChannel ≡ heardFrom (controlMeaning ends.Radio f) (getD (s .channels) index noChannel)

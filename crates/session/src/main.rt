@@ -12,7 +12,9 @@ use endpoint::StartAnswer;
 use libc::STDOUT_FILENO;
 use lines::Found;
 use message_words::whole::refused;
+use quantity::limit::LARGEST_STORE;
 use quantity::limit::LONGEST_DATAGRAM;
+use quantity::limit::MOST_CHANNELS;
 use session_print::about_state;
 use session_read::Asked;
 use session_read::Command;
@@ -30,7 +32,7 @@ const ANSWER: usize = 140000;
 const BYTES: usize = 70000;
 
 // All stores that the endpoint takes.
-const MEMORY: usize = 1048576;
+const MEMORY: usize = MOST_CHANNELS * LARGEST_STORE;
 
 // Whether a state was started, and how much of the words and of the memory is lent with it.
 struct Held {

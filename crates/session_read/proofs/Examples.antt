@@ -55,6 +55,16 @@ nexta : askedOf 0 (110 ∷ 101 ∷ 120 ∷ 116 ∷ 97 ∷ 32 ∷ 51 ∷ 32 ∷ 4
 unfolding indexOf headOf tailOf digitOf stepOf followOf bySize plainOf parseOf pairsOf readableOf hexedOf spellsOf choiceOf valueOf bytesOf behindOf itemOf itemsOf listOf lastNumber itemOrListOf leftOutOf rowOf readBy goodBy namedOf itemsLeft commandOf keyOf itemsBehind saidIn keyIn shortened endOf askedBy startBy askedOf startOf storesOf memoryOf startFrom
 nexta = refl
 
+-- `query 4194304`, the most room
+query : askedOf 0 (113 ∷ 117 ∷ 101 ∷ 114 ∷ 121 ∷ 32 ∷ 52 ∷ 49 ∷ 57 ∷ 52 ∷ 51 ∷ 48 ∷ 52 ∷ []) ≡ Asked.State (Command.Query 4194304)
+unfolding indexOf headOf tailOf digitOf stepOf followOf bySize plainOf parseOf pairsOf readableOf hexedOf spellsOf choiceOf valueOf bytesOf behindOf itemOf itemsOf listOf lastNumber itemOrListOf leftOutOf rowOf readBy goodBy namedOf itemsLeft commandOf keyOf itemsBehind saidIn keyIn shortened endOf askedBy startBy askedOf startOf storesOf memoryOf startFrom
+query = refl
+
+-- `query 4194305`
+query-more : askedOf 0 (113 ∷ 117 ∷ 101 ∷ 114 ∷ 121 ∷ 32 ∷ 52 ∷ 49 ∷ 57 ∷ 52 ∷ 51 ∷ 48 ∷ 53 ∷ []) ≡ Asked.Bad
+unfolding indexOf headOf tailOf digitOf stepOf followOf bySize plainOf parseOf pairsOf readableOf hexedOf spellsOf choiceOf valueOf bytesOf behindOf itemOf itemsOf listOf lastNumber itemOrListOf leftOutOf rowOf readBy goodBy namedOf itemsLeft commandOf keyOf itemsBehind saidIn keyIn shortened endOf askedBy startBy askedOf startOf storesOf memoryOf startFrom
+query-more = refl
+
 -- `start 7 2 0 plain 0 1500 3 flow 4294967000 3000`
 abbrev line : List ℕ
 line = 115 ∷ 116 ∷ 97 ∷ 114 ∷ 116 ∷ 32 ∷ 55 ∷ 32 ∷ 50 ∷ 32 ∷ 48 ∷ 32 ∷ 112 ∷ 108 ∷ 97 ∷ 105 ∷ 110 ∷ 32 ∷ 48 ∷ 32 ∷ 49 ∷ 53 ∷ 48 ∷ 48 ∷ 32 ∷ 51 ∷ 32 ∷ 102 ∷ 108 ∷ 111 ∷ 119 ∷ 32 ∷ 52 ∷ 50 ∷ 57 ∷ 52 ∷ 57 ∷ 54 ∷ 55 ∷ 48 ∷ 48 ∷ 48 ∷ 32 ∷ 51 ∷ 48 ∷ 48 ∷ 48 ∷ []

@@ -2,9 +2,10 @@
 use mathlib.Core.Bool.{cond}
 use mathlib.Core.List.{List, [], _∷_, _++_}
 use mathlib.Core.Path.{_≡_}
-use Prim.Native.Nat.{ℕ, _-_, _^_, _<_, _≤_}
+use Prim.Native.Nat.{ℕ, _-_, _*_, _^_, _<_, _≤_}
 use lib.Dec.{eqb, ltb}
 use lib.ListN.{length, getD, replicate}
+use Rattle.quantity.specs.Limits.{MOST-CHANNELS, LARGEST-STORE}
 use Rattle.line_rows.specs.Rows.{NUMBER, BYTES, LIST, OPTIONAL, keyText, Said, over}
 use Rattle.line_rows.specs.Tables.{command, saidIn, keyIn}
 use Rattle.line_rows.specs.Places.{rowOfKey, writtenOut, Within}
@@ -91,9 +92,9 @@ HIGHEST-SEQUENCE = 2 ^ 32 - 1
 abbrev pub LATEST-TIME : ℕ
 LATEST-TIME = 2 ^ 64 - 1
 
--- "`ROOM`, `STORE`, `LEN`: 0 to 1048576"
+-- "`ROOM`, `STORE`, `LEN`: 0 to 4194304", all stores that an endpoint takes
 abbrev pub MOST-ROOM : ℕ
-MOST-ROOM = 1048576
+MOST-ROOM = MOST-CHANNELS * LARGEST-STORE
 
 -- "Up to 80 channels are read"
 abbrev pub MOST-SETTINGS : ℕ

@@ -3,6 +3,8 @@ use line_rows::BYTES;
 use line_rows::LIST;
 use line_rows::NUMBER;
 use line_rows::OPTIONAL;
+use quantity::limit::LARGEST_STORE;
+use quantity::limit::MOST_CHANNELS;
 
 // ips
 pub(crate) const IPS: u64 = 0x737069;
@@ -53,7 +55,8 @@ const HIGHEST_ID: u64 = 255;
 
 const HIGHEST_SEQUENCE: u64 = 4294967295;
 
-const MOST_ROOM: u64 = 1048576;
+// All stores that an endpoint takes.
+const MOST_ROOM: u64 = (MOST_CHANNELS * LARGEST_STORE) as u64;
 
 const MOST_SETTINGS: u64 = 80;
 

@@ -10,7 +10,7 @@ use Rattle.store.specs.declared.queue.Entry.{Entry}
 use Rattle.store.specs.declared.queue.Queue.{Queue}
 use Rattle.store.specs.Packets.{Packet, lastsAt, lasting, alive, joined}
 use Rattle.store.specs.Moves.{Stretch, stretchOf, staying, displaced, expiring, sending, withdrawing, unchanging}
-use Rattle.store.specs.Waiting.{waiting, total, cut, packetsOf, entryOf, within, allWithin}
+use Rattle.store.specs.Waiting.{waiting, total, cut, packetsOf, entryOf, within, allWithinUnder, allWithin}
 use Rattle.store.proofs.Entries.{within-limits}
 use Rattle.store.proofs.Held.{Fit}
 use Rattle.store_moves.specs.Moving.{Move, remaining, span, Filled, none, more, ToStart, Marked, none-waits, this-stays, this-leaves}
@@ -71,7 +71,7 @@ span-marked (this-leaves m) = rw (length-append, span-marked m)
 
 -- packets have 40 bytes at least
 first-within : (p : Packet) (ps : List Packet) → allWithin (map entryOf (p ∷ ps)) ≡ true → (0 < length (p .bytes)) × (allWithin (map entryOf ps) ≡ true)
-unfolding allWithin entryOf
+unfolding allWithinUnder entryOf
 first-within p ps e =
     let h = and-eq-true-iff (within (length (p .bytes))) (allWithin (map entryOf ps)) .0 e in
     ((omega (arith, within-limits (length (p .bytes)) (h .0))), h .1)

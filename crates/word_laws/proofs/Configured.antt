@@ -10,7 +10,7 @@ use lib.ListN.{getD}
 use Rattle.quantity.specs.Limits.{FEWEST-CHANNELS, MOST-CHANNELS}
 use Rattle.ips_state.specs.State.{startAt}
 use Rattle.ips_state.specs.Limits.{configurationFits}
-use Rattle.ips_words_start.specs.Start.{startWith, startIn, configurationOf, configurationReadable, configurationIn, startsIn}
+use Rattle.ips_words_start.specs.Start.{startWith, startIn, configurationOf, configurationReadable, configurationIn, startsInUnder}
 use Rattle.ips_words_start.specs.Exactly.{StartsExactly}
 use Rattle.ips_words_start.proofs.Starts.{starts-length, starts-at}
 use Rattle.ips_words_start.proofs.Beginning.{fits-readable}
@@ -45,14 +45,14 @@ module _ (w : List ℕ) (readable : configurationReadable w ≡ true) where
 
 -- of every configuration that a start takes
 pub started-says : (w words memory : List ℕ) → StartsExactly w words memory → ConfigurationSays w (configurationIn w)
-unfolding startsIn
+unfolding startsInUnder
 started-says w words memory x = configuration-says w (fits-readable w (and-eq-true-iff (configurationFits (configurationIn w)) _ .0 (exactly-starts w words memory x) .0))
 
 -- ---- how many words a state of so many channels needs
-pub needed-exactly : (n : ℕ) → (1 ≤ n → n ≤ 16 → wordsNeeded n ≡ 8 + 74 * n) × ((n < 1) ⊎ (16 < n) → wordsNeeded n ≡ 0)
+pub needed-exactly : (n : ℕ) → (1 ≤ n → n ≤ 64 → wordsNeeded n ≡ 8 + 74 * n) × ((n < 1) ⊎ (64 < n) → wordsNeeded n ≡ 0)
 unfolding wordsNeeded
 needed-exactly n = (λ some few. rw (le-leb FEWEST-CHANNELS n some, le-leb n MOST-CHANNELS few), none)
   where
-    none : (n < 1) ⊎ (16 < n) → wordsNeeded n ≡ 0
+    none : (n < 1) ⊎ (64 < n) → wordsNeeded n ≡ 0
     none (inl h) = rw (lt-leb FEWEST-CHANNELS n h)
     none (inr h) = rw (lt-leb n MOST-CHANNELS h, and-false)

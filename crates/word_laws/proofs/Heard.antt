@@ -14,7 +14,7 @@ use Rattle.meaning.specs.declared.message.Control.{Control}
 use Rattle.reader.specs.Readings.{Verdict, readControl, planeOf}
 use Rattle.reader.specs.declared.answer.PlaneAnswer.{PlaneAnswer}
 use Rattle.ips_state.specs.Limits.{stateFits}
-use Rattle.ips_run.specs.Run.{radio, ifAccepted, ifControl, acceptedIn, acceptedBy}
+use Rattle.ips_run.specs.Run.{radio, ifAccepted, ifControl, acceptedIn, acceptedUnder, acceptedBy}
 use Rattle.ips_calls.specs.Replies.{EndpointReply}
 use Rattle.ips_words.specs.Words.{slot, stateIn}
 use Rattle.ips_words.proofs.Whole.{slot-length, slot-word, slot-room, fit-readable}
@@ -22,7 +22,7 @@ use Rattle.ips_words_radio.specs.HeardWords.{heardSlot, heardSlots, instanceHea
 use Rattle.ips_words_radio.proofs.Parts.{part-before, part-behind, instance-before, context-before, tag-written, value-written, size-written}
 use Rattle.ips_words_radio.proofs.Hearing.{all-passed, slots-room, instance-room}
 use Rattle.ips_words_radio.proofs.Heard.{heard-slot, heard-length}
-use Rattle.endpoint.specs.Lent.{Lent, lent, worldIn, afterIn}
+use Rattle.endpoint.specs.Lent.{Lent, lent, afterInUnder, worldIn}
 use Rattle.endpoint.specs.Calls.{PerformedIn}
 use Rattle.word_laws.specs.RadioLeaves.{RadioLeaves, ContextLeft, without, with-bytes}
 
@@ -96,7 +96,7 @@ module _ (datalink : DatalinkId) (datagram words memory : List ℕ) (fits : stat
 
 -- THE LAW: of any words, any datagram and any answer
 pub radio-other-words : {datagram : List ℕ} {l l′ : Lent} {x : EndpointReply} → PerformedIn (radio datagram) l x l′ → RadioLeaves l l′
-unfolding afterIn acceptedBy
+unfolding afterInUnder acceptedUnder
 radio-other-words {datagram} {l} h = rw (h .lent-is) (go (stateFits (stateIn (l .words))) refl)
   where
     go : (b : Bool) → stateFits (stateIn (l .words)) ≡ b
@@ -107,7 +107,7 @@ radio-other-words {datagram} {l} h = rw (h .lent-is) (go (stateFits (stateIn (l 
 -- THE LAW: of an accepted control message its own Context is kept, or none
 pub radio-context-words : {datagram : List ℕ} {l l′ : Lent} {x : EndpointReply} → PerformedIn (radio datagram) l x l′
     → (m : Control) → acceptedBy (radio datagram) (worldIn l) ≡ m ∷ [] → ContextLeft (l′ .words) (m .context)
-unfolding afterIn acceptedBy
+unfolding afterInUnder acceptedUnder
 radio-context-words {datagram} {l} h m e = rw (h .lent-is, e) (go (stateFits (stateIn (l .words))) refl e)
   where
     go : (b : Bool) → stateFits (stateIn (l .words)) ≡ b → cond b (acceptedIn (stateIn (l .words) .datalink) datagram) [] ≡ m ∷ [] → ContextLeft (heardWords m (l .words)) (m .context)

@@ -83,7 +83,7 @@ unfolding channelIn queueIn statusOf
 part-within w e c =
     let s = spelled-facts w e in
     let few : getD w 9 0 ≤ 32 = c .queue-within .few in
-    let length-of : (k : ℕ) → k < getD w 9 0 → (40 ≤ getD w (10 + 2 * k) 0) × (getD w (10 + 2 * k) 0 ≤ 1500) =
+    let length-of : (k : ℕ) → k < getD w 9 0 → (40 ≤ getD w (10 + 2 * k) 0) × (getD w (10 + 2 * k) 0 ≤ 9000) =
     λ k h. rw (waits-at w few k h) at (c .queue-within .lengths k (omega (arith, waits-length w few))) in
     record {
       unreserved = c .unreserved;

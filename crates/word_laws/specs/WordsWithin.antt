@@ -19,7 +19,7 @@ lengthsIn words b (suc n) = lengthsIn words b n + getD words (b + 10 + 2 * n) 0
 
 -- ---- words that stand for a state within the limits
 
--- "ID 255", "store length", "a status above 15", "a plain channel not free", "more than 32 waiting, a waiting length outside 40 to 1,500, waiting bytes over the store";
+-- "ID 255", "store length", "a status above 15", "a plain channel not free", "more than 32 waiting, a waiting length outside 40 to" 9,000, "waiting bytes over the store";
 -- and tags that there are, a status that is a byte, a window and a sequence of 32 bits
 pub record ChannelWordsWithin (words : List ℕ) (b : ℕ) : Type 0 where
   pub unreserved : getD words b 0 < 255
@@ -35,7 +35,7 @@ pub record ChannelWordsWithin (words : List ℕ) (b : ℕ) : Type 0 where
   pub sequence : getD words (b + 7) 0 < 2 ^ 32
   pub few : getD words (b + 9) 0 ≤ 32
   pub shortest : (k : ℕ) → k < getD words (b + 9) 0 → 40 ≤ getD words (b + 10 + 2 * k) 0
-  pub longest : (k : ℕ) → k < getD words (b + 9) 0 → getD words (b + 10 + 2 * k) 0 ≤ 1500
+  pub longest : (k : ℕ) → k < getD words (b + 9) 0 → getD words (b + 10 + 2 * k) 0 ≤ 9000
   pub room : lengthsIn words b (getD words (b + 9) 0) ≤ getD words (b + 2) 0
 
 -- "a kept Link Instance or Context outside its lengths": three words from `b` on, a tag, the bytes as a number, and how many they are
@@ -50,7 +50,7 @@ pub record WordsWithin (words : List ℕ) : Type 0 where
   pub long : length words ≡ 8 + 74 * getD words 1 0
   pub datalink : getD words 0 0 < 256
   pub some : 1 ≤ getD words 1 0
-  pub few : getD words 1 0 ≤ 16
+  pub few : getD words 1 0 ≤ 64
   pub instance-within : NameWordsWithin words 2
   pub context-within : NameWordsWithin words 5
   pub each : (i : ℕ) → i < getD words 1 0 → ChannelWordsWithin words (8 + 74 * i)
