@@ -5,14 +5,15 @@
  * take both as the call before left them, and keep nothing elsewhere. The words may be copied, saved and restored with
  * the memory; what stands where in them is the library's own.
  *
- * A slice is a pointer and the number of its elements; an array (`shown`) is a pointer to that many numbers. Every call takes any numbers and any bytes, and refuses what it
- * can't take. All that is asked of a caller: each slice is memory of its own of that length, its pointer isn't null (even
- * where the length is 0), and what a call may change overlaps no other slice of the call.
+ * A slice is a pointer and the number of its elements; an array (`shown`) is a pointer to that many numbers. Every call
+ * takes any numbers and any bytes, and refuses what it can't take. All that is asked of a caller: each slice is memory of
+ * that length, its pointer isn't null (even where the length is 0), and what a call may change overlaps no other slice of
+ * the call.
  *
  * A refusal changes no word, no byte of the memory and no byte of the output.
  *
- * Refusals and limits are those of document 01, in its words, and of document 02 where it moved them; sections are those of the draft of ARINC 858 Part 3
- * (docs/DECISIONS.md names both).
+ * Refusals and limits are those of document 01, in its words, and of document 02 where it moved them; sections are those
+ * of the draft of ARINC 858 Part 3 (docs/DECISIONS.md says what these papers are).
  *
  * `include/check` compares this file with the sources that the library is built from.
  */
