@@ -55,7 +55,7 @@ def lengths_by_store():
     """Packets about 9,000 bytes and about the store's length, where nothing waits and where something does: 14 above
     the smaller of the two, and never 17 for a packet that no empty store would take."""
     for store in (1500, 1501, 8999, 9000, 9001, 65536):
-        longest = min(store, 9000)
+        longest = min(store, ciri.PACKET_LIMIT)
         yield start((0, "plain", 0, 65536), (3, "flow", 9, store))
         yield from (offer(3, 1, NEVER, packet(length, store)) for length in (longest + 1, longest))
         yield from (offer(3, 1, NEVER, packet(length, store)) for length in (longest + 1, longest, 40))

@@ -6,8 +6,9 @@ use std::fmt::Write as _;
 use std::io::{self, BufRead, Write};
 
 const LONGEST_LINE: usize = 140_000;
-const LARGEST_LENGTH: u64 = 4_194_304;
-const MOST_CHANNELS: u64 = 80;
+// The stores of 64 channels; a start may name more channels than there may be, to be refused.
+const LARGEST_LENGTH: u64 = 64 * 65_536;
+const MOST_READ: u64 = 80;
 const WORDS_OF_A_CHANNEL: usize = 4;
 
 /// Why a line has no other answer.
@@ -197,7 +198,7 @@ fn start(words: &[&[u8]]) -> Result<State, Fault> {
     if words.len() < 2 {
         return Err(Fault::BadLine);
     }
-    let (datalink, count) = (DatalinkId(byte(words[0])?), number(words[1], MOST_CHANNELS)? as usize);
+    let (datalink, count) = (DatalinkId(byte(words[0])?), number(words[1], MOST_READ)? as usize);
     let behind = &words[2..];
     if behind.len() < WORDS_OF_A_CHANNEL * count {
         return Err(Fault::BadLine);

@@ -92,7 +92,7 @@ module _ (c : Channel) (store : List ℕ) where
           let size = c .setting .size .0 in
           rw e (marked-least size (well-fit (c .queue) size (ready .well) store (ready .size)) (call-leaves call .marked) ms start)
 
-      -- "a refused call moves 0"
+      -- a refused call moves none
       pub refused-none : (number : ℕ) → resultOf datalink call c store .answer ≡ refused number → moved ≡ record { 0 = 0 }
       refused-none number h = e ∙ rw (h, none call, displaced-unchanging (packetsOf (c .queue) store))
         where

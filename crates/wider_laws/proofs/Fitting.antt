@@ -1,4 +1,4 @@
--- What 19 asks under raised limits: what it asked before holds of fewer channels and shorter packets. Assumes nothing.
+-- What 19 asks under raised limits: a state that fitted under the narrower fits under the wider. Assumes nothing.
 use Prim.Native.Nat.{ℕ, _≤_}
 use mathlib.Core.Bool.{true, _&&_, and-eq-true-iff}
 use mathlib.Core.List.{List, [], _∷_}
@@ -56,13 +56,13 @@ module _ (longest : ℕ) where
       let b = and-eq-true-iff (leb (q .count) MOST-WAITING) (allWithinUnder longest (waiting q)) .0 (a .0) in
       (b .0, b .1, a .1)
 
-  record ChannelParts (c : Channel) : Type 0 where
+  record ChannelFacts (c : Channel) : Type 0 where
     setting : settingFits (c .setting) ≡ true
     status : statusAllowed ends.Radio (c .status) ≡ true
     flow : flowFits (c .setting .controlled) (c .flow) ≡ true
     queue : wellFormedUnder longest (c .queue) (c .setting .size .0) ≡ true
 
-  channel-parts : (c : Channel) → channelFitsUnder longest c ≡ true → ChannelParts c
+  channel-parts : (c : Channel) → channelFitsUnder longest c ≡ true → ChannelFacts c
   unfolding channelFitsUnder
   channel-parts c h =
       let a = and-eq-true-iff (settingFits (c .setting)) _ .0 h in

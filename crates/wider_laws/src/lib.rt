@@ -1,1 +1,1 @@
-// The limits that document 02 raised, and those before: what was so under the narrower is so under the wider. Definitions and their proofs; no code.
+// No code: what was so under the limits before document 02 raised them is so under those in force.
