@@ -2,118 +2,16 @@
 // It shares no code with the proved one, but its writer knew that one: the second opinion on the papers is second/.
 use std::hint::black_box;
 
+#[path = "common/digest.rs"]
+mod digest;
 #[path = "common/message.rs"]
 mod message;
 #[path = "common/timing.rs"]
 mod timing;
 
+use digest::*;
 use message::*;
 use timing::*;
-
-// ---- the proved reader, behind its exports
-
-extern "C" {
-    fn nespovarda_plane_digest(datagram: *const u8, length: usize) -> u64;
-    fn nespovarda_control_digest(datagram: *const u8, length: usize, radio: bool, id: u8, channel: u8) -> u64;
-    fn nespovarda_data_digest(datagram: *const u8, length: usize, radio: bool, id: u8) -> u64;
-    fn nespovarda_packet_digest(datagram: *const u8, length: usize, radio: bool, id: u8) -> u64;
-}
-
-fn proved_plane(datagram: &[u8]) -> u64 {
-    unsafe { nespovarda_plane_digest(datagram.as_ptr(), datagram.len()) }
-}
-
-fn proved_control(datagram: &[u8], end: End, id: u8, channel: u8) -> u64 {
-    unsafe { nespovarda_control_digest(datagram.as_ptr(), datagram.len(), end == End::Radio, id, channel) }
-}
-
-fn proved_data(datagram: &[u8], end: End, id: u8) -> u64 {
-    unsafe { nespovarda_data_digest(datagram.as_ptr(), datagram.len(), end == End::Radio, id) }
-}
-
-fn proved_packet(datagram: &[u8], end: End, id: u8) -> u64 {
-    unsafe { nespovarda_packet_digest(datagram.as_ptr(), datagram.len(), end == End::Radio, id) }
-}
-
-// ---- digests, as crates/bench_reader/specs/Digests.antt defines them
-
-const ABSENT: u64 = 1 << 32;
-const EMPTY: u64 = ABSENT + 1;
-
-fn mixed_all<const N: usize>(sum: u64, parts: [u64; N]) -> u64 {
-    parts.into_iter().fold(sum, mixed)
-}
-
-fn fault_digest(fault: Fault) -> u64 {
-    match fault {
-        OtherPlane => 1,
-        Refused(number, place) => mixed(number as u64, place as u64),
-    }
-}
-
-fn part<T: Into<u64>>(stated: Option<T>) -> u64 {
-    stated.map_or(ABSENT, T::into)
-}
-
-fn name_parts(stated: Option<(u64, usize)>) -> (u64, u64) {
-    stated.map_or((0, 0), |(number, length)| (number, length as u64))
-}
-
-fn control_sum(message: &Control, channel: u8) -> u64 {
-    let at = channel as usize;
-    let instance = name_parts(message.instance);
-    let context = name_parts(message.context);
-    let whole = mixed_all(0, [message.datalink as u64, instance.0, instance.1, context.0, context.1]);
-    if at >= CHANNELS {
-        return mixed_all(whole, [ABSENT; 3]);
-    }
-    let window = match message.windows[at] {
-        Window::Absent => ABSENT,
-        Window::Empty => EMPTY,
-        Window::Given(word) => word as u64,
-    };
-    mixed_all(whole, [part(message.statuses[at]), part(message.sequences[at]), window])
-}
-
-fn data_sum(message: &Data) -> u64 {
-    let (counted, word) = message.sequence.map_or((ABSENT, ABSENT), |(channel, word)| (channel as u64, word as u64));
-    mixed_all(0, [message.datalink as u64, word, counted, part(message.channel), part(message.expiration)])
-}
-
-#[inline(never)]
-fn plain_plane(datagram: &[u8]) -> u64 {
-    match header(datagram, CONTROL) {
-        Err(fault) => fault_digest(fault),
-        Ok(()) => 0,
-    }
-}
-
-#[inline(never)]
-fn plain_control(datagram: &[u8], end: End, id: u8, channel: u8) -> u64 {
-    match read_control(datagram, end, id) {
-        Err(fault) => fault_digest(fault),
-        Ok(message) => control_sum(&message, channel),
-    }
-}
-
-#[inline(never)]
-fn plain_data(datagram: &[u8], end: End, id: u8) -> u64 {
-    match read_data(datagram, end, id) {
-        Err(fault) => fault_digest(fault),
-        Ok(message) => data_sum(&message),
-    }
-}
-
-#[inline(never)]
-fn plain_packet(datagram: &[u8], end: End, id: u8) -> u64 {
-    match read_data(datagram, end, id) {
-        Err(fault) => fault_digest(fault),
-        Ok(message) => {
-            let last = message.packet.last().map_or(0, |byte| *byte as u64);
-            mixed_all(data_sum(&message), [message.packet.len() as u64, last])
-        }
-    }
-}
 
 // ---- messages
 

@@ -19,7 +19,6 @@ use reader::answer::Verdict;
 use reader::control;
 use reader::data;
 use reader::header;
-use reader::packet;
 
 // Where each count stands.
 pub const RECORDS: usize = 0;
@@ -161,14 +160,15 @@ fn count_packet(counts: &mut [u64], channel: u8, size: u64)
 fn count_data(counts: &mut [u64], datagram: &[u8], end: End, id: DatalinkId)
     ensures { λ _. ⌜ now (counts .exit) ≡ addAll (readingAdds end (dataOf (readData end id (now (datagram .entry))) (packetOf (now (datagram .entry))))) (now (counts .entry)) ⌝ }
 {
-    let reading = data::read(datagram, end, id);
+    let carried = data::read_with_packet(datagram, end, id);
+    let reading = carried.reading;
     let verdict = reading.verdict;
     match verdict {
         Verdict::Accepted => {
             let message = reading.message;
             let channel = message.channel;
-            let carried = packet::packet(datagram);
-            count_packet(counts, channel_of(channel), carried.len() as u64);
+            let size = datagram.len() - carried.start;
+            count_packet(counts, channel_of(channel), size as u64);
         }
         Verdict::Refused(refusal) => count_refusal(counts, refusal.number),
         Verdict::OtherPlane => {}

@@ -1,17 +1,15 @@
 -- Where the packet of a data message stands. Assumes nothing.
-use Prim.Native.Nat.{ℕ, zero, suc, _+_, _-_, _≤_}
+use Prim.Native.Nat.{ℕ, _-_}
 use mathlib.Core.Path.{_≡_, refl, sym, ap, _∙_}
 use mathlib.Core.List.{List, [], _∷_, _++_, append-assoc, append-nil}
 use mathlib.Core.Bool.{Bool, true, false, cond}
 use native.Mathlib.Omega.{arith}
 use lib.Dec.{eqb}
-use lib.ListN.{length, take, drop, length-take, length-drop, length-append}
+use lib.ListN.{length, drop, length-append}
 use lib.Seq.{drop-at}
 use Rattle.quantity.specs.declared.count.DatalinkId.{DatalinkId}
 use Rattle.wire.specs.Numbers.{Octets, bytesOf}
-use Rattle.wire.specs.declared.option.Frame.{Frame}
-use Rattle.wire.specs.declared.option.Frame.the-variants.{Cut, Whole}
-use Rattle.wire.specs.Options.{Options, done, cut, option, bytes, optionBytes, split, splitWith, splitFirst, frameOf}
+use Rattle.wire.specs.Options.{Options, done, cut, option, bytes, optionBytes, split}
 use Rattle.meaning.specs.Kinds.{PACKET-DATA}
 use Rattle.read_data.specs.Packet.{packetIn}
 use Rattle.reader.specs.Readings.{Verdict, readData, packetOf}
@@ -21,27 +19,6 @@ use Rattle.acceptance.specs.Account.{Ending}
 use Rattle.acceptance.proofs.Own.{own}
 use Rattle.acceptance.proofs.Data.{data-account}
 use Rattle.message_calls.specs.Calls.{packetStart}
-
--- a packet is no longer than the bytes that it stands in
-within : (k : ℕ) (rest : List ℕ) → length (packetIn (splitWith k rest)) ≤ length rest
-unfolding splitWith packetIn
-within zero rest = omega arith
-within (suc k) rest = by-length (eqb (length rest) 0) (frameOf rest) (λ behind. within k behind)
-  where
-    by-kind : (b : Bool) (size : ℕ) → ((behind : List ℕ) → length (packetIn (splitWith k behind)) ≤ length behind)
-        → length (cond b (take size (drop 3 rest)) (packetIn (splitWith k (drop (3 + size) rest)))) ≤ length rest
-    by-kind true size shorter = simp (length-take, length-drop) (omega arith)
-    by-kind false size shorter = omega (arith, shorter (drop (3 + size) rest), length-drop (3 + size) rest)
-
-    by-length : (b : Bool) (frame : Frame) → ((behind : List ℕ) → length (packetIn (splitWith k behind)) ≤ length behind)
-        → length (packetIn (cond b done (splitFirst frame rest (splitWith k)))) ≤ length rest
-    by-length true frame shorter = omega arith
-    by-length false Cut shorter = omega arith
-    by-length false (Whole kind size) shorter = by-kind (eqb kind PACKET-DATA) size shorter
-
-pub packet-within : (s : List ℕ) → length (packetOf s) ≤ length s
-unfolding packetOf split
-packet-within s = omega (arith, within (length (drop 1 s)) (drop 1 s), length-drop 1 s)
 
 -- what stands last has nothing behind it: the bytes of the options end with the packet
 last-bytes : (f : Options) → Ending planes.Data f → (front : List ℕ) × (bytes f ≡ front ++ packetIn f)

@@ -12,7 +12,6 @@ use quantity::count::DatalinkId;
 use quantity::refusal::OUTSIDE_LIMITS;
 use reader::control;
 use reader::data;
-use reader::packet::packet;
 
 // Only an accepted message writes its meaning.
 pub fn read_control(datagram: &[u8], end: u8, datalink: u8, meaning: &mut [u64]) -> Answer
@@ -44,13 +43,13 @@ pub fn read_data(datagram: &[u8], end: u8, datalink: u8, parts: &mut [u64]) -> A
     if parts.len() != DATA_WORDS {
         return refused_by(OUTSIDE_LIMITS);
     }
-    let reading = data::read(datagram, end_of(end), DatalinkId(datalink));
+    let carried = data::read_with_packet(datagram, end_of(end), DatalinkId(datalink));
+    let reading = carried.reading;
     let verdict = reading.verdict;
     if is_accepted(verdict) {
         let message = reading.message;
-        let carried = packet(datagram);
-        let size = carried.len();
-        lent_messages::data::save(parts, message, datagram.len() - size, size);
+        let start = carried.start;
+        lent_messages::data::save(parts, message, start, datagram.len() - start);
         return of_verdict(verdict);
     }
     of_verdict(verdict)

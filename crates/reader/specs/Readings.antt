@@ -16,7 +16,9 @@ use Rattle.reader.specs.Header.{versionOf, flagOf, CURRENT-VERSION, read
 pub use Rattle.read_rules.specs.declared.answer.Verdict.{Verdict}
 pub use Rattle.read_control.specs.declared.ControlReading.{ControlReading}
 pub use Rattle.read_data.specs.declared.DataReading.{DataReading}
-unfoldable pub use Rattle.read_data.specs.Packet.{packetOf}
+pub use Rattle.read_data.specs.declared.CarriedReading.{CarriedReading}
+unfoldable pub use Rattle.read_data.specs.Packet.{packetOf, carriedReading}
+pub use Rattle.read_data.specs.Packet.{Carries}
 
 -- the plane of a datagram: 1, 2, then the Data Plane flag
 unfoldable pub planeOf : List ℕ → PlaneAnswer
@@ -34,3 +36,7 @@ readControl end id datagram = readWith (rulesOf (controlSort end id)) datagram
 -- a data message
 unfoldable pub readData : End → DatalinkId → List ℕ → DataReading
 readData end id datagram = readWith (rulesOf (dataSort end id)) datagram
+
+-- a data message, and where its packet begins
+unfoldable pub readCarried : End → DatalinkId → List ℕ → CarriedReading
+readCarried end id datagram = carriedReading (readData end id datagram) datagram

@@ -1,6 +1,7 @@
 // What a reader answers.
 use quantity::refusal::Refusal;
 pub use read_control::ControlReading;
+pub use read_data::CarriedReading;
 pub use read_data::DataReading;
 pub use read_rules::answer::Verdict;
 

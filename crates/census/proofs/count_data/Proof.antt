@@ -1,17 +1,25 @@
 -- `count_data` meets its contract, by the verdict. Assumes nothing.
-use Rattle.census.specs.Adding.{addAll}
+use mathlib.Core.Path.{_≡_}
+use native.Mathlib.Omega.{arith}
 use borrow.Author.Needs.{needs}
+use Rattle.reader.specs.Readings.{readData}
+use Rattle.reader.proofs.Carried.{carried-reading, carried-within, carried-size}
+use Rattle.census.specs.Adding.{addAll}
 use Rattle.census.proofs.count_data.Statement.{statement}
 use Rattle.census.proofs.count_data.Tie as tie
 
-read-requires : tie.Need-read-requires
-read-requires c κs = search needs
+-- the reading is that of `read`
+same : (c : tie.After-read-with-packet) → let args = c .before .before .before .args in c .read-with-packet .result .reading ≡ readData (args .end) (args .id) (args .datagram .now)
+same c = carried-reading _ _ _ (c .read-with-packet .ensures .0)
+
+read-with-packet-requires : tie.Need-read-with-packet-requires
+read-with-packet-requires c κs = search needs
 
 enum-told : tie.Need-enum-told
 enum-told c = search needs
 
-packet-requires : tie.Need-packet-requires
-packet-requires c κs = search needs
+sub-size : tie.Need-sub-size
+sub-size c = omega (arith, carried-within _ _ _ (c .before .before .before .before .before .read-with-packet .ensures .0))
 
 channel-of-requires : tie.Need-channel-of-requires
 channel-of-requires c κs = search needs
@@ -32,26 +40,30 @@ same-length : tie.Need-same-length
 same-length c = search needs
 
 returns : tie.Need-returns
-returns c = rw (← (c .before .before .before .before .before .before .before .before .before .read .ensures), c .before .before .before .before .before .before .before .enum-told .given .1, ← (c .before .before .before .channel-of .ensures), ← (c .before .before .before .before .before .packet .ensures)) (c .before .before .count-packet .ensures)
+returns c =
+    let told = c .before .before .before .before .before .before .before in
+    let read = told .before .before .before in
+    let size = carried-size (read .read-with-packet .result) (read .before .before .before .args .datagram .now) (read .read-with-packet .ensures .1) (told .enum-told .given .1) in
+    rw (← same read, told .enum-told .given .1, ← (c .before .before .before .channel-of .ensures), size) (c .before .before .count-packet .ensures)
 
 same-length-2 : tie.Need-same-length-2
 same-length-2 c = search needs
 
 returns-2 : tie.Need-returns-2
 unfolding addAll
-returns-2 c = rw (← (c .before .before .before .before .before .before .before .read .ensures), c .before .before .before .before .before .verdict .given .1) (c .before .before .count-refusal .ensures)
+returns-2 c = rw (← same (c .before .before .before .before .before .before .before .before), c .before .before .before .before .before .verdict .given .1) (c .before .before .count-refusal .ensures)
 
 returns-3 : tie.Need-returns-3
 unfolding addAll
-returns-3 c = rw (← (c .before .before .read .ensures), c .enum-told2 .given .1)
+returns-3 c = rw (← same (c .before .before .before), c .enum-told2 .given .1)
 
 pub count-data-spec : {M : Type 1} → statement M
 count-data-spec =
     tie.close
     (tie.spec
-    read-requires
+    read-with-packet-requires
     enum-told
-    packet-requires
+    sub-size
     channel-of-requires
     count-packet-requires
     enum-known-verdict
