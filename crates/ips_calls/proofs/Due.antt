@@ -51,8 +51,7 @@ module _ (k : Configuration) (fits : configurationFits k ≡ true) (cs : List Ca
   due-exactly datagram =
       let fit = reached-fits k fits cs bytes .order .state-fits in
       let kept = due-by-state (reached k cs .state) datagram fit (reached k cs .state .datalink) refl (contextBefore accepted) (whole-context k cs) in
-      rw (accepted-fits (reached k cs) datagram fit)
-      (
+      rw (accepted-fits (reached k cs) datagram fit) (
         λ due. let h = kept .0 due in (h .0, h .1, due-mended accepted (h .0 .context) .0 (h .2)),
         λ h. kept .1 (h .0, h .1, due-mended accepted (h .0 .context) .1 (h .2)),
       )
