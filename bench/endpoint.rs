@@ -56,7 +56,9 @@ fn random_setup(dice: &mut Dice) -> Setup {
     let plain = dice.roll(3) == 0;
     let sizes = [[STORE; 2], [1500, 4000], [8999, 9000], [9001, 20_000], [1499, 3000]][[0, 0, 1, 2, 3, [1, 1, 4][dice.roll(3)]][dice.roll(6)]];
     let starts = random_ids(dice, count).into_iter().map(|id| Start { id, controlled: !(plain && dice.roll(2) == 0), first, size: sizes[dice.roll(2)] }).collect();
-    Setup { datalink: DATALINK, starts }
+    // Waits about the times of a script, now and then none.
+    let [hello, limit] = [0; 2].map(|_| [1, 2, 5, 8, 15, 100, u64::MAX, [3, 3, 0][dice.roll(3)]][dice.roll(8)]);
+    Setup { datalink: DATALINK, hello, limit, starts }
 }
 
 fn random_datagram(dice: &mut Dice, setup: &Setup, turn: u32, packet: u32) -> Vec<u8> {
@@ -85,7 +87,8 @@ fn random_datagram(dice: &mut Dice, setup: &Setup, turn: u32, packet: u32) -> Ve
     match dice.roll(10) {
         0 => {
             let place = dice.roll(datagram.len());
-            datagram[place] ^= 1 << dice.roll(8);
+            // A bit turned, now and then all of them set.
+            datagram[place] = if dice.roll(8) == 0 { 255 } else { datagram[place] ^ 1 << dice.roll(8) };
         }
         1 if dice.roll(3) == 0 => {
             datagram = vec![24];
@@ -102,6 +105,7 @@ fn random_datagram(dice: &mut Dice, setup: &Setup, turn: u32, packet: u32) -> Ve
 fn random_script(dice: &mut Dice, setup: &Setup) -> Vec<Call> {
     let lasting = [0, 1, 3, 100, u64::MAX - 7][dice.roll(5)];
     let busy = 1 + dice.roll(3);
+    let mut time = 0;
     let turns = (0..dice.roll(150)).map(|_| {
         let id = match dice.roll(12) {
             0 => dice.roll(256) as u8,
@@ -109,13 +113,18 @@ fn random_script(dice: &mut Dice, setup: &Setup) -> Vec<Call> {
             1 => setup.starts[dice.roll(setup.starts.len())].id,
             _ => setup.starts[dice.roll(busy.min(setup.starts.len()))].id,
         };
-        match dice.roll(16) {
+        match dice.roll(17) {
             0 if dice.roll(3) == 0 => Call::Withdraw(id),
             0..=5 => Call::Offer(id, lasting),
             6..=10 => Call::Next(id),
             11..=12 => Call::Radio,
             13 => Call::Query,
-            _ => Call::Time([0, 1, 1, 2, 2, 3, 4, 5, 8, 15][dice.roll(10)]),
+            14 => Call::Pace,
+            _ => {
+                // Mostly later, now and then earlier.
+                time = if dice.roll(10) == 0 { dice.roll(8) as u64 } else { time + [0, 1, 1, 2, 5][dice.roll(5)] };
+                Call::Time(time)
+            }
         }
     });
     [Call::Start].into_iter().chain(turns).collect()
@@ -138,7 +147,7 @@ fn check() {
         agree(&setup, &run, &memory, lent, &out, &mut seen);
     }
     println!("the endpoints agree on {SCRIPTS} random scripts, every answer and every byte of memory and output after each call; answers seen:");
-    tell(&seen, 35, 4);
+    tell(&seen, 43, 40);
 }
 
 // ---- timing
@@ -188,6 +197,10 @@ fn sent(id: u8) -> Vec<Call> {
     vec![Call::Offer(id, LASTING), Call::Offer(id, LASTING), Call::Next(id), Call::Next(id), Call::Withdraw(id)]
 }
 
+fn paced(_: u8) -> Vec<Call> {
+    vec![Call::Pace]
+}
+
 fn query(_: u8) -> Vec<Call> {
     vec![Call::Query]
 }
@@ -198,19 +211,20 @@ fn refused(_: u8) -> Vec<Call> {
 
 const MIXED: Case = Case { name: "mixed", calls: 6, turn: mixed, base: nothing };
 
-const ALONE: [Case; 7] = [
+const ALONE: [Case; 8] = [
     Case { name: "radio messages", calls: 1, turn: radio, base: nothing },
     Case { name: "offers", calls: 2, turn: offered, base: withdrawn },
     Case { name: "nexts that send", calls: 2, turn: sent, base: offered },
     Case { name: "nexts, nothing waiting", calls: 1, turn: next, base: nothing },
     Case { name: "withdrawals", calls: 1, turn: withdrawn, base: nothing },
     Case { name: "queries", calls: 1, turn: query, base: nothing },
+    Case { name: "asks of the pacer", calls: 1, turn: paced, base: nothing },
     Case { name: "refused calls (12)", calls: 3, turn: refused, base: nothing },
 ];
 
 // Stores with room for two such packets.
 fn setup(channels: u8, first: u32, length: usize) -> Setup {
-    Setup { datalink: DATALINK, starts: (0..channels).map(|id| Start { id, controlled: true, first, size: STORE.max(2 * length) }).collect() }
+    Setup { datalink: DATALINK, hello: HELLO, limit: LIMIT, starts: (0..channels).map(|id| Start { id, controlled: true, first, size: STORE.max(2 * length) }).collect() }
 }
 
 // The turns behind a start and a radio message; the windows let every packet go, over the wrap.

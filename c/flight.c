@@ -22,6 +22,8 @@ static void say(nespovarda_answer answer)
         [NESPOVARDA_NOTHING_WAITING] = "nothing waiting", [NESPOVARDA_NOT_OPERATIONAL] = "not operational",
         [NESPOVARDA_WINDOW_SHUT] = "window shut", [NESPOVARDA_WITHDRAWN] = "withdrawn",
         [NESPOVARDA_ACCEPTED] = "accepted", [NESPOVARDA_DUE] = "accepted due", [NESPOVARDA_WROTE] = "query ",
+        [NESPOVARDA_QUIET] = "quiet", [NESPOVARDA_QUERY_DUE] = "due", [NESPOVARDA_SILENT] = "silent",
+        [NESPOVARDA_QUERY_DUE_SILENT] = "due silent",
     };
     if (answer.kind > NESPOVARDA_REFUSED)
         printf("refused %" PRIu64 " %" PRIu64, answer.kind - NESPOVARDA_REFUSED, answer.value);
@@ -36,7 +38,7 @@ static void say(nespovarda_answer answer)
 static void start(void)
 {
     static const uint64_t configuration[] = {
-        7, CHANNELS, /* the Datalink ID; then Channel ID, kind, first Flow Sequence and length of its store */
+        7, CHANNELS, 5000, 9000, /* Datalink ID, count, HelloTime, silence limit; then ID, kind, first sequence, store */
         0, NESPOVARDA_PLAIN, 0, STORE,
         3, NESPOVARDA_CONTROLLED, 4294967230, STORE,
         5, NESPOVARDA_PLAIN, 0, STORE,
@@ -80,9 +82,35 @@ static void show(uint8_t channel)
     putchar('\n');
 }
 
+static void pace(uint64_t time)
+{
+    say(nespovarda_pace(words, COUNT(words), time));
+}
+
+static void show_pacer(void)
+{
+    uint64_t at[NESPOVARDA_PACER_NUMBERS];
+    nespovarda_answer answer = nespovarda_pacer(words, COUNT(words), at);
+    if (answer.kind != NESPOVARDA_PACER_SHOWN) {
+        say(answer);
+        return;
+    }
+    printf("pacer %" PRIu64 " %" PRIu64 " %" PRIu64 "\n", at[NESPOVARDA_PACER_CLOCK], at[NESPOVARDA_PACER_DUE],
+           at[NESPOVARDA_PACER_HEARD]);
+}
+
+/* A radio data message of Datalink 7 with such a packet. */
+static void carry(uint64_t time, uint8_t last)
+{
+    const uint8_t message[48] = {0x18, 1, 0, 1, 7, 0x80, 0, 40, 0x60, [14] = 59, [15] = 64, [16] = 0xfd, [31] = 1,
+                                 [32] = 0xfd, [47] = last};
+    say(nespovarda_radio(words, COUNT(words), time, message, sizeof message));
+}
+
 /* A radio control message of Datalink 7, and the options behind it: type, length in two bytes, content. */
-#define RADIO(options) \
-    say(nespovarda_radio(words, COUNT(words), (const uint8_t *)("\x10\1\0\1\7" options), sizeof("\x10\1\0\1\7" options) - 1))
+#define HEADED(options) "\x10\1\0\1\7" options
+#define RADIO(time, options) \
+    say(nespovarda_radio(words, COUNT(words), time, (const uint8_t *)HEADED(options), sizeof(HEADED(options)) - 1))
 #define CONTEXT(letters) "\4\0\2" letters
 #define STATUS(channel, status) "\5\0\2" channel status
 #define WINDOW(channel, window) "\6\0\5" channel window
@@ -93,12 +121,12 @@ int main(void)
     start();
     offer(0, 1000, 9000, 1);
     next(0, 1000, 100);
-    RADIO(CONTEXT("EU") STATUS("\0", "\7") STATUS("\3", "\x08") STATUS("\5", "\xf3") WINDOW("\3", "\0\0\0\x2c"));
+    RADIO(1005, CONTEXT("EU") STATUS("\0", "\7") STATUS("\3", "\x08") STATUS("\5", "\xf3") WINDOW("\3", "\0\0\0\x2c"));
     next(0, 1010, 100);
     show(5);
     offer(3, 1010, 9000, 2);
     next(3, 1020, 100);
-    RADIO(CONTEXT("EU") STATUS("\0", "\7") STATUS("\3", "\7") WINDOW("\3", "\0\0\0\x2c"));
+    RADIO(1025, CONTEXT("EU") STATUS("\0", "\7") STATUS("\3", "\7") WINDOW("\3", "\0\0\0\x2c"));
     show(5);
 
     offer(3, 1030, 9000, 3);
@@ -107,29 +135,42 @@ int main(void)
     next(3, 1050, 100);
     show(3);
     next(3, 1060, 100);
-    RADIO(STATUS("\0", "\7") STATUS("\3", "\7") WINDOW("\3", "\xff\xff\xff\xfa"));
+    RADIO(1065, STATUS("\0", "\7") STATUS("\3", "\7") WINDOW("\3", "\xff\xff\xff\xfa"));
     next(3, 1070, 100);
-    RADIO(STATUS("\0", "\7") STATUS("\3", "\7") WINDOW("\3", "\0\0\0\x36"));
+    RADIO(1075, STATUS("\0", "\7") STATUS("\3", "\7") WINDOW("\3", "\0\0\0\x36"));
     next(3, 1080, 59);
     next(3, 1080, 60);
 
     offer(3, 2000, 9000, 5);
     offer(3, 2000, 2500, 6);
     offer(3, 2000, 9000, 7);
-    RADIO(STATUS("\0", "\7") STATUS("\3", "\7") WINDOW("\3", "\0\0\4\x1e"));
+    RADIO(2005, STATUS("\0", "\7") STATUS("\3", "\7") WINDOW("\3", "\0\0\4\x1e"));
     next(3, 2010, 100);
-    RADIO(STATUS("\0", "\7") STATUS("\3", "\7") WINDOW_WITHDRAWN("\3"));
+    RADIO(2020, STATUS("\0", "\7") STATUS("\3", "\7") WINDOW_WITHDRAWN("\3"));
     next(3, 2500, 100);
     show(3);
-    RADIO(STATUS("\0", "\7") STATUS("\3", "\7") WINDOW("\3", "\0\0\0\x64"));
+    RADIO(2505, STATUS("\0", "\7") STATUS("\3", "\7") WINDOW("\3", "\0\0\0\x64"));
     next(3, 2510, 100);
-    RADIO(CONTEXT("US") STATUS("\0", "\7") STATUS("\3", "\7"));
+    RADIO(2515, CONTEXT("US") STATUS("\0", "\7") STATUS("\3", "\7"));
     next(3, 2520, 100);
     show(3);
     say(nespovarda_query(words, COUNT(words), out, sizeof out));
 
-    RADIO(CONTEXT("US") STATUS("\0", "\7") STATUS("\3", "\7"));
-    RADIO(STATUS("\0", "\7") STATUS("\3", "\7"));
-    RADIO(CONTEXT("US") STATUS("\0", "\7") STATUS("\3", "\7"));
+    RADIO(2530, CONTEXT("US") STATUS("\0", "\7") STATUS("\3", "\7"));
+    RADIO(2540, STATUS("\0", "\7") STATUS("\3", "\7"));
+    RADIO(2550, CONTEXT("US") STATUS("\0", "\7") STATUS("\3", "\7"));
+
+    offer(3, 2560, 20000, 8);
+    pace(4999);
+    pace(5000);
+    pace(11549);
+    pace(11550);
+    show(3);
+    next(3, 11560, 100);
+    carry(11600, 9);
+    show_pacer();
+    RADIO(11599, CONTEXT("US") STATUS("\0", "\7") STATUS("\3", "\7"));
+    RADIO(11610, CONTEXT("US") STATUS("\0", "\7") STATUS("\3", "\7"));
+    next(3, 11620, 100);
     return 0;
 }

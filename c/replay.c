@@ -20,7 +20,11 @@
 #define MOST_READ 80 /* channels of a start */
 #define START_WORDS 2
 #define MEMORY_WORDS 2
-#define MOST_WORDS (START_WORDS + NESPOVARDA_CONFIGURATION_SLOT * MOST_READ + MEMORY_WORDS) /* behind the first */
+#define PACE_WORDS 3
+#define MOST_WORDS \
+    (START_WORDS + NESPOVARDA_CONFIGURATION_SLOT * MOST_READ + MEMORY_WORDS + PACE_WORDS) /* behind the first */
+#define HELLO 5000 /* where a start says nothing of the pacer */
+#define LIMIT 9000
 
 struct word {
     const char *text;
@@ -178,6 +182,10 @@ static void say(nespovarda_answer answer)
         [NESPOVARDA_WITHDRAWN] = "withdrawn",
         [NESPOVARDA_ACCEPTED] = "accepted",
         [NESPOVARDA_DUE] = "accepted due",
+        [NESPOVARDA_QUIET] = "quiet",
+        [NESPOVARDA_QUERY_DUE] = "due",
+        [NESPOVARDA_SILENT] = "silent",
+        [NESPOVARDA_QUERY_DUE_SILENT] = "due silent",
     };
     if (answer.kind > NESPOVARDA_REFUSED)
         printf("refused %" PRIu64 " %" PRIu64, answer.kind - NESPOVARDA_REFUSED, answer.value);
@@ -351,13 +359,26 @@ static bool read_channel(const struct word *words, uint64_t *start)
            read_number(words[3], LARGEST_LENGTH, &start[NESPOVARDA_START_SIZE]);
 }
 
-/* Nothing, or `memory LEN` */
-static bool read_memory(const struct word *words, size_t count, uint64_t *length)
+/* Nothing, or `pace HELLO LIMIT` */
+static bool read_pace(const struct word *words, size_t count, uint64_t *configuration)
 {
-    return count == 0 || (count == MEMORY_WORDS && is(words[0], "memory") && read_number(words[1], LARGEST_LENGTH, length));
+    configuration[NESPOVARDA_CONFIGURED_HELLO] = HELLO;
+    configuration[NESPOVARDA_CONFIGURED_LIMIT] = LIMIT;
+    return count == 0 || (count == PACE_WORDS && is(words[0], "pace") &&
+                          read_number(words[1], UINT64_MAX, &configuration[NESPOVARDA_CONFIGURED_HELLO]) &&
+                          read_number(words[2], UINT64_MAX, &configuration[NESPOVARDA_CONFIGURED_LIMIT]));
 }
 
-/* `ID COUNT`, the channels, and perhaps `memory LEN`: how long the memory is. */
+/* Perhaps `memory LEN`, and perhaps `pace HELLO LIMIT` behind it. */
+static bool read_memory(const struct word *words, size_t count, uint64_t *configuration, uint64_t *length)
+{
+    if (count < MEMORY_WORDS || !is(words[0], "memory"))
+        return read_pace(words, count, configuration);
+    return read_number(words[1], LARGEST_LENGTH, length) &&
+           read_pace(words + MEMORY_WORDS, count - MEMORY_WORDS, configuration);
+}
+
+/* `ID COUNT`, the channels, and perhaps more: how long the memory is. */
 static bool read_configuration(const struct word *words, size_t count, uint64_t *configuration, uint64_t *memory)
 {
     if (!read_number(words[0], LARGEST_ID, &configuration[NESPOVARDA_CONFIGURED_DATALINK]) ||
@@ -374,7 +395,7 @@ static bool read_configuration(const struct word *words, size_t count, uint64_t 
         *memory += start[NESPOVARDA_START_SIZE];
         start += NESPOVARDA_CONFIGURATION_SLOT;
     }
-    return read_memory(words + behind, count - behind, memory);
+    return read_memory(words + behind, count - behind, configuration, memory);
 }
 
 static void forget(struct session *session)
@@ -447,14 +468,26 @@ static bool answer_withdraw(struct session *session, const struct word *words, s
     return true;
 }
 
-/* `radio HEX` */
+/* `radio NOW HEX` */
 static bool answer_radio(struct session *session, const struct word *words, size_t count)
 {
     (void)count;
+    uint64_t now;
     struct bytes datagram;
-    if (!read_bytes(words[0], &datagram))
+    if (!read_number(words[0], UINT64_MAX, &now) || !read_bytes(words[1], &datagram))
         return false;
-    say(nespovarda_radio(session->words, session->words_length, datagram.at, datagram.length));
+    say(nespovarda_radio(session->words, session->words_length, now, datagram.at, datagram.length));
+    return true;
+}
+
+/* `pace NOW` */
+static bool answer_pace(struct session *session, const struct word *words, size_t count)
+{
+    (void)count;
+    uint64_t now;
+    if (!read_number(words[0], UINT64_MAX, &now))
+        return false;
+    say(nespovarda_pace(session->words, session->words_length, now));
     return true;
 }
 
@@ -557,6 +590,21 @@ static bool answer_kept(struct session *session, const struct word *words, size_
     return true;
 }
 
+/* `pacer` */
+static bool answer_pacer(struct session *session, const struct word *words, size_t count)
+{
+    (void)words, (void)count;
+    uint64_t pacer[NESPOVARDA_PACER_NUMBERS];
+    nespovarda_answer answer = nespovarda_pacer(session->words, session->words_length, pacer);
+    if (answer.kind != NESPOVARDA_PACER_SHOWN) {
+        say(answer);
+        return true;
+    }
+    printf("pacer %" PRIu64 " %" PRIu64 " %" PRIu64, pacer[NESPOVARDA_PACER_CLOCK], pacer[NESPOVARDA_PACER_DUE],
+           pacer[NESPOVARDA_PACER_HEARD]);
+    return true;
+}
+
 /* ---- The session ---- */
 
 /* A line's first word, how many may stand behind it, and its answer, which is false for a bad line. */
@@ -572,11 +620,13 @@ static const struct {
     {"offer", 4, 4, true, answer_offer},
     {"next", 3, 3, true, answer_next},
     {"withdraw", 1, 1, true, answer_withdraw},
-    {"radio", 1, 1, true, answer_radio},
+    {"radio", 2, 2, true, answer_radio},
+    {"pace", 1, 1, true, answer_pace},
     {"query", 1, 1, true, answer_query},
     {"show", 1, 1, true, answer_show},
     {"store", 1, 1, true, answer_store},
     {"kept", 0, 0, true, answer_kept},
+    {"pacer", 0, 0, true, answer_pacer},
 };
 
 /* The words of a line, one space between two; those behind the last place aren't gone through. */

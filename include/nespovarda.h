@@ -53,9 +53,14 @@ typedef struct {
 #define NESPOVARDA_SHOWN 12          /* the numbers that were asked for are given */
 #define NESPOVARDA_KEPT 13           /* the Link Instance and the Context that the state keeps are given */
 #define NESPOVARDA_NONE_THERE 14     /* no packet waits at that position of the queue */
+#define NESPOVARDA_QUIET 15          /* no query is due, and the radio isn't silent */
+#define NESPOVARDA_QUERY_DUE 16      /* a query is due: HelloTime or more has passed since the last one */
+#define NESPOVARDA_SILENT 17         /* no radio control message was accepted for the silence limit or longer */
+#define NESPOVARDA_QUERY_DUE_SILENT 18 /* both */
+#define NESPOVARDA_PACER_SHOWN 19      /* the pacer's numbers are given */
 
 /*
- * From here on a kind is a refusal: this and document 01's number, so `kind - NESPOVARDA_REFUSED` is the number. The
+ * From here on a kind is a refusal: this and the papers' number, so `kind - NESPOVARDA_REFUSED` is the number. The
  * value is the refusal's place in the datagram: the option's first byte for 3 to 8, the datagram's length for 9 to 11,
  * 0 for all others.
  */
@@ -113,6 +118,10 @@ typedef struct {
  * allow (a number too big for its length too). Here also: words that say nothing, and an end that there isn't
  */
 #define NESPOVARDA_REFUSED_NOT_WRITABLE (NESPOVARDA_REFUSED + 20)
+/* 21: pacer time earlier than its latest */
+#define NESPOVARDA_REFUSED_EARLIER_PACE (NESPOVARDA_REFUSED + 21)
+/* 22: configuration: HelloTime or silence limit of 0 */
+#define NESPOVARDA_REFUSED_NO_WAIT (NESPOVARDA_REFUSED + 22)
 
 /* ---- Limits ---- */
 
@@ -133,14 +142,16 @@ typedef struct {
 /* ---- The state ---- */
 
 /* The words of a state of so many channels, where the number is known when compiling; else nespovarda_words. */
-#define NESPOVARDA_STATE_HEAD 8
+#define NESPOVARDA_STATE_HEAD 13
 #define NESPOVARDA_STATE_SLOT 74
 #define NESPOVARDA_STATE_WORDS(channels) (NESPOVARDA_STATE_HEAD + NESPOVARDA_STATE_SLOT * (channels))
 
 /* A configuration: its first words, then those of each channel, in the order in which the stores stand in the memory. */
 #define NESPOVARDA_CONFIGURED_DATALINK 0 /* the Datalink ID, of 8 bits */
 #define NESPOVARDA_CONFIGURED_COUNT 1    /* how many channels, FEWEST_CHANNELS to MOST_CHANNELS */
-#define NESPOVARDA_CONFIGURATION_HEAD 2  /* how many first words */
+#define NESPOVARDA_CONFIGURED_HELLO 2    /* HelloTime: how long from a query to the next, in milliseconds, not 0 */
+#define NESPOVARDA_CONFIGURED_LIMIT 3    /* the silence limit: how long without a control message, not 0 */
+#define NESPOVARDA_CONFIGURATION_HEAD 4  /* how many first words */
 #define NESPOVARDA_START_ID 0            /* the Channel ID; one of the channels is 0, and none comes twice */
 #define NESPOVARDA_START_KIND 1          /* NESPOVARDA_PLAIN or NESPOVARDA_CONTROLLED */
 #define NESPOVARDA_START_FIRST 2         /* the first Flow Sequence value, of 32 bits */
@@ -157,7 +168,7 @@ uint64_t nespovarda_words(uint64_t channels);
 
 /*
  * A fresh start: fills each store with zeros and writes the first state into the words, whatever stood there. The words
- * are as many as nespovarda_words says, the memory is as long as all stores together. STARTED; REFUSED by 19.
+ * are as many as nespovarda_words says, the memory is as long as all stores together. STARTED; REFUSED by 19, 22.
  */
 nespovarda_answer nespovarda_start(uint64_t *words, size_t words_length,
                                    uint8_t *memory, size_t memory_length,
@@ -191,13 +202,23 @@ nespovarda_answer nespovarda_withdraw(uint64_t *words, size_t words_length,
                                       uint8_t channel);
 
 /*
- * Hands in a datagram from the radio: Channel Status, Flow Windows, Link Instance and Context of a control message; an
- * accepted data message changes nothing, and its packet is had from nespovarda_read_data. ACCEPTED; DUE where the
- * Context is the first, differs from the last one received, or follows an accepted control message without one;
- * REFUSED by 19, then 1 to 11.
+ * Hands in a datagram from the radio at a time of the pacer's clock: Channel Status, Flow Windows, Link Instance and
+ * Context of a control message, and a silence runs anew from it; an accepted data message moves the clock and changes
+ * nothing else, and its packet is had from nespovarda_read_data. ACCEPTED; DUE where the Context is the first, differs
+ * from the last one received, or follows an accepted control message without one; REFUSED by 19, 21, then 1 to 11.
  */
 nespovarda_answer nespovarda_radio(uint64_t *words, size_t words_length,
+                                   uint64_t time,
                                    const uint8_t *datagram, size_t datagram_length);
+
+/*
+ * Asks the pacer at a time: is a query due, to be written by nespovarda_query, and is the radio silent? In a silence
+ * every channel becomes not reported and every flow-controlled one has no window; packets stay waiting. One clock serves
+ * this call and nespovarda_radio, and both waits first run from 0. QUIET, QUERY_DUE, SILENT, QUERY_DUE_SILENT; REFUSED
+ * by 19, 21.
+ */
+nespovarda_answer nespovarda_pace(uint64_t *words, size_t words_length,
+                                  uint64_t time);
 
 /*
  * Writes the IPS control message with a Flow Sequence for each flow-controlled channel; changes no state. WROTE; REFUSED
@@ -209,7 +230,7 @@ nespovarda_answer nespovarda_query(const uint64_t *words, size_t words_length,
 /* ---- What stands in a state ---- */
 
 /* What nespovarda_show gives of a channel. */
-#define NESPOVARDA_SHOWN_REPORTED 0     /* 1 where the last radio control message named it, else 0 */
+#define NESPOVARDA_SHOWN_REPORTED 0     /* 1 where the last control message named it and no silence followed, else 0 */
 #define NESPOVARDA_SHOWN_STATUS 1       /* its status, 0 where it isn't reported */
 #define NESPOVARDA_SHOWN_FLOW 2         /* NESPOVARDA_FREE, NESPOVARDA_NO_WINDOW or NESPOVARDA_IN_FORCE */
 #define NESPOVARDA_SHOWN_WINDOW 3       /* the window in force, else 0 */
@@ -236,6 +257,14 @@ nespovarda_answer nespovarda_query(const uint64_t *words, size_t words_length,
 #define NESPOVARDA_KEPT_CONTEXT 3        /* the number that its bytes spell, big-endian */
 #define NESPOVARDA_KEPT_NUMBERS 4
 
+/* What nespovarda_pacer gives of a state; times are 0 when fresh. */
+#define NESPOVARDA_PACER_HELLO 0 /* HelloTime as configured */
+#define NESPOVARDA_PACER_LIMIT 1 /* the silence limit as configured */
+#define NESPOVARDA_PACER_CLOCK 2 /* the time last taken, of a radio message or of an ask */
+#define NESPOVARDA_PACER_DUE 3   /* when the pacer last answered that a query is due */
+#define NESPOVARDA_PACER_HEARD 4 /* when a radio control message was last accepted */
+#define NESPOVARDA_PACER_NUMBERS 5
+
 /* Shows a channel. SHOWN; REFUSED by 19, 12, the numbers as they were. */
 nespovarda_answer nespovarda_show(const uint64_t *words, size_t words_length,
                                   uint8_t channel,
@@ -252,6 +281,10 @@ nespovarda_answer nespovarda_waiting(const uint64_t *words, size_t words_length,
 /* Shows what the state keeps of radio messages. KEPT; REFUSED by 19, the numbers as they were. */
 nespovarda_answer nespovarda_kept(const uint64_t *words, size_t words_length,
                                   uint64_t shown[NESPOVARDA_KEPT_NUMBERS]);
+
+/* Shows the pacer. PACER_SHOWN; REFUSED by 19, the numbers as they were. */
+nespovarda_answer nespovarda_pacer(const uint64_t *words, size_t words_length,
+                                   uint64_t shown[NESPOVARDA_PACER_NUMBERS]);
 
 /* ---- Messages ---- */
 

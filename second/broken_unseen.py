@@ -25,6 +25,12 @@ UNSEEN_WAYS = of_ciri(
     ("any waiting length in a state",
      "        and all(IPV6_HEADER_LENGTH <= length <= PACKET_LIMIT for length in lengths)\n", ""),
     ("waiting bytes over the store in a state", "        and sum(lengths) <= channel.configuration.store_length\n", ""),
+    ("waits of 0 in a state", "    if not are_waits_allowed(endpoint.pacer):\n        raise Refusal(19)\n", ""),
+    # A wait is one of 64 bits: the session reads no other.
+    ("a wait over 64 bits configured", "fits_bits(wait, 64) and wait != 0", "wait != 0"),
+    # The state is within the limits, so that 19 is never given beside 21.
+    ("21 before 19", "    test_state(endpoint)\n    test_pacer_time(endpoint.pacer, now)\n",
+     "    test_pacer_time(endpoint.pacer, now)\n    test_state(endpoint)\n"),
     # The lent memory is the one of the start, and new there: its bytes are zeros before.
     ("a start leaves the memory's bytes", "    memory[:] = bytes(len(memory))\n", ""),
     # `store` shows a channel's store wherever it stands; no line shows the whole memory.

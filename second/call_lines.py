@@ -15,10 +15,11 @@ def packet(length, mark=0):
     return (b"\x60\0\0\0" + payload_length + bytes((mark + place) % 256 for place in range(6, length)))[:length]
 
 
-def start(*channels, memory=None, datalink_id=DATALINK_ID):
-    """A `start` of channels as (CHANNEL, KIND, FIRST, STORE), perhaps with `memory LEN`."""
+def start(*channels, memory=None, pace=None, datalink_id=DATALINK_ID):
+    """A `start` of channels as (CHANNEL, KIND, FIRST, STORE), perhaps with `memory LEN` and `pace HELLO LIMIT`."""
     words = ["start", datalink_id, len(channels), *(word for channel in channels for word in channel)]
     words += [] if memory is None else ["memory", memory]
+    words += [] if pace is None else ["pace", *pace]
     return " ".join(str(word) for word in words)
 
 
@@ -27,13 +28,19 @@ def offer(channel, time, expiry, octets):
     return f"offer {channel} {time} {expiry} {show_bytes(octets)}"
 
 
-def radio(statuses, windows=(), context=None, link_instance=None):
+def radio(statuses, windows=(), context=None, link_instance=None, time=0):
     """A radio control message of these Statuses and Flow Windows, handed in."""
     meaning = ciri.Meaning(ciri.CONTROL, DATALINK_ID, link_instance, context, dict(statuses), windows=dict(windows))
-    return f"radio {ciri.write_message(ciri.RADIO, meaning, ciri.DATAGRAM_LIMIT).hex()}"
+    return f"radio {time} {ciri.write_message(ciri.RADIO, meaning, ciri.DATAGRAM_LIMIT).hex()}"
+
+
+def radio_data(time, octets=b"\1"):
+    """A radio data message with these bytes as its packet, handed in."""
+    meaning = ciri.Meaning(ciri.DATA, DATALINK_ID, packet=octets)
+    return f"radio {time} {ciri.write_message(ciri.RADIO, meaning, ciri.DATAGRAM_LIMIT).hex()}"
 
 
 def radio_options(options):
     """A radio control message of these options in hexadecimal, read and handed in."""
     message = f"10010001{DATALINK_ID:02x}{options}"
-    return [f"read radio {DATALINK_ID} {message}", f"radio {message}"]
+    return [f"read radio {DATALINK_ID} {message}", f"radio 0 {message}"]

@@ -1,6 +1,6 @@
 """A CIRI endpoint (ARINC 858 Part 3), written from documents 01 and 02 with plain Python integers.
 
-First the messages of both ends and both planes, then the state of the Airborne IPS System's end.
+First the messages of both ends and both planes, then the state of the Airborne IPS System's end and its pacer.
 """
 
 from dataclasses import dataclass, field
@@ -378,20 +378,33 @@ class Channel:
 
 
 @dataclass
+class Pacer:
+    """The two configured waits, the pacer's one clock, and the times that the waits run from."""
+
+    hello_time: int
+    silence_limit: int
+    clock: int = 0
+    last_due: int = 0
+    last_heard: int = 0
+
+
+@dataclass
 class Endpoint:
-    """The kept state: Datalink ID, the channels in configuration order, last Link Instance, last Context received.
+    """The kept state: Datalink ID, the channels in configuration order, pacer, last Link Instance, last Context
+    received.
 
     `is_gap`: the control message accepted just before had no Context.
     """
 
     datalink_id: int
     channels: list
+    pacer: Pacer
     link_instance: LinkInstance | None
     context: bytes | None
     is_gap: bool = False
 
 
-# ---- Number 19 ----
+# ---- Numbers 19 and 22 ----
 
 
 def test_configuration(datalink_id, configurations):
@@ -414,9 +427,16 @@ def test_memory(configurations, memory):
         raise Refusal(19)
 
 
+def are_waits_allowed(pacer):
+    """Whether HelloTime and silence limit are numbers of 64 bits other than 0."""
+    return all(fits_bits(wait, 64) and wait != 0 for wait in (pacer.hello_time, pacer.silence_limit))
+
+
 def test_state(endpoint):
-    """Number 19 of a state."""
+    """Number 19 of a state: a configuration in it that would be refused, by 22 too, and what is kept."""
     test_configuration(endpoint.datalink_id, configurations_of(endpoint))
+    if not are_waits_allowed(endpoint.pacer):
+        raise Refusal(19)
     if endpoint.link_instance is not None and not is_link_instance_allowed(endpoint.link_instance):
         raise Refusal(19)
     if endpoint.context is not None and len(endpoint.context) not in LENGTHS[DATALINK_CONTEXT]:
@@ -445,12 +465,14 @@ def configurations_of(endpoint):
 # ---- Fresh start ----
 
 
-def start_endpoint(datalink_id, configurations, memory):
-    """A fresh start: the fresh state; each store in the lent memory is filled with zeros."""
+def start_endpoint(datalink_id, configurations, pacer, memory):
+    """A fresh start: the fresh state; each store in the lent memory is filled with zeros. Order: 19, 22."""
     test_configuration(datalink_id, configurations)
     test_memory(configurations, memory)
+    if not are_waits_allowed(pacer):
+        raise Refusal(22)
     memory[:] = bytes(len(memory))
-    return Endpoint(datalink_id, [start_channel(configuration) for configuration in configurations], None, None)
+    return Endpoint(datalink_id, [start_channel(configuration) for configuration in configurations], pacer, None, None)
 
 
 def start_channel(configuration):
@@ -611,12 +633,15 @@ def keep_waiting(endpoint, memory, channel, packets):
 # ---- A radio message handed in ----
 
 
-def accept_radio(endpoint, datagram):
-    """A radio message handed in; gives whether a mobility message is due. Order: 19, then as for reading."""
+def accept_radio(endpoint, now, datagram):
+    """A radio message handed in; gives whether a mobility message is due. Order: 19, 21, then as for reading."""
     test_state(endpoint)
+    test_pacer_time(endpoint.pacer, now)
     meaning = read_message(RADIO, endpoint.datalink_id, datagram)
+    endpoint.pacer.clock = now
     if meaning.plane == DATA:
         return False
+    endpoint.pacer.last_heard = now
     for channel in endpoint.channels:
         update_channel(channel, meaning)
     if meaning.link_instance is not None:
@@ -655,6 +680,38 @@ def update_context(endpoint, meaning):
 def kept_context(endpoint):
     """The Context of the control message accepted just before, where it had one."""
     return None if endpoint.is_gap else endpoint.context
+
+
+# ---- The pacer ----
+
+
+def test_pacer_time(pacer, now):
+    """Number 21: pacer time earlier than its latest."""
+    if now < pacer.clock:
+        raise Refusal(21)
+
+
+def ask_pacer(endpoint, now):
+    """Whether a query is due, and whether the radio is silent: then every channel hears so. Order: 19, 21."""
+    test_state(endpoint)
+    pacer = endpoint.pacer
+    test_pacer_time(pacer, now)
+    pacer.clock = now
+    is_due = pacer.last_due + pacer.hello_time <= now
+    if is_due:
+        pacer.last_due = now
+    is_silent = pacer.last_heard + pacer.silence_limit <= now
+    if is_silent:
+        for channel in endpoint.channels:
+            silence_channel(channel)
+    return is_due, is_silent
+
+
+def silence_channel(channel):
+    """A channel is not reported; a flow-controlled one, free or not, has no window. Packets stay waiting."""
+    channel.status = None
+    if channel.configuration.is_flow_controlled:
+        channel.flow = NO_WINDOW
 
 
 # ---- Query ----

@@ -11,7 +11,9 @@ from session import Session
 HAPPENINGS = (
     "wrap crossed", "window granted", "window shrunk", "window withdrawn", "window absent", "status up", "status down",
     "status not reported", "context of another length", "context of other bytes", "same context after a gap",
-    "expired in the middle", "a byte too short",
+    "expired in the middle", "a byte too short", "silence over waiting packets", "silence on a free channel",
+    "silence under a window", "silence on a plain channel", "silent again", "late query",
+    "data message after a limit", "control message after a limit", "refused message after a limit",
 )
 
 
@@ -30,13 +32,17 @@ def count_happenings(lines):
 
 def keep_endpoint(endpoint):
     """The state as it stands, for a look back after a call."""
-    return dataclasses.replace(endpoint, channels=[copy.copy(channel) for channel in endpoint.channels])
+    channels = [copy.copy(channel) for channel in endpoint.channels]
+    return dataclasses.replace(endpoint, channels=channels, pacer=copy.copy(endpoint.pacer))
 
 
 def find_happenings(before, words, answer, session):
     """What one call brought about."""
     if words[0] == "radio":
         yield from find_in_radio(before, session.endpoint)
+        yield from find_in_time(before.pacer, int(words[1]), session.endpoint.pacer)
+    elif words[0] == "pace":
+        yield from find_in_pace(before, int(words[1]), answer)
     elif words[0] == "next" and answer == "refused 18 0":
         yield from find_in_short_room(words, session)
     elif words[0] in ("offer", "next") and not answer.startswith("refused"):
@@ -51,6 +57,36 @@ def find_in_radio(before, after):
     for old, new in zip(before.channels, after.channels):
         yield from find_in_status(old.status, new.status)
         yield from find_in_flow(old.flow, new.flow)
+
+
+def find_in_time(before, now, after):
+    """A radio message that came when the silence limit was over already, which it doesn't test."""
+    if now >= before.clock and now >= before.last_heard + before.silence_limit:
+        name = "refused" if after.clock != now else "control" if after.last_heard == now else "data"
+        yield f"{name} message after a limit"
+
+
+def find_in_pace(before, now, answer):
+    """What the pacer's answer brought about: a query due late, a silence and what it ended."""
+    if "due" in answer and now > before.pacer.last_due + before.pacer.hello_time:
+        yield "late query"
+    if "silent" in answer:
+        yield from (name for channel in before.channels for name in find_in_silence(channel))
+        if all(channel.status is None for channel in before.channels):
+            yield "silent again"
+
+
+def find_in_silence(channel):
+    """What a silence ended on a channel that was reported."""
+    if channel.status is not None:
+        if channel.queue:
+            yield "silence over waiting packets"
+        if not channel.configuration.is_flow_controlled:
+            yield "silence on a plain channel"
+        elif channel.flow == ciri.FREE:
+            yield "silence on a free channel"
+        elif channel.flow != ciri.NO_WINDOW:
+            yield "silence under a window"
 
 
 def find_in_short_room(words, session):

@@ -2,7 +2,7 @@
 
 import ciri
 from call_lines import start
-from random_values import chance, clamp, draw_datalink, draw_number, pick
+from random_values import chance, clamp, draw_datalink, draw_number, draw_wait, pick
 from session import LENGTH_LIMIT, SEQUENCE_LIMIT
 
 
@@ -28,7 +28,17 @@ def draw_start(dice):
     count = pick(dice, (3, 1), (5, 2), (5, 3), (3, 4), (2, dice.randrange(5, 17)), (1, dice.randrange(17, 64)), (1, 64))
     channels = draw_configurations(dice, count)
     memory = sum(channel[3] for channel in channels) if chance(dice, 10) else None
-    return start(*channels, memory=memory, datalink_id=draw_datalink(dice))
+    return start(*channels, memory=memory, pace=draw_pace(dice), datalink_id=draw_datalink(dice))
+
+
+def draw_pace(dice):
+    """HelloTime and silence limit within the limits, or none."""
+    return (draw_wait(dice), draw_wait(dice)) if chance(dice, 70) else None
+
+
+def draw_refused_pace(dice):
+    """One of the two is 0, or both."""
+    return dice.choice(((0, draw_wait(dice)), (draw_wait(dice), 0), (0, 0)))
 
 
 def miscount_channels(dice, channels):
@@ -62,11 +72,16 @@ CHANNELS_DAMAGES = (miscount_channels, reserve_channel, repeat_channel, drop_pri
 
 
 def draw_refused_start(dice):
-    """A start with one thing outside the limits: a memory of another length, or something about the channels."""
+    """A start with something outside the limits: a memory of another length, a wait of 0, something about the channels;
+    seldom one of these and a wait of 0."""
     channels = draw_configurations(dice, pick(dice, (8, dice.randrange(1, 5)), (0.5, 16), (0.5, 64)))
-    if chance(dice, 20):
+    memory, pace = None, draw_refused_pace(dice) if chance(dice, 15) else draw_pace(dice)
+    damage = pick(dice, (2, "memory"), (6, "channels"), (2, "pace"))
+    if damage == "memory":
         stores = sum(channel[3] for channel in channels)
-        memory = dice.choice((stores - 1, stores + 1, 0, stores + 1500, LENGTH_LIMIT))
-        return start(*channels, memory=clamp(memory, LENGTH_LIMIT), datalink_id=draw_datalink(dice))
-    dice.choice(CHANNELS_DAMAGES)(dice, channels)
-    return start(*channels, datalink_id=draw_datalink(dice))
+        memory = clamp(dice.choice((stores - 1, stores + 1, 0, stores + 1500, LENGTH_LIMIT)), LENGTH_LIMIT)
+    elif damage == "channels":
+        dice.choice(CHANNELS_DAMAGES)(dice, channels)
+    else:
+        pace = draw_refused_pace(dice)
+    return start(*channels, memory=memory, pace=pace, datalink_id=draw_datalink(dice))

@@ -12,21 +12,22 @@ from session import LENGTH_LIMIT, LINE_LIMIT, TIME_LIMIT, Session, show_bytes
 # How often each line comes in each phase of a session.
 PHASES = {
     "mixed": (
-        (30, "offer"), (28, "next"), (2, "withdraw"), (16, "radio"),
-        (5, "query"), (10, "show"), (3, "store"), (3, "kept"), (2, "start"),
+        (30, "offer"), (28, "next"), (2, "withdraw"), (16, "radio"), (5, "pace"),
+        (5, "query"), (10, "show"), (3, "store"), (3, "kept"), (3, "pacer"), (2, "start"),
     ),
     "fill": (
-        (80, "offer"), (3, "next"), (0.2, "withdraw"), (4, "radio"),
-        (1, "query"), (6, "show"), (2, "store"), (1, "kept"), (1, "start"),
+        (80, "offer"), (3, "next"), (0.2, "withdraw"), (4, "radio"), (2, "pace"),
+        (1, "query"), (6, "show"), (2, "store"), (1, "kept"), (1, "pacer"), (1, "start"),
     ),
     "drain": (
-        (6, "offer"), (62, "next"), (0.5, "withdraw"), (16, "radio"),
-        (2, "query"), (9, "show"), (3, "store"), (3, "kept"), (1, "start"),
+        (6, "offer"), (62, "next"), (0.5, "withdraw"), (16, "radio"), (2, "pace"),
+        (2, "query"), (9, "show"), (3, "store"), (3, "kept"), (1, "pacer"), (1, "start"),
     ),
 }
 
 LINES_OF_ANY_STATE = (
-    "query 100", "show 0", "store 0", "withdraw 0", "next 0 0 0", "radio -", "offer 0 0 1 -", "kept",
+    "query 100", "show 0", "store 0", "withdraw 0", "next 0 0 0", "radio 0 -", "offer 0 0 1 -", "kept",
+    "pace 0", "pacer",
 )
 
 
@@ -58,10 +59,12 @@ class StateLines:
             "next": self.draw_next,
             "withdraw": self.draw_withdraw,
             "radio": self.draw_radio,
+            "pace": self.draw_pace,
             "query": self.draw_query,
             "show": self.draw_show,
             "store": self.draw_store,
             "kept": self.draw_kept,
+            "pacer": self.draw_pacer,
             "start": self.draw_start,
         }
         return draws[word]()
@@ -130,6 +133,20 @@ class StateLines:
         now = pick(self.dice, (93, self.clock), (3, channel.latest - 1), (2, channel.latest), (0.5, 0))
         return clamp(now, TIME_LIMIT)
 
+    def draw_step(self):
+        """By how much a clock goes forward, seldom by nothing."""
+        return pick(self.dice, (20, 0), (40, self.dice.randrange(1, 6)), (10, self.dice.randrange(10, 100)))
+
+    def draw_pacer_now(self, aimed):
+        """A time for the pacer, mostly going forward, in that percentage of draws about where a wait is over; seldom
+        before its clock."""
+        pacer = self.session.endpoint.pacer
+        due, silent = pacer.last_due + pacer.hello_time, pacer.last_heard + pacer.silence_limit
+        over = pick(self.dice, (2, due), (3, silent)) + pick(self.dice, (3, 0), (3, -1), (1, 1))
+        forward = max(self.clock, pacer.clock) + self.draw_step()
+        now = over if chance(self.dice, aimed) and pacer.clock <= over <= TIME_LIMIT else forward
+        return clamp(pick(self.dice, (94, now), (3, pacer.clock), (3, pacer.clock - 1), (0.5, 0)), TIME_LIMIT)
+
     def draw_expiry(self, now):
         """An expiry, mostly after the time given; soon or far."""
         soon = pick(self.dice, (1, 1), (3, self.dice.randrange(2, 30)), (3, self.dice.randrange(30, 600)))
@@ -175,16 +192,27 @@ class StateLines:
         """`kept`"""
         return "kept"
 
+    def draw_pacer(self):
+        """`pacer`"""
+        return "pacer"
+
+    def draw_pace(self):
+        """`pace NOW`"""
+        return f"pace {self.draw_pacer_now(50)}"
+
     def draw_query(self):
         """`query ROOM`"""
         size = len(ciri.query_message(self.session.endpoint, LENGTH_LIMIT))
         return f"query {draw_room_near(self.dice, size)}"
 
     def draw_radio(self):
-        """`radio HEX`"""
+        """`radio NOW HEX`"""
         datalink_id = self.session.endpoint.datalink_id
-        draw = pick(self.dice, (90, self.draw_control), (6, self.draw_data), (6, self.draw_any), (0.1, self.draw_long))
-        return f"radio {show_bytes(draw(datalink_id))}"
+        head = f"radio {self.draw_pacer_now(5)} "
+        if chance(self.dice, 0.1):
+            return self.draw_long(head)
+        draw = pick(self.dice, (90, self.draw_control), (6, self.draw_data), (6, self.draw_any))
+        return head + show_bytes(draw(datalink_id))
 
     def draw_control(self, datalink_id):
         """A radio control message for the configured channels: faultless, damaged, or at the datagram's limit."""
@@ -200,9 +228,9 @@ class StateLines:
         """A message of either end."""
         return draw_datagram(self.dice, self.dice.choice(ENDS), datalink_id)
 
-    def draw_long(self, _):
-        """A datagram for a line of the greatest length, or just over it."""
-        return bytes((LINE_LIMIT - len("radio ")) // 2 + self.dice.randrange(2))
+    def draw_long(self, head):
+        """A line of the greatest length with this head, or one just over it."""
+        return head + "00" * ((LINE_LIMIT - len(head)) // 2 + self.dice.randrange(2))
 
     def draft_control(self, datalink_id):
         """A radio control message for the configured channels, seldom for others too."""

@@ -18,6 +18,10 @@ BYTE_STRING = re.compile(rb"(?:[0-9a-f]{2})+")
 ENDS = {b"ips": ciri.IPS, b"radio": ciri.RADIO}
 IS_FLOW_CONTROLLED = {b"plain": False, b"flow": True}
 WORDS_OF_A_CHANNEL = 4
+# HelloTime and silence limit where a start says none.
+USUAL_WAITS = [5000, 9000]
+# The pacer's answers: whether a query is due, whether the radio is silent.
+PACES = {(False, False): "quiet", (True, False): "due", (False, True): "silent", (True, True): "due silent"}
 
 
 class BadLine(Exception):
@@ -122,15 +126,21 @@ def answer_echo(_, end_word, id_word, hex_word, end2_word, room_word):
 
 
 def answer_start(session, id_word, count_word, *words):
-    """`start ID COUNT`, for each channel `CHANNEL KIND FIRST STORE`, optionally `memory LEN`"""
+    """`start ID COUNT`, for each channel `CHANNEL KIND FIRST STORE`, then `memory LEN` and `pace HELLO LIMIT`, or not"""
     datalink_id = read_number(id_word, ID_LIMIT)
     channels_end = WORDS_OF_A_CHANNEL * read_number(count_word, COUNT_LIMIT)
     if len(words) < channels_end:
         raise BadLine
     places = range(0, channels_end, WORDS_OF_A_CHANNEL)
     configurations = [read_configuration(*words[place : place + WORDS_OF_A_CHANNEL]) for place in places]
-    memory = bytearray(read_memory_length(configurations, words[channels_end:]))
-    session.endpoint = ciri.start_endpoint(datalink_id, configurations, memory)
+    rest = list(words[channels_end:])
+    stores = sum(configuration.store_length for configuration in configurations)
+    (memory_length,) = read_perhaps(rest, b"memory", LENGTH_LIMIT, [stores])
+    pacer = ciri.Pacer(*read_perhaps(rest, b"pace", TIME_LIMIT, USUAL_WAITS))
+    if rest:
+        raise BadLine
+    memory = bytearray(memory_length)
+    session.endpoint = ciri.start_endpoint(datalink_id, configurations, pacer, memory)
     session.memory = memory
     return "started"
 
@@ -145,13 +155,15 @@ def read_configuration(channel_word, kind_word, first_word, store_word):
     )
 
 
-def read_memory_length(configurations, words):
-    """The length of all stores together unless `memory LEN` gives another."""
-    if len(words) == 0:
-        return sum(configuration.store_length for configuration in configurations)
-    if len(words) != 2 or words[0] != b"memory":
+def read_perhaps(words, keyword, limit, usual):
+    """Takes a keyword and as many numbers as are usual from the front of the words, or nothing where it isn't there."""
+    if words[:1] != [keyword]:
+        return usual
+    taken = words[1 : 1 + len(usual)]
+    if len(taken) < len(usual):
         raise BadLine
-    return read_number(words[1], LENGTH_LIMIT)
+    del words[: 1 + len(usual)]
+    return [read_number(word, limit) for word in taken]
 
 
 def answer_offer(session, channel_word, now_word, expiry_word, hex_word):
@@ -179,10 +191,16 @@ def answer_withdraw(session, channel_word):
     return "withdrawn"
 
 
-def answer_radio(session, hex_word):
-    """`radio HEX`"""
-    is_due = ciri.accept_radio(session.endpoint, read_bytes(hex_word))
+def answer_radio(session, now_word, hex_word):
+    """`radio NOW HEX`"""
+    now = read_number(now_word, TIME_LIMIT)
+    is_due = ciri.accept_radio(session.endpoint, now, read_bytes(hex_word))
     return "accepted due" if is_due else "accepted"
+
+
+def answer_pace(session, now_word):
+    """`pace NOW`"""
+    return PACES[ciri.ask_pacer(session.endpoint, read_number(now_word, TIME_LIMIT))]
 
 
 def answer_query(session, room_word):
@@ -207,21 +225,29 @@ def answer_kept(session):
     return " ".join(["kept", *show_link_and_context(session.endpoint.link_instance, context)])
 
 
+def answer_pacer(session):
+    """`pacer`"""
+    pacer = session.endpoint.pacer
+    return f"pacer {pacer.clock} {pacer.last_due} {pacer.last_heard}"
+
+
 # ---- The session ----
 
 # For each line's first word: its answer, the least and the greatest number of words behind it.
 LINES = {
     b"read": (answer_read, 3, 3),
     b"echo": (answer_echo, 5, 5),
-    b"start": (answer_start, 2, 2 + WORDS_OF_A_CHANNEL * COUNT_LIMIT + 2),
+    b"start": (answer_start, 2, 2 + WORDS_OF_A_CHANNEL * COUNT_LIMIT + 5),
     b"offer": (answer_offer, 4, 4),
     b"next": (answer_next, 3, 3),
     b"withdraw": (answer_withdraw, 1, 1),
-    b"radio": (answer_radio, 1, 1),
+    b"radio": (answer_radio, 2, 2),
+    b"pace": (answer_pace, 1, 1),
     b"query": (answer_query, 1, 1),
     b"show": (answer_show, 1, 1),
     b"store": (answer_store, 1, 1),
     b"kept": (answer_kept, 0, 0),
+    b"pacer": (answer_pacer, 0, 0),
 }
 WITHOUT_STATE = (b"read", b"echo", b"start")
 

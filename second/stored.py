@@ -1,7 +1,8 @@
 """stored.py: prints the stored script of `session`, the same at each run; it fails where the script lacks something.
 
 Lines about messages, document 01's examples as calls, lines that break the format, states at their limits, two faults
-in one message, lengths and values next to those listed, the sample flight of docs/, and a long flight drawn by lot.
+in one message, lengths and values next to those listed, the pacer, the sample flight of docs/, and a long flight drawn
+by lot.
 """
 
 import collections
@@ -19,13 +20,15 @@ from stored_lengths import length_lines
 from stored_limits import limit_lines
 from stored_messages import message_lines
 from stored_orders import order_lines
+from stored_pacer import pacer_lines
 
 SAMPLE = pathlib.Path(__file__).resolve().parent.parent / "docs" / "samples" / "flight"
 FEWEST_OF_EACH = 5
-REFUSALS = [f"refused {number}" for number in range(1, 21)]
+REFUSALS = [f"refused {number}" for number in range(1, 23)]
 ANSWERS = [
     "control", "data", "written", "started", "taken", "sent", "nothing waiting", "not operational", "window shut",
-    "withdrawn", "accepted", "accepted due", "query", "channel", "store", "kept",
+    "withdrawn", "accepted", "accepted due", "query", "channel", "store", "kept", "quiet", "due", "silent",
+    "due silent", "pacer",
     "bad line",
 ]
 
@@ -40,6 +43,7 @@ def all_lines():
     yield from limit_lines()
     yield from order_lines()
     yield from length_lines()
+    yield from pacer_lines()
     yield from SAMPLE.read_text().splitlines()
     yield from flight_lines()
 

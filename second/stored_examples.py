@@ -17,7 +17,7 @@ WINDOWS = (WINDOW, "06000102", WINDOW, "", WINDOW, "0600050200000000", "060001ff
 def before_start():
     """Before a state is started, lines that ask for one are bad; a refused start starts none."""
     asked = [offer(0, 0, 1, packet(40)), "next 0 0 100", "withdraw 0", radio({0: 7}), "query 100"]
-    asked += ["show 0", "store 0", "kept"]
+    asked += ["show 0", "store 0", "kept", "pace 0", "pacer"]
     yield from asked
     yield from (start(), start((0, "plain", 0, 1499)), "start 7 1 0 plain 0")
     yield from asked

@@ -14,14 +14,25 @@ from random_values import chance, pick
 from session import show_bytes
 
 CALLS = 5000
-LOOKS = ("show", "store")
+LOOKS = ("show", "store", "pacer")
+# HelloTime and silence limit: so short that both are often over.
+PACE = (300, 700)
 # Stores: small ones, and such that take the longest packet.
 SMALL, LONG = (1500, 3001), (9000, 20000)
 # How often each line comes in each phase of the flight.
 PHASES = {
-    "mixed": ((30, "offer"), (34, "next"), (1, "withdraw"), (14, "radio"), (2, "query"), (8, "show"), (0.6, "store")),
-    "fill": ((80, "offer"), (6, "next"), (0.2, "withdraw"), (6, "radio"), (1, "query"), (5, "show"), (0.4, "store")),
-    "drain": ((8, "offer"), (66, "next"), (0.3, "withdraw"), (16, "radio"), (1, "query"), (8, "show"), (0.6, "store")),
+    "mixed": (
+        (30, "offer"), (34, "next"), (1, "withdraw"), (14, "radio"), (4, "pace"),
+        (2, "query"), (8, "show"), (0.6, "store"), (1, "pacer"),
+    ),
+    "fill": (
+        (80, "offer"), (6, "next"), (0.2, "withdraw"), (6, "radio"), (3, "pace"),
+        (1, "query"), (5, "show"), (0.4, "store"), (1, "pacer"),
+    ),
+    "drain": (
+        (8, "offer"), (66, "next"), (0.3, "withdraw"), (16, "radio"), (3, "pace"),
+        (1, "query"), (8, "show"), (0.6, "store"), (1, "pacer"),
+    ),
 }
 
 
@@ -54,9 +65,9 @@ class Flight(StateLines):
         return offer(self.show_channel_id(channel), now, self.draw_expiry(now), packet)
 
     def draw_radio(self):
-        """`radio HEX`: a control message, now and then a damaged one, or a data message."""
-        draw = pick(self.dice, (88, self.draw_faultless), (8, self.draw_damaged), (4, self.draw_data))
-        return f"radio {show_bytes(draw(DATALINK_ID))}"
+        """`radio NOW HEX`: a control message, now and then a damaged one, or a data message."""
+        draw = pick(self.dice, (82, self.draw_faultless), (12, self.draw_damaged), (6, self.draw_data))
+        return f"radio {self.draw_pacer_now(20)} {show_bytes(draw(DATALINK_ID))}"
 
     def draw_faultless(self, datalink_id):
         """A control message for the configured channels."""
@@ -74,7 +85,7 @@ def draw_flight_start(dice):
     firsts = [ciri.MODULUS - dice.randrange(100, 4000) for _ in channels]
     return start(*[
         (channel, "plain" if place % 6 == 3 else "flow", first, dice.randrange(*(LONG if place % 10 == 7 else SMALL)))
-        for place, (channel, first) in enumerate(zip(channels, firsts))])
+        for place, (channel, first) in enumerate(zip(channels, firsts))], pace=PACE)
 
 
 def flight_lines():

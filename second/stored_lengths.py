@@ -92,11 +92,11 @@ def kept():
     for context in (b"A", None):
         yield from (radio({0: 7}, context=context), "kept")
         for message in refused:
-            yield from (f"radio {message}", "kept", "show 0")
+            yield from (f"radio 0 {message}", "kept", "show 0")
     yield from (radio({0: 7}, context=b"\x66"), "kept")
-    yield from (f"radio 1801000107{PACKET}", "kept", offer(0, 1, 9, packet(40)), f"next 0 1 {ROOMY}", "kept")
+    yield from (f"radio 0 1801000107{PACKET}", "kept", offer(0, 1, 9, packet(40)), f"next 0 1 {ROOMY}", "kept")
     yield from (start((0, "plain", 0, 1499)), "kept", "query 100", "withdraw 0", "kept", start((0, "plain", 0, 1500)))
-    yield from ("kept", f"radio 1001000107{STATUS}{new}", "kept")
+    yield from ("kept", f"radio 0 1001000107{STATUS}{new}", "kept")
 
 
 def length_lines():

@@ -141,14 +141,14 @@ def contexts():
     for context in given:
         yield radio({0: 7}, context=context, link_instance=ciri.LinkInstance(8, 2**64 - 1) if context else None)
     message = radio({0: 3, 254: 3}, {4: 4}, context=b"\2")
-    yield from (message + "00", message.replace("radio 1001000107", "radio 1001000108"), "show 0", message, message)
-    yield from ("radio 18010001078000020102", "show 0", "radio -", "radio 20", "radio 10", "radio 1001000107")
+    yield from (message + "00", message.replace("radio 0 1001000107", "radio 0 1001000108"), "show 0", message, message)
+    yield from ("radio 0 18010001078000020102", "show 0", "radio 0 -", "radio 0 20", "radio 0 10", "radio 0 1001000107")
 
 
 def gaps():
     """After a control message without a Context any is due, and once; data and refused messages are no gap."""
     yield start((0, "plain", 0, 1500))
-    no_gap = (f"radio 1801000107{PACKET}", "kept", radio({0: 7}) + "00", "kept")
+    no_gap = (f"radio 0 1801000107{PACKET}", "kept", radio({0: 7}) + "00", "kept")
     yield from (radio({0: 7}, context=b"A"), "kept", radio({0: 7}), "kept", *no_gap)
     yield from (radio({0: 7}, context=b"A"), "kept", radio({0: 7}, context=b"A"), "kept", *no_gap)
     yield from (radio({0: 7}, context=b"A"), "kept", radio({0: 7}), radio({0: 7}), "kept")
@@ -161,7 +161,7 @@ def long_messages():
     named = "0500020003" + "050002fe07" + "060005fe00000400"
     for length in (65507, 65508):
         skipped = length - 5 - 3 - len(named) // 2
-        yield from (f"radio 1001000107c8{skipped:04x}{'5a' * skipped}{named}", "show 0", "show 254")
+        yield from (f"radio 0 1001000107c8{skipped:04x}{'5a' * skipped}{named}", "show 0", "show 254")
 
 
 def many_channels(channels, turns):

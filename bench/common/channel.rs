@@ -90,6 +90,14 @@ impl Channel {
         }
     }
 
+    // The radio is silent.
+    pub fn hush(&mut self) {
+        self.status = None;
+        if self.controlled {
+            self.flow = Flow::NoWindow;
+        }
+    }
+
     // The packets from an index on that are not expired move to the store's start, all others leave. Where they end.
     fn retain(&mut self, store: &mut [u8], index: usize, start: usize, time: u64) -> usize {
         let (mut kept, mut from, mut to) = (0, start, 0);

@@ -1,4 +1,4 @@
-// A plain endpoint by document 01: a Vec of channels, the plain reader. It shares no code with the proved one, but its writer knew that one.
+// A plain endpoint by documents 01 and 02: a Vec of channels, the plain reader. It shares no code with the proved one, but its writer knew that one.
 #![allow(dead_code)]
 use super::channel::{Channel, Next};
 use super::library::*;
@@ -14,8 +14,39 @@ struct Endpoint {
     rising: Vec<usize>,
     instance: Option<(u64, usize)>,
     context: Option<(u64, usize)>,
+    pacer: Pacer,
     // Whether each call looks for number 19. Nobody else can change what is in here, so that a Rust program would leave the test out.
     tests: bool,
+}
+
+// HelloTime and silence limit; the clock, the last query due, the last accepted control message.
+struct Pacer {
+    hello: u64,
+    limit: u64,
+    clock: u64,
+    due: u64,
+    heard: u64,
+}
+
+// Whether a wait since a time is over.
+fn has_passed(since: u64, wait: u64, time: u64) -> bool {
+    since.checked_add(wait).is_some_and(|end| end <= time)
+}
+
+impl Pacer {
+    fn fits(&self) -> bool {
+        self.hello > 0 && self.limit > 0
+    }
+
+    // Whether a query is due, and whether the radio is silent.
+    fn ask(&mut self, time: u64) -> (bool, bool) {
+        let due = has_passed(self.due, self.hello, time);
+        self.clock = time;
+        if due {
+            self.due = time;
+        }
+        (due, has_passed(self.heard, self.limit, time))
+    }
 }
 
 fn name_fits(name: Option<(u64, usize)>) -> bool {
@@ -28,9 +59,13 @@ impl Endpoint {
         let channels: Vec<Channel> = setup.starts.iter().map(|start| Channel::new(start.id, start.controlled, start.size, start.first)).collect();
         let mut rising: Vec<usize> = (0..channels.len()).collect();
         rising.sort_by_key(|at| channels[*at].id);
-        let endpoint = Endpoint { datalink: setup.datalink, channels, rising, instance: None, context: None, tests };
-        if !endpoint.fits() || endpoint.size() != memory.len() {
+        let pacer = Pacer { hello: setup.hello, limit: setup.limit, clock: 0, due: 0, heard: 0 };
+        let endpoint = Endpoint { datalink: setup.datalink, channels, rising, instance: None, context: None, pacer, tests };
+        if !endpoint.channels_fit() || endpoint.size() != memory.len() {
             return Err(19);
+        }
+        if !endpoint.pacer.fits() {
+            return Err(22);
         }
         memory.fill(0);
         Ok(endpoint)
@@ -40,7 +75,7 @@ impl Endpoint {
         self.channels.iter().map(|channel| channel.size).sum()
     }
 
-    fn fits(&self) -> bool {
+    fn channels_fit(&self) -> bool {
         let mut seen = [false; 256];
         for channel in &self.channels {
             if !channel.fits() || seen[channel.id as usize] {
@@ -48,7 +83,11 @@ impl Endpoint {
             }
             seen[channel.id as usize] = true;
         }
-        (1..=MOST_CHANNELS).contains(&self.channels.len()) && seen[0] && name_fits(self.instance) && name_fits(self.context)
+        (1..=MOST_CHANNELS).contains(&self.channels.len()) && seen[0]
+    }
+
+    fn fits(&self) -> bool {
+        self.channels_fit() && name_fits(self.instance) && name_fits(self.context) && self.pacer.fits()
     }
 
     // 19, 12, then the channel with its store.
@@ -97,9 +136,12 @@ impl Endpoint {
 
     // Whether a mobility message is due; or a number with its place.
     #[inline(never)]
-    fn hand_in(&mut self, datagram: &[u8]) -> Result<bool, (u8, usize)> {
+    fn hand_in(&mut self, time: u64, datagram: &[u8]) -> Result<bool, (u8, usize)> {
         if self.tests && !self.fits() {
             return Err((19, 0));
+        }
+        if time < self.pacer.clock {
+            return Err((21, 0));
         }
         match read_control(datagram, End::Radio, self.datalink) {
             Ok(message) => {
@@ -112,14 +154,33 @@ impl Endpoint {
                 }
                 let due = message.context.is_some() && message.context != self.context;
                 self.context = message.context;
+                (self.pacer.clock, self.pacer.heard) = (time, time);
                 Ok(due)
             }
             Err(Refused(number, place)) => Err((number, place)),
             Err(OtherPlane) => match read_data(datagram, End::Radio, self.datalink) {
                 Err(Refused(number, place)) => Err((number, place)),
-                _ => Ok(false),
+                _ => {
+                    self.pacer.clock = time;
+                    Ok(false)
+                }
             },
         }
+    }
+
+    #[inline(never)]
+    fn pace(&mut self, time: u64) -> Result<(bool, bool), u8> {
+        if self.tests && !self.fits() {
+            return Err(19);
+        }
+        if time < self.pacer.clock {
+            return Err(21);
+        }
+        let (due, silent) = self.pacer.ask(time);
+        if silent {
+            self.channels.iter_mut().for_each(Channel::hush);
+        }
+        Ok((due, silent))
     }
 
     #[inline(never)]
@@ -209,11 +270,24 @@ impl Calls for Plain {
         }
     }
 
-    fn radio(&mut self, datagram: &[u8]) -> Answer {
+    fn radio(&mut self, time: u64, datagram: &[u8]) -> Answer {
         match &mut self.started {
-            Some(endpoint) => match endpoint.hand_in(datagram) {
+            Some(endpoint) => match endpoint.hand_in(time, datagram) {
                 Ok(due) => plainly(if due { DUE } else { ACCEPTED }),
                 Err((number, place)) => refused(number, place),
+            },
+            None => refused(19, 0),
+        }
+    }
+
+    fn pace(&mut self, time: u64) -> Answer {
+        match &mut self.started {
+            Some(endpoint) => match endpoint.pace(time) {
+                Ok((false, false)) => plainly(QUIET),
+                Ok((true, false)) => plainly(QUERY_DUE),
+                Ok((false, true)) => plainly(SILENT),
+                Ok((true, true)) => plainly(QUERY_DUE_SILENT),
+                Err(number) => refused(number, 0),
             },
             None => refused(19, 0),
         }

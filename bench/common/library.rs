@@ -19,6 +19,10 @@ pub const WITHDRAWN: u64 = 7;
 pub const ACCEPTED: u64 = 8;
 pub const DUE: u64 = 9;
 pub const WROTE: u64 = 11;
+pub const QUIET: u64 = 15;
+pub const QUERY_DUE: u64 = 16;
+pub const SILENT: u64 = 17;
+pub const QUERY_DUE_SILENT: u64 = 18;
 pub const REFUSED: u64 = 256;
 
 extern "C" {
@@ -37,7 +41,8 @@ extern "C" {
     ) -> Answer;
     fn nespovarda_next(words: *mut u64, count: usize, memory: *mut u8, size: usize, channel: u8, time: u64, out: *mut u8, room: usize) -> Answer;
     fn nespovarda_withdraw(words: *mut u64, count: usize, memory: *mut u8, size: usize, channel: u8) -> Answer;
-    fn nespovarda_radio(words: *mut u64, count: usize, datagram: *const u8, length: usize) -> Answer;
+    fn nespovarda_radio(words: *mut u64, count: usize, time: u64, datagram: *const u8, length: usize) -> Answer;
+    fn nespovarda_pace(words: *mut u64, count: usize, time: u64) -> Answer;
     fn nespovarda_query(words: *const u64, count: usize, out: *mut u8, room: usize) -> Answer;
 }
 
@@ -50,7 +55,7 @@ pub struct Proved {
 impl Proved {
     pub fn new(setup: &Setup) -> Proved {
         let count = setup.starts.len() as u64;
-        let mut configuration = vec![setup.datalink as u64, count];
+        let mut configuration = vec![setup.datalink as u64, count, setup.hello, setup.limit];
         for start in &setup.starts {
             configuration.extend([start.id as u64, start.controlled as u64, start.first as u64, start.size as u64]);
         }
@@ -79,9 +84,14 @@ impl Calls for Proved {
         unsafe { nespovarda_withdraw(words.as_mut_ptr(), words.len(), memory.as_mut_ptr(), memory.len(), id) }
     }
 
-    fn radio(&mut self, datagram: &[u8]) -> Answer {
+    fn radio(&mut self, time: u64, datagram: &[u8]) -> Answer {
         let words = &mut self.words;
-        unsafe { nespovarda_radio(words.as_mut_ptr(), words.len(), datagram.as_ptr(), datagram.len()) }
+        unsafe { nespovarda_radio(words.as_mut_ptr(), words.len(), time, datagram.as_ptr(), datagram.len()) }
+    }
+
+    fn pace(&mut self, time: u64) -> Answer {
+        let words = &mut self.words;
+        unsafe { nespovarda_pace(words.as_mut_ptr(), words.len(), time) }
     }
 
     fn query(&mut self, out: &mut [u8]) -> Answer {

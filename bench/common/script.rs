@@ -22,6 +22,8 @@ pub struct Start {
 #[derive(Clone)]
 pub struct Setup {
     pub datalink: u8,
+    pub hello: u64,
+    pub limit: u64,
     pub starts: Vec<Start>,
 }
 
@@ -30,7 +32,8 @@ pub trait Calls {
     fn offer(&mut self, memory: &mut [u8], id: u8, packet: &[u8], expiry: u64, time: u64) -> Answer;
     fn next(&mut self, memory: &mut [u8], id: u8, time: u64, out: &mut [u8]) -> Answer;
     fn withdraw(&mut self, memory: &mut [u8], id: u8) -> Answer;
-    fn radio(&mut self, datagram: &[u8]) -> Answer;
+    fn radio(&mut self, time: u64, datagram: &[u8]) -> Answer;
+    fn pace(&mut self, time: u64) -> Answer;
     fn query(&mut self, out: &mut [u8]) -> Answer;
 }
 
@@ -43,6 +46,7 @@ pub enum Call {
     Withdraw(u8),
     // The next of the datagrams, and the first again behind the last.
     Radio,
+    Pace,
     Query,
     Time(u64),
 }
@@ -82,8 +86,9 @@ impl<E: Calls> Side<E> {
             Call::Radio => {
                 let datagram = &run.datagrams[self.heard];
                 self.heard = if self.heard + 1 < run.datagrams.len() { self.heard + 1 } else { 0 };
-                Some(self.endpoint.radio(datagram))
+                Some(self.endpoint.radio(self.time, datagram))
             }
+            Call::Pace => Some(self.endpoint.pace(self.time)),
             Call::Query => Some(self.endpoint.query(&mut self.out)),
             Call::Time(time) => {
                 self.time = time;
@@ -117,6 +122,7 @@ fn name(call: Call) -> &'static str {
         Call::Next(_) => "next",
         Call::Withdraw(_) => "withdraw",
         Call::Radio => "radio",
+        Call::Pace => "pace",
         Call::Query => "query",
         Call::Time(_) => "time",
     }
@@ -142,8 +148,28 @@ pub fn agree(setup: &Setup, run: &Run, memory: &[u8], lent: usize, out: &[u8], s
     }
 }
 
-const KINDS: [&str; 14] =
-    ["", "started", "taken", "sent", "nothing waiting", "not operational", "window shut", "withdrawn", "accepted", "due", "other plane", "wrote", "shown", "kept"];
+const KINDS: [&str; 20] = [
+    "",
+    "started",
+    "taken",
+    "sent",
+    "nothing waiting",
+    "not operational",
+    "window shut",
+    "withdrawn",
+    "accepted",
+    "due",
+    "other plane",
+    "wrote",
+    "shown",
+    "kept",
+    "none there",
+    "quiet",
+    "query due",
+    "silent",
+    "query due and silent",
+    "pacer shown",
+];
 
 // All answers that were seen; so many different ones, each of them at least so often.
 pub fn tell(seen: &Seen, different: usize, often: usize) {
@@ -164,6 +190,10 @@ pub fn random_bytes(dice: &mut Dice, length: usize) -> Vec<u8> {
 // ---- radio control messages
 
 pub const DATALINK: u8 = 7;
+
+// The pacer's waits where they don't matter.
+pub const HELLO: u64 = 5000;
+pub const LIMIT: u64 = 9000;
 
 // Each channel's status and window.
 pub fn radio_control(ids: &[u8], status: &dyn Fn(u8) -> Option<u8>, window: &dyn Fn(u8) -> Window, names: &[(u8, &[u8])]) -> Vec<u8> {

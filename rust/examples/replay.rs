@@ -1,7 +1,7 @@
 //! Answers a script of the session page (docs/SESSION.md) through the safe interface alone: one call a line from standard input, one answer a line.
 use nespovarda::{control, data};
 use nespovarda::{words_for, Configuration, Context, DatalinkId, End, Endpoint, Flow, FlowSequence, Heard, Kind, LinkInstance};
-use nespovarda::{Next, Offered, Read, Refusal, Withdrawn, Written};
+use nespovarda::{Next, Offered, Paced, Read, Refusal, Waits, Withdrawn, Written};
 use std::fmt::Write as _;
 use std::io::{self, BufRead, Write};
 
@@ -10,6 +10,8 @@ const LONGEST_LINE: usize = 140_000;
 const LARGEST_LENGTH: u64 = 64 * 65_536;
 const MOST_READ: u64 = 80;
 const WORDS_OF_A_CHANNEL: usize = 4;
+// Where a start says nothing of the pacer.
+const WAITS: Waits = Waits { hello: 5000, limit: 9000 };
 
 /// Why a line has no other answer.
 enum Fault {
@@ -193,6 +195,19 @@ fn configure<'c>(configuration: Configuration<'c>, words: &[&[u8]]) -> Result<Co
     configuration.channel(byte(words[0])?, kind(words[1])?, FlowSequence(first), length(words[3])?).map_err(|_| Fault::BadLine)
 }
 
+/// Perhaps `memory LEN`, and perhaps `pace HELLO LIMIT` behind it.
+fn lengths_and_waits(words: &[&[u8]]) -> Result<(Option<usize>, Waits), Fault> {
+    let (memory, behind) = match *words {
+        [b"memory", given, ref behind @ ..] => (Some(length(given)?), behind),
+        ref behind => (None, behind),
+    };
+    match *behind {
+        [] => Ok((memory, WAITS)),
+        [b"pace", hello, limit] => Ok((memory, Waits { hello: time(hello)?, limit: time(limit)? })),
+        _ => Err(Fault::BadLine),
+    }
+}
+
 /// The words behind `start`: a state, whose start was not refused.
 fn start(words: &[&[u8]]) -> Result<State, Fault> {
     if words.len() < 2 {
@@ -205,13 +220,10 @@ fn start(words: &[&[u8]]) -> Result<State, Fault> {
     }
     let (channels, rest) = behind.split_at(WORDS_OF_A_CHANNEL * count);
     let mut configuration = vec![0; Configuration::words_for(count)];
-    let configuration = Configuration::new(&mut configuration, datalink).map_err(|_| Fault::BadLine)?;
+    let (memory_length, waits) = lengths_and_waits(rest)?;
+    let configuration = Configuration::new(&mut configuration, datalink, waits).map_err(|_| Fault::BadLine)?;
     let configuration = channels.chunks_exact(WORDS_OF_A_CHANNEL).try_fold(configuration, configure)?;
-    let memory_length = match rest {
-        [] => configuration.memory_length(),
-        [b"memory", given] => length(given)?,
-        _ => return Err(Fault::BadLine),
-    };
+    let memory_length = memory_length.unwrap_or(configuration.memory_length());
     let mut state = State { words: vec![0; words_for(count)], memory: vec![0; memory_length] };
     Endpoint::start(&mut state.words, &mut state.memory, &configuration)?;
     Ok(state)
@@ -245,11 +257,22 @@ fn withdraw(endpoint: &mut Endpoint<'_>, channel: &[u8]) -> Answered {
     }
 }
 
-fn radio(endpoint: &mut Endpoint<'_>, datagram: &[u8]) -> Answered {
-    match endpoint.radio(&bytes(datagram)?) {
+fn radio(endpoint: &mut Endpoint<'_>, words: [&[u8]; 2]) -> Answered {
+    let [now, datagram] = words;
+    match endpoint.radio(time(now)?, &bytes(datagram)?) {
         Heard::Accepted => Ok("accepted".to_string()),
         Heard::Due => Ok("accepted due".to_string()),
         Heard::Refused(refusal) => Err(refusal.into()),
+    }
+}
+
+fn pace(endpoint: &mut Endpoint<'_>, now: &[u8]) -> Answered {
+    match endpoint.pace(time(now)?) {
+        Paced::Quiet => Ok("quiet".to_string()),
+        Paced::QueryDue => Ok("due".to_string()),
+        Paced::Silent => Ok("silent".to_string()),
+        Paced::QueryDueSilent => Ok("due silent".to_string()),
+        Paced::Refused(refusal) => Err(refusal.into()),
     }
 }
 
@@ -287,6 +310,11 @@ fn kept(endpoint: &mut Endpoint<'_>) -> Answered {
     Ok("kept".to_string() + &link_and_context(kept.link, kept.context))
 }
 
+fn pacer(endpoint: &mut Endpoint<'_>) -> Answered {
+    let pacer = endpoint.pacer()?;
+    Ok(format!("pacer {} {} {}", pacer.clock, pacer.due, pacer.heard))
+}
+
 // ---- The script ----
 
 /// The answer to a line of a state that was started.
@@ -296,11 +324,13 @@ fn on_state(state: &mut State, words: &[&[u8]]) -> Answered {
         [b"offer", channel, now, expiry, packet] => offer(endpoint, [channel, now, expiry, packet]),
         [b"next", channel, now, room] => next(endpoint, [channel, now, room]),
         [b"withdraw", channel] => withdraw(endpoint, channel),
-        [b"radio", datagram] => radio(endpoint, datagram),
+        [b"radio", now, datagram] => radio(endpoint, [now, datagram]),
+        [b"pace", now] => pace(endpoint, now),
         [b"query", room] => query(endpoint, room),
         [b"show", channel] => show(endpoint, channel),
         [b"store", channel] => store(endpoint, channel),
         [b"kept"] => kept(endpoint),
+        [b"pacer"] => pacer(endpoint),
         _ => Err(Fault::BadLine),
     }
 }

@@ -46,7 +46,23 @@ pub enum Heard {
     Accepted,
     /// It was accepted, and a mobility message is due.
     Due,
-    /// By 19, or as for reading by 1 to 11.
+    /// By 19 or 21, or as for reading by 1 to 11.
+    Refused(Refusal),
+}
+
+/// What the pacer says when it is asked.
+#[must_use]
+#[derive(Clone, Copy, Debug, PartialEq, Eq)]
+pub enum Paced {
+    /// No query is due, and the radio isn't silent.
+    Quiet,
+    /// A query is due.
+    QueryDue,
+    /// The radio is silent: no channel is reported, and no flow-controlled one has a window.
+    Silent,
+    /// Both.
+    QueryDueSilent,
+    /// By 19 or 21.
     Refused(Refusal),
 }
 
@@ -108,6 +124,18 @@ impl Heard {
             library::ACCEPTED => Heard::Accepted,
             library::DUE => Heard::Due,
             _ => Heard::Refused(Refusal::of(answer)),
+        }
+    }
+}
+
+impl Paced {
+    pub(crate) fn of(answer: Answer) -> Paced {
+        match answer.kind {
+            library::QUIET => Paced::Quiet,
+            library::QUERY_DUE => Paced::QueryDue,
+            library::SILENT => Paced::Silent,
+            library::QUERY_DUE_SILENT => Paced::QueryDueSilent,
+            _ => Paced::Refused(Refusal::of(answer)),
         }
     }
 }

@@ -2,10 +2,12 @@
 use crate::quantity::{DatalinkId, FlowSequence};
 use core::fmt;
 
-/// Where the words stand: two for the whole, then four for each channel.
+/// Where the words stand: four for the whole, then four for each channel.
 const DATALINK: usize = 0;
 const COUNT: usize = 1;
-const HEAD: usize = 2;
+const HELLO: usize = 2;
+const LIMIT: usize = 3;
+const HEAD: usize = 4;
 const ID: usize = 0;
 const KIND: usize = 1;
 const FIRST: usize = 2;
@@ -21,6 +23,15 @@ pub enum Kind {
     FlowControlled = 1,
 }
 
+/// The pacer's two waits, in milliseconds. A start with one of 0 is refused by 22.
+#[derive(Clone, Copy, Debug, PartialEq, Eq)]
+pub struct Waits {
+    /// HelloTime: how long from a query that is due to the next.
+    pub hello: u64,
+    /// The silence limit: how long without an accepted control message until the radio is silent.
+    pub limit: u64,
+}
+
 /// The words lent have no room for one more channel.
 #[derive(Clone, Copy, Debug, PartialEq, Eq)]
 pub struct NoRoom;
@@ -31,7 +42,7 @@ impl fmt::Display for NoRoom {
     }
 }
 
-/// A Datalink ID and channels. Whether it is within the limits is judged by [`Endpoint::start`](crate::Endpoint::start).
+/// A Datalink ID, the pacer's waits and channels. Whether it is within the limits is judged by [`Endpoint::start`](crate::Endpoint::start).
 #[derive(Debug)]
 pub struct Configuration<'c> {
     words: &'c mut [u64],
@@ -45,10 +56,12 @@ impl<'c> Configuration<'c> {
     }
 
     /// A configuration with no channel yet, in words of any content.
-    pub fn new(words: &'c mut [u64], datalink: DatalinkId) -> Result<Configuration<'c>, NoRoom> {
+    pub fn new(words: &'c mut [u64], datalink: DatalinkId, waits: Waits) -> Result<Configuration<'c>, NoRoom> {
         let head = words.get_mut(..HEAD).ok_or(NoRoom)?;
         head[DATALINK] = u64::from(datalink.0);
         head[COUNT] = 0;
+        head[HELLO] = waits.hello;
+        head[LIMIT] = waits.limit;
         Ok(Configuration { words, channels: 0 })
     }
 

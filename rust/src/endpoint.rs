@@ -1,7 +1,7 @@
 //! The endpoint's calls.
-use crate::answer::{Heard, Next, Offered, Withdrawn, Written};
-use crate::configuration::Configuration;
-use crate::library::{self, CHANNEL_NUMBERS, KEPT_NUMBERS, WAITING_NUMBERS};
+use crate::answer::{Heard, Next, Offered, Paced, Withdrawn, Written};
+use crate::configuration::{Configuration, Waits};
+use crate::library::{self, CHANNEL_NUMBERS, KEPT_NUMBERS, PACER_NUMBERS, WAITING_NUMBERS};
 use crate::quantity::{Context, FlowSequence, FlowWindow, LinkInstance};
 use crate::refusal::Refusal;
 
@@ -28,7 +28,7 @@ pub enum Flow {
 /// A channel's state.
 #[derive(Clone, Copy, Debug, PartialEq, Eq)]
 pub struct Channel {
-    /// The status last reported; none where the last control message didn't name the channel.
+    /// The status last reported; none where the last control message didn't name the channel, or a silence followed it.
     pub status: Option<u8>,
     /// Its flow state.
     pub flow: Flow,
@@ -62,6 +62,19 @@ pub struct Kept {
     pub context: Option<Context>,
 }
 
+/// The pacer: its waits, and three times, which are 0 at first.
+#[derive(Clone, Copy, Debug, PartialEq, Eq)]
+pub struct Pacer {
+    /// Its waits as configured.
+    pub waits: Waits,
+    /// The time of the last radio message or ask that wasn't refused.
+    pub clock: u64,
+    /// When a query was last due.
+    pub due: u64,
+    /// When a control message was last accepted.
+    pub heard: u64,
+}
+
 /// The IPS end of one datalink: its state in words, its channels' stores in a memory.
 ///
 /// Each call first tests what it takes of the two: as a call left them they pass, and any others that are outside the limits are refused by 19.
@@ -72,7 +85,7 @@ pub struct Endpoint<'a> {
 }
 
 impl<'a> Endpoint<'a> {
-    /// A fresh start. `words` are as many as [`words_for`] says, of any content; `memory` is as long as all stores together. Refused by 19.
+    /// A fresh start. `words` are as many as [`words_for`] says, of any content; `memory` is as long as all stores together. Refused by 19 or 22.
     pub fn start(words: &'a mut [u64], memory: &'a mut [u8], configuration: &Configuration<'_>) -> Result<Endpoint<'a>, Refusal> {
         let answer = library::start(words, memory, configuration.words());
         match answer.kind {
@@ -117,9 +130,14 @@ impl<'a> Endpoint<'a> {
         Withdrawn::of(library::withdraw(self.words, self.memory, channel))
     }
 
-    /// Hands in a message of the radio.
-    pub fn radio(&mut self, datagram: &[u8]) -> Heard {
-        Heard::of(library::radio(self.words, datagram))
+    /// Hands in a message of the radio, at a time of the pacer's clock.
+    pub fn radio(&mut self, time: u64, datagram: &[u8]) -> Heard {
+        Heard::of(library::radio(self.words, time, datagram))
+    }
+
+    /// Asks the pacer whether a query is due, and whether the radio is silent.
+    pub fn pace(&mut self, time: u64) -> Paced {
+        Paced::of(library::pace(self.words, time))
     }
 
     /// Writes the control message with the sequence of each flow-controlled channel.
@@ -163,6 +181,17 @@ impl<'a> Endpoint<'a> {
         let answer = library::kept(self.words, &mut shown);
         match answer.kind {
             library::KEPT => Ok(kept_of(shown)),
+            _ => Err(Refusal::of(answer)),
+        }
+    }
+
+    /// The pacer. Refused by 19.
+    pub fn pacer(&self) -> Result<Pacer, Refusal> {
+        let mut shown = [0; PACER_NUMBERS];
+        let answer = library::pacer(self.words, &mut shown);
+        let [hello, limit, clock, due, heard] = shown;
+        match answer.kind {
+            library::PACER_SHOWN => Ok(Pacer { waits: Waits { hello, limit }, clock, due, heard }),
             _ => Err(Refusal::of(answer)),
         }
     }

@@ -4,10 +4,10 @@
 //! A refused call changes neither. [`control`] and [`data`] read and write single messages of either end.
 //!
 //! ```
-//! use nespovarda::{words_for, Configuration, DatalinkId, Endpoint, FlowSequence, Heard, Kind, Next, Offered};
+//! use nespovarda::{words_for, Configuration, DatalinkId, Endpoint, FlowSequence, Heard, Kind, Next, Offered, Paced, Waits};
 //!
 //! let mut configuration = [0; Configuration::words_for(2)];
-//! let configuration = Configuration::new(&mut configuration, DatalinkId(7))
+//! let configuration = Configuration::new(&mut configuration, DatalinkId(7), Waits { hello: 5000, limit: 9000 })
 //!     .and_then(|configuration| configuration.channel(0, Kind::Plain, FlowSequence(0), 1500))
 //!     .and_then(|configuration| configuration.channel(3, Kind::FlowControlled, FlowSequence(4294967230), 1500))
 //!     .expect("the words are for two channels");
@@ -21,13 +21,16 @@
 //!
 //! // Channels 0 and 3 have status 7, channel 3 the window 44.
 //! let report = [0x10, 1, 0, 1, 7, 5, 0, 2, 0, 7, 5, 0, 2, 3, 7, 6, 0, 5, 3, 0, 0, 0, 44];
-//! assert_eq!(endpoint.radio(&report), Heard::Accepted);
+//! assert_eq!(endpoint.radio(1005, &report), Heard::Accepted);
 //!
 //! let mut out = [0; 100];
 //! match endpoint.next(3, 1010, &mut out) {
 //!     Next::Sent(message) => assert_eq!(message.len(), 60),
 //!     other => panic!("{other:?}"),
 //! }
+//!
+//! // 5 seconds after the start a query is due.
+//! assert_eq!(endpoint.pace(5000), Paced::QueryDue);
 //! ```
 #![no_std]
 #![deny(unsafe_code)]
@@ -46,8 +49,8 @@ mod library;
 mod quantity;
 mod refusal;
 
-pub use answer::{Heard, Next, Offered, Read, Withdrawn, Written};
-pub use configuration::{Configuration, Kind, NoRoom};
-pub use endpoint::{words_for, Channel, Endpoint, Flow, Kept, Waiting};
+pub use answer::{Heard, Next, Offered, Paced, Read, Withdrawn, Written};
+pub use configuration::{Configuration, Kind, NoRoom, Waits};
+pub use endpoint::{words_for, Channel, Endpoint, Flow, Kept, Pacer, Waiting};
 pub use quantity::{Context, DatalinkId, End, FlowSequence, FlowWindow, LinkInstance};
 pub use refusal::Refusal;

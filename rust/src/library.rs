@@ -25,16 +25,22 @@ pub(crate) const WROTE: u64 = 11;
 pub(crate) const SHOWN: u64 = 12;
 pub(crate) const KEPT: u64 = 13;
 pub(crate) const NONE_THERE: u64 = 14;
+pub(crate) const QUIET: u64 = 15;
+pub(crate) const QUERY_DUE: u64 = 16;
+pub(crate) const SILENT: u64 = 17;
+pub(crate) const QUERY_DUE_SILENT: u64 = 18;
+pub(crate) const PACER_SHOWN: u64 = 19;
 /// From here on a kind is a refusal: this and its number.
 pub(crate) const REFUSED: u64 = 256;
 
-/// How many numbers are shown of a channel, of a waiting packet, and of what is kept.
+/// How many numbers are shown of a channel, of a waiting packet, of what is kept, and of the pacer.
 pub(crate) const CHANNEL_NUMBERS: usize = 9;
 pub(crate) const WAITING_NUMBERS: usize = 2;
 pub(crate) const KEPT_NUMBERS: usize = 4;
+pub(crate) const PACER_NUMBERS: usize = 5;
 
 mod exports {
-    use super::{Answer, CHANNEL_NUMBERS, KEPT_NUMBERS, WAITING_NUMBERS};
+    use super::{Answer, CHANNEL_NUMBERS, KEPT_NUMBERS, PACER_NUMBERS, WAITING_NUMBERS};
 
     extern "C" {
         pub(super) fn nespovarda_words(channels: u64) -> u64;
@@ -68,11 +74,13 @@ mod exports {
             out_length: usize,
         ) -> Answer;
         pub(super) fn nespovarda_withdraw(words: *mut u64, words_length: usize, memory: *mut u8, memory_length: usize, channel: u8) -> Answer;
-        pub(super) fn nespovarda_radio(words: *mut u64, words_length: usize, datagram: *const u8, datagram_length: usize) -> Answer;
+        pub(super) fn nespovarda_radio(words: *mut u64, words_length: usize, time: u64, datagram: *const u8, datagram_length: usize) -> Answer;
+        pub(super) fn nespovarda_pace(words: *mut u64, words_length: usize, time: u64) -> Answer;
         pub(super) fn nespovarda_query(words: *const u64, words_length: usize, out: *mut u8, out_length: usize) -> Answer;
         pub(super) fn nespovarda_show(words: *const u64, words_length: usize, channel: u8, shown: *mut [u64; CHANNEL_NUMBERS]) -> Answer;
         pub(super) fn nespovarda_waiting(words: *const u64, words_length: usize, channel: u8, position: u64, shown: *mut [u64; WAITING_NUMBERS]) -> Answer;
         pub(super) fn nespovarda_kept(words: *const u64, words_length: usize, shown: *mut [u64; KEPT_NUMBERS]) -> Answer;
+        pub(super) fn nespovarda_pacer(words: *const u64, words_length: usize, shown: *mut [u64; PACER_NUMBERS]) -> Answer;
         pub(super) fn nespovarda_read_control(
             datagram: *const u8,
             datagram_length: usize,
@@ -122,9 +130,14 @@ pub(crate) fn withdraw(words: &mut [u64], memory: &mut [u8], channel: u8) -> Ans
     unsafe { exports::nespovarda_withdraw(words.as_mut_ptr(), words.len(), memory.as_mut_ptr(), memory.len(), channel) }
 }
 
-pub(crate) fn radio(words: &mut [u64], datagram: &[u8]) -> Answer {
+pub(crate) fn radio(words: &mut [u64], time: u64, datagram: &[u8]) -> Answer {
     // SAFETY: each pointer and length are one slice's; the mutable slice is borrowed for this call alone.
-    unsafe { exports::nespovarda_radio(words.as_mut_ptr(), words.len(), datagram.as_ptr(), datagram.len()) }
+    unsafe { exports::nespovarda_radio(words.as_mut_ptr(), words.len(), time, datagram.as_ptr(), datagram.len()) }
+}
+
+pub(crate) fn pace(words: &mut [u64], time: u64) -> Answer {
+    // SAFETY: pointer and length are one slice's, which is borrowed for this call alone.
+    unsafe { exports::nespovarda_pace(words.as_mut_ptr(), words.len(), time) }
 }
 
 pub(crate) fn query(words: &[u64], out: &mut [u8]) -> Answer {
@@ -145,6 +158,11 @@ pub(crate) fn waiting(words: &[u64], channel: u8, position: u64, shown: &mut [u6
 pub(crate) fn kept(words: &[u64], shown: &mut [u64; KEPT_NUMBERS]) -> Answer {
     // SAFETY: pointer and length are one slice's; the array is of the length that the library writes, and borrowed for this call alone.
     unsafe { exports::nespovarda_kept(words.as_ptr(), words.len(), shown) }
+}
+
+pub(crate) fn pacer(words: &[u64], shown: &mut [u64; PACER_NUMBERS]) -> Answer {
+    // SAFETY: pointer and length are one slice's; the array is of the length that the library writes, and borrowed for this call alone.
+    unsafe { exports::nespovarda_pacer(words.as_ptr(), words.len(), shown) }
 }
 
 pub(crate) fn read_control(datagram: &[u8], end: u8, datalink: u8, meaning: &mut [u64]) -> Answer {

@@ -73,6 +73,10 @@ pub enum Refusal {
     OutsideLimits,
     /// 20: a meaning that may not be written.
     NotWritable,
+    /// 21: pacer time earlier than its latest.
+    PacerTimeBeforeLatest,
+    /// 22: HelloTime or silence limit of 0.
+    WaitOfZero,
     /// An answer that this crate doesn't know: the library linked is of another version.
     Unknown {
         /// The answer's kind.
@@ -108,6 +112,8 @@ impl Refusal {
             18 => Refusal::OutputTooShort,
             19 => Refusal::OutsideLimits,
             20 => Refusal::NotWritable,
+            21 => Refusal::PacerTimeBeforeLatest,
+            22 => Refusal::WaitOfZero,
             _ => Refusal::Unknown { kind, value },
         }
     }
@@ -135,6 +141,8 @@ impl Refusal {
             Refusal::OutputTooShort => 18,
             Refusal::OutsideLimits => 19,
             Refusal::NotWritable => 20,
+            Refusal::PacerTimeBeforeLatest => 21,
+            Refusal::WaitOfZero => 22,
             Refusal::Unknown { kind, .. } => kind.saturating_sub(REFUSED),
         }
     }

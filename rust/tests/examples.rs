@@ -7,7 +7,7 @@ use nespovarda::{Flow, FlowSequence, FlowWindow, Heard, Next, Offered, Refusal, 
 fn sequence_after(sequence: u32, window: u32, length: usize) -> Option<u32> {
     let mut lent = started(sequence);
     let mut endpoint = lent.endpoint();
-    assert_eq!(endpoint.radio(&window_report(window)), Heard::Accepted);
+    assert_eq!(endpoint.radio(1, &window_report(window)), Heard::Accepted);
     assert_eq!(endpoint.offer(FLOW, &packet(length, 1), NEVER, 1), Offered::Taken);
     let sent = match endpoint.next(FLOW, 1, &mut [0; 2000]) {
         Next::Sent(message) => {
@@ -44,14 +44,14 @@ fn a_packet_fits_that_is_no_longer_than_the_distance() {
 fn heard(options: &[u8]) -> (Heard, Lent) {
     let mut lent = started(100);
     let message = [&[0x10, 1, 0, 1, 7][..], &[5, 0, 2, 0, 7], options].concat();
-    let answer = lent.endpoint().radio(&message);
+    let answer = lent.endpoint().radio(1, &message);
     (answer, lent)
 }
 
 #[test]
 fn the_status_is_the_lower_four_bits() {
     let mut lent = started(0);
-    assert_eq!(lent.endpoint().radio(&[0x10, 1, 0, 1, 7, 5, 0, 2, 0, 0xf7]), Heard::Accepted);
+    assert_eq!(lent.endpoint().radio(1, &[0x10, 1, 0, 1, 7, 5, 0, 2, 0, 0xf7]), Heard::Accepted);
     assert_eq!(lent.endpoint().show(PLAIN).map(|shown| shown.status), Ok(Some(7)));
 }
 
@@ -114,7 +114,7 @@ fn an_expiry_equal_to_the_time_is_refused_and_later_expires() {
     let mut endpoint = lent.endpoint();
     assert_eq!(endpoint.offer(PLAIN, &packet(40, 1), 5, 5), Offered::Refused(Refusal::ExpiryNotAfterTime));
     assert_eq!(endpoint.offer(PLAIN, &packet(40, 1), 6, 5), Offered::Taken);
-    assert_eq!(endpoint.radio(&window_report(0)), Heard::Accepted);
+    assert_eq!(endpoint.radio(1, &window_report(0)), Heard::Accepted);
     assert_eq!(endpoint.next(PLAIN, 6, &mut [0; 100]), Next::NothingWaiting);
 }
 
@@ -122,7 +122,7 @@ fn an_expiry_equal_to_the_time_is_refused_and_later_expires() {
 fn the_sequence_wraps_in_the_message_and_in_the_state() {
     let mut lent = started(4294967230);
     let mut endpoint = lent.endpoint();
-    assert_eq!(endpoint.radio(&window_report(44)), Heard::Accepted);
+    assert_eq!(endpoint.radio(1, &window_report(44)), Heard::Accepted);
     // The sequence with the packet counted in, as each message carries it, until the distance is 30.
     for (mark, sequence) in [(1, 4294967270), (2, 14_u32)] {
         assert_eq!(endpoint.offer(FLOW, &packet(40, mark), NEVER, 1), Offered::Taken);

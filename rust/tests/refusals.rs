@@ -1,15 +1,15 @@
 //! Each refusal of a call on a state: its number, and that words, memory and output stay as they were.
 mod common;
 use common::*;
-use nespovarda::{words_for, Configuration, Endpoint, FlowSequence, Heard, Kind, Next, Offered, Refusal, Withdrawn, Written};
+use nespovarda::{words_for, Configuration, Endpoint, FlowSequence, Heard, Kind, Next, Offered, Paced, Refusal, Waits, Withdrawn, Written};
 
 const FILL: u8 = 0xee;
 
-/// A state with a packet waiting on channels 0 and 3, offered at time 10, and both operational.
+/// A state with a packet waiting on channels 0 and 3, offered at time 10, and both operational; the pacer's clock stands at 10.
 fn waiting() -> Lent {
     let mut lent = started(100);
     let mut endpoint = lent.endpoint();
-    assert_eq!(endpoint.radio(&window_report(1000)), Heard::Accepted);
+    assert_eq!(endpoint.radio(10, &window_report(1000)), Heard::Accepted);
     for channel in [PLAIN, FLOW] {
         assert_eq!(endpoint.offer(channel, &packet(60, channel), NEVER, 10), Offered::Taken);
     }
@@ -50,6 +50,13 @@ fn withdrawn(answer: Withdrawn) -> Option<Refusal> {
 fn heard(answer: Heard) -> Option<Refusal> {
     match answer {
         Heard::Refused(refusal) => Some(refusal),
+        _ => None,
+    }
+}
+
+fn paced(answer: Paced) -> Option<Refusal> {
+    match answer {
+        Paced::Refused(refusal) => Some(refusal),
         _ => None,
     }
 }
@@ -175,7 +182,9 @@ fn by_19_words_that_are_outside_the_limits() {
         change(&mut lent.words);
         assert_outside_limits(&lent);
         let refusals = [
-            refusal_of(&lent, |endpoint, _| heard(endpoint.radio(&window_report(0)))),
+            refusal_of(&lent, |endpoint, _| heard(endpoint.radio(0, &window_report(0)))),
+            refusal_of(&lent, |endpoint, _| paced(endpoint.pace(0))),
+            refusal_of(&lent, |endpoint, _| endpoint.pacer().err()),
             refusal_of(&lent, |endpoint, out| queried(endpoint.query(out))),
             refusal_of(&lent, |endpoint, _| endpoint.show(PLAIN).err()),
             refusal_of(&lent, |endpoint, _| endpoint.waiting(PLAIN, 0).err()),
@@ -188,9 +197,9 @@ fn by_19_words_that_are_outside_the_limits() {
 }
 
 /// A start's refusal, with words and a memory as long as the configuration asks for, where it has so many channels.
-fn start_refusal(channels: &[(u8, usize)], more_memory: usize) -> Option<Refusal> {
+fn start_refusal(waits: Waits, channels: &[(u8, usize)], more_memory: usize) -> Option<Refusal> {
     let mut words = vec![0; Configuration::words_for(channels.len())];
-    let fresh = Configuration::new(&mut words, DATALINK).expect("there is room for a head");
+    let fresh = Configuration::new(&mut words, DATALINK, waits).expect("there is room for a head");
     let configuration = channels
         .iter()
         .try_fold(fresh, |configuration, &(id, store)| configuration.channel(id, Kind::Plain, FlowSequence(0), store))
@@ -207,7 +216,7 @@ fn by_19_a_configuration_that_is_outside_the_limits() {
     let many: Vec<(u8, usize)> = (0..65).map(|id| (id, 1500)).collect();
     assert_eq!(words_for(0), 0);
     assert_eq!(words_for(65), 0);
-    assert_eq!(start_refusal(&many[..64], 0), None);
+    assert_eq!(start_refusal(WAITS, &many[..64], 0), None);
     let rows: [(&[(u8, usize)], usize); 9] = [
         (&[], 0),
         (&many, 0),
@@ -220,7 +229,35 @@ fn by_19_a_configuration_that_is_outside_the_limits() {
         (&[(0, 1500), (3, 0)], 0),
     ];
     for (channels, more_memory) in rows {
-        let refusal = start_refusal(channels, more_memory).expect("the start is refused");
-        assert_refused(refusal, Refusal::OutsideLimits, 19);
+        for waits in [WAITS, Waits { hello: 0, limit: 0 }] {
+            let refusal = start_refusal(waits, channels, more_memory).expect("the start is refused");
+            assert_refused(refusal, Refusal::OutsideLimits, 19);
+        }
+    }
+}
+
+#[test]
+fn by_21_a_time_before_the_pacers_clock() {
+    let lent = waiting();
+    let refusals = [
+        refusal_of(&lent, |endpoint, _| heard(endpoint.radio(9, &window_report(0)))),
+        refusal_of(&lent, |endpoint, _| heard(endpoint.radio(9, &[]))),
+        refusal_of(&lent, |endpoint, _| paced(endpoint.pace(9))),
+    ];
+    for refusal in refusals {
+        assert_refused(refusal, Refusal::PacerTimeBeforeLatest, 21);
+    }
+    assert_eq!(lent.clone().endpoint().pace(10), Paced::Quiet, "the same time once more");
+    assert_eq!(lent.clone().endpoint().offer(SECOND_FLOW, &packet(60, 1), NEVER, 9), Offered::Taken, "a channel's clock is its own");
+}
+
+#[test]
+fn by_22_a_wait_of_0() {
+    let channels = [(0, 1500)];
+    for waits in [Waits { hello: 0, limit: 900 }, Waits { hello: 500, limit: 0 }, Waits { hello: 0, limit: 0 }] {
+        assert_refused(start_refusal(waits, &channels, 0).expect("the start is refused"), Refusal::WaitOfZero, 22);
+    }
+    for waits in [Waits { hello: 1, limit: 1 }, Waits { hello: u64::MAX, limit: u64::MAX }] {
+        assert_eq!(start_refusal(waits, &channels, 0), None);
     }
 }

@@ -24,7 +24,7 @@ fn a_fresh_start_is_not_reported_and_its_stores_are_zeros() {
 fn packets_wait_end_to_end_and_go_in_the_order_they_came() {
     let mut lent = started(100);
     let mut endpoint = lent.endpoint();
-    assert_eq!(endpoint.radio(&window_report(1000)), Heard::Accepted);
+    assert_eq!(endpoint.radio(1, &window_report(1000)), Heard::Accepted);
     for (length, expiry) in [(50, 20), (60, 90), (70, 80)] {
         assert_eq!(endpoint.offer(PLAIN, &packet(length, length as u8), expiry, 10), Offered::Taken);
     }
@@ -55,7 +55,7 @@ fn a_window_that_is_withdrawn_or_absent_is_not_in_force() {
     ];
     let mut lent = started(100);
     for (message, flow) in rows {
-        assert_eq!(lent.endpoint().radio(&message), Heard::Accepted);
+        assert_eq!(lent.endpoint().radio(1, &message), Heard::Accepted);
         assert_eq!(lent.endpoint().show(FLOW).map(|shown| shown.flow), Ok(flow));
         assert_eq!(lent.endpoint().show(ROOMY).map(|shown| shown.status), Ok(None), "a channel that isn't named is not reported");
     }
@@ -73,7 +73,7 @@ fn a_context_that_differs_makes_a_mobility_message_due() {
     ];
     for (options, answer) in rows {
         let message = [&[0x10, 1, 0, 1, 7, 5, 0, 2, 0, 7][..], options].concat();
-        assert_eq!(endpoint.radio(&message), answer);
+        assert_eq!(endpoint.radio(1, &message), answer);
     }
     assert_eq!(endpoint.kept(), Ok(Kept { link: Some(LinkInstance { length: 2, id: 258 }), context: Context::new(&[0, 0x45, 0x55]) }));
 }
@@ -90,7 +90,7 @@ fn a_context_after_a_message_without_one_makes_a_mobility_message_due() {
     ];
     for (options, answer, context) in rows {
         let message = [&[0x10, 1, 0, 1, 7, 5, 0, 2, 0, 7][..], options].concat();
-        assert_eq!(endpoint.radio(&message), answer);
+        assert_eq!(endpoint.radio(1, &message), answer);
         assert_eq!(endpoint.kept(), Ok(Kept { link: None, context }));
     }
 }
@@ -116,7 +116,7 @@ fn a_saved_state_resumes() {
     };
     for state in [&mut lent, &mut saved] {
         let mut endpoint = state.endpoint();
-        assert_eq!(endpoint.radio(&window_report(0)), Heard::Accepted);
+        assert_eq!(endpoint.radio(1, &window_report(0)), Heard::Accepted);
         let mut out = [0; 52];
         let message = [vec![0x18, 1, 0, 1, 7, 0x81, 0, 1, 0, 0x80, 0, 40], packet(40, 1)].concat();
         assert_eq!(endpoint.next(PLAIN, 5, &mut out), Next::Sent(&message));
@@ -127,7 +127,7 @@ fn a_saved_state_resumes() {
 #[test]
 fn a_configuration_needs_its_words() {
     let mut words = [9; CONFIGURATION_WORDS];
-    assert_eq!(Configuration::new(&mut words[..1], DatalinkId(7)).err(), Some(NoRoom));
+    assert_eq!(Configuration::new(&mut words[..3], DatalinkId(7), WAITS).err(), Some(NoRoom));
     let full = configuration(&mut words, 0);
     assert_eq!((full.channels(), full.memory_length()), (4, 3 * STORE + LONG_STORE));
     assert_eq!(full.channel(4, nespovarda::Kind::Plain, FlowSequence(0), STORE).err(), Some(NoRoom));

@@ -9,12 +9,13 @@ use native.Mathlib.Omega.{arith}
 use lib.ListN.{getD}
 use Rattle.answer_codes.specs.declared.Answer.{Answer}
 use Rattle.answer_codes.specs.Codes.{Outcome, codeOf, REFUSED, SENT, WROTE}
-use Rattle.answer_codes.specs.Codes.Outcome.{refused, started, taken, sent, nothing-waiting, not-operational, window-shut, withdrawn, accepted, due, other-plane, wrote, shown, kept, none-there}
+use Rattle.answer_codes.specs.Codes.Outcome.{refused, started, taken, sent, nothing-waiting, not-operational, window-shut, withdrawn, accepted, due, other-plane, wrote, shown, kept, none-there, quiet, query-due, silent, query-due-silent, pacer-shown}
 
 -- the outcomes without a number, each at its kind
 abbrev plain : List Outcome
 plain =
-    kept ∷ started ∷ taken ∷ kept ∷ nothing-waiting ∷ not-operational ∷ window-shut ∷ withdrawn ∷ accepted ∷ due ∷ other-plane ∷ kept ∷ shown ∷ kept ∷ none-there ∷ []
+    kept ∷ started ∷ taken ∷ kept ∷ nothing-waiting ∷ not-operational ∷ window-shut ∷ withdrawn ∷ accepted ∷ due ∷ other-plane ∷ kept ∷ shown ∷ kept ∷ none-there
+    ∷ quiet ∷ query-due ∷ silent ∷ query-due-silent ∷ pacer-shown ∷ []
 
 -- the outcome that an answer's numbers say
 abbrev pub outcomeOf : Answer → Outcome
@@ -40,6 +41,11 @@ outcome-back (wrote bytes) = refl
 outcome-back shown = refl
 outcome-back kept = refl
 outcome-back none-there = refl
+outcome-back quiet = refl
+outcome-back query-due = refl
+outcome-back silent = refl
+outcome-back query-due-silent = refl
+outcome-back pacer-shown = refl
 
 pub codes-one : (a b : Outcome) → codeOf a ≡ codeOf b → a ≡ b
 codes-one a b same = sym (outcome-back a) ∙ ap outcomeOf same ∙ outcome-back b

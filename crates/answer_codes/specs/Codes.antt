@@ -4,8 +4,9 @@ use Rattle.quantity.specs.declared.refusal.Refusal.{Refusal}
 use Rattle.writer.specs.declared.answer.WriteAnswer.{WriteAnswer}
 use Rattle.answer_codes.specs.declared.Answer.{Answer}
 
--- what a call answers. Document 01, of a refusal: "Each gives its number and a place, changes no state and no lent byte." `other-plane`, `shown`, `kept` and
--- `none-there` are the library's own: a reader asked for the plane that a message isn't of, what stands in the words, and a position at which no packet waits.
+-- what a call answers. Document 01, of a refusal: "Each gives its number and a place, changes no state and no lent byte." `other-plane`, `shown`, `kept`,
+-- `none-there` and `pacer-shown` are the library's own: a reader asked for the plane that a message isn't of, what stands in the words, and a position at which no
+-- packet waits.
 pub data Outcome : Type 0 where
   refused : (number place : ℕ) → Outcome
   started : Outcome
@@ -23,6 +24,12 @@ pub data Outcome : Type 0 where
   shown : Outcome
   kept : Outcome
   none-there : Outcome
+  -- the pacer asked: is a query due, and is the radio silent
+  quiet : Outcome
+  query-due : Outcome
+  silent : Outcome
+  query-due-silent : Outcome
+  pacer-shown : Outcome
 
 abbrev pub STARTED : ℕ
 STARTED = 1
@@ -66,6 +73,21 @@ KEPT = 13
 abbrev pub NONE-THERE : ℕ
 NONE-THERE = 14
 
+abbrev pub QUIET : ℕ
+QUIET = 15
+
+abbrev pub QUERY-DUE : ℕ
+QUERY-DUE = 16
+
+abbrev pub SILENT : ℕ
+SILENT = 17
+
+abbrev pub QUERY-DUE-SILENT : ℕ
+QUERY-DUE-SILENT = 18
+
+abbrev pub PACER-SHOWN : ℕ
+PACER-SHOWN = 19
+
 -- a refusal's kind is this and its number
 abbrev pub REFUSED : ℕ
 REFUSED = 256
@@ -94,6 +116,11 @@ codeOf (wrote bytes) = counting WROTE bytes
 codeOf shown = plainly SHOWN
 codeOf kept = plainly KEPT
 codeOf none-there = plainly NONE-THERE
+codeOf quiet = plainly QUIET
+codeOf query-due = plainly QUERY-DUE
+codeOf silent = plainly SILENT
+codeOf query-due-silent = plainly QUERY-DUE-SILENT
+codeOf pacer-shown = plainly PACER-SHOWN
 
 -- a refusal, and a writer's answer, as an outcome
 abbrev pub refusedAs : Refusal → Outcome

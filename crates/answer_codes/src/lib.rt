@@ -32,6 +32,16 @@ pub const KEPT: u64 = 13;
 
 pub const NONE_THERE: u64 = 14;
 
+pub const QUIET: u64 = 15;
+
+pub const QUERY_DUE: u64 = 16;
+
+pub const SILENT: u64 = 17;
+
+pub const QUERY_DUE_SILENT: u64 = 18;
+
+pub const PACER_SHOWN: u64 = 19;
+
 // From here on a kind is a refusal: this and its number.
 pub const REFUSED: u64 = 256;
 

@@ -1,31 +1,35 @@
 -- Promises: a refusal "changes no state and no lent byte", and any two outcomes that a contract allows coincide, in reply, words and memory. Assumes nothing.
-use Prim.Native.Nat.{ℕ}
+use Prim.Native.Nat.{ℕ, _≤_}
 use mathlib.Core.Bool.{Bool, true, false}
 use mathlib.Core.List.{List, []}
 use mathlib.Core.Path.{_≡_, refl, sym, _∙_}
+use native.Mathlib.Omega.{arith}
+use borrow.Author.Tests.{lt-ltb, le-ltb}
+use lib.ListN.{set}
+use lib.Seq.{getD-set-other, set-getD}
 use Rattle.facts.proofs.Tests.{clash}
 use Rattle.quantity.specs.declared.refusal.Refusal.{Refusal}
-use Rattle.meaning.specs.declared.message.End.the-variants as ends
-use Rattle.reader.specs.Readings.{Verdict, readControl, planeOf}
-use Rattle.reader.specs.declared.answer.PlaneAnswer.{PlaneAnswer}
 use Rattle.writer.specs.declared.answer.WriteAnswer.{WriteAnswer}
 use Rattle.ips_channel_rules.specs.Rules.{ChannelCall, next, Says, Answer, refused, answered, Terms}
 use Rattle.ips_channel_calls.specs.declared.asking.NextAnswer.{NextAnswer}
 use Rattle.ips_channel_calls.specs.Calls.{Reply, asked, replyTo}
-use Rattle.ips_state.specs.Limits.{stateFits}
+use Rattle.pacer.specs.declared.PaceAnswer.{PaceAnswer}
+use Rattle.pacer.specs.Pacing.{isDue, isSilent, movedTo}
+use Rattle.ips_state.specs.Limits.{stateFits, waitsFit}
 use Rattle.ips_state.specs.Memory.{indexIn}
 use Rattle.ips_state.specs.declared.StartAnswer.{StartAnswer}
 use Rattle.ips_radio.specs.declared.RadioAnswer.{RadioAnswer}
 use Rattle.ips_radio.specs.Heard.{dueOf}
 use Rattle.ips_run.specs.Calling.{termsIn, calling}
-use Rattle.ips_run.specs.Run.{Call, on, radio, query, acceptedIn, acceptedUnder, acceptedBy}
+use Rattle.ips_run.specs.Run.{Call, on, radio, pace, query, carried, receivedIn}
 use Rattle.ips_run.proofs.Exact.{refused-world}
-use Rattle.ips_calls.specs.Radio.{handedInUnder, handedIn}
-use Rattle.ips_calls.specs.Replies.{EndpointReply, ofChannel, ofRadio, ofQuery}
-use Rattle.ips_calls.proofs.Refused.{not-refused, next-refused-same, query-refused-same}
-use Rattle.ips_words.specs.Words.{stateIn}
-use Rattle.ips_words_start.specs.Start.{startsIn, StartedIn}
-use Rattle.endpoint.specs.Lent.{Lent, worldIn, wordsCalledUnder, afterInUnder, afterIn}
+use Rattle.ips_calls.specs.Radio.{AfterRadio}
+use Rattle.ips_calls.specs.Replies.{EndpointReply, ofChannel, ofRadio, ofPace, ofQuery}
+use Rattle.ips_calls.proofs.Refused.{not-refused, answered-so, next-refused-same, query-refused-same}
+use Rattle.ips_calls.proofs.Exactly.{unheard, Handed, outside, earlier, unread, heard, passed, handed, Paced, asked-outside, asked-earlier, asked-in-time, paced}
+use Rattle.ips_words.specs.Words.{CLOCK-WORD, DUE-WORD, HEARD-WORD, word, stateIn, putPacer}
+use Rattle.ips_words_start.specs.Start.{configurationIn, startsIn, StartedIn}
+use Rattle.endpoint.specs.Lent.{Lent, lent, worldIn, wordsCalledUnder, afterInUnder, afterIn}
 use Rattle.endpoint.specs.Calls.{PerformedIn, isRefused}
 use Rattle.endpoint.proofs.Calling.{unless-told}
 use Rattle.endpoint.proofs.Simulating.{performed-in}
@@ -60,39 +64,39 @@ next-refused-in {l} {l′} {id} {time} {out} {out′} {refusal} h =
     (refused-in h refl, next-refused-same (worldIn l) id refusal (worldIn l′) time out out′ (NextAnswer.Refused refusal) (performed-in tt h) refl .1)
 
 -- ---- a radio message
-module _ (l : Lent) (datagram : List ℕ) where
-  verdict-refused : (v : Verdict) (refusal : Refusal) → readControl ends.Radio (stateIn (l .words) .datalink) datagram .verdict ≡ v → stateFits (stateIn (l .words)) ≡ true → planeOf datagram ≡ PlaneAnswer.Control
-      → handedIn (stateIn (l .words)) datagram .answer ≡ RadioAnswer.Refused refusal → acceptedBy (radio datagram) (worldIn l) ≡ []
-  unfolding handedInUnder acceptedUnder acceptedIn
-  verdict-refused Verdict.Accepted refusal v f p e =
-      let reading = readControl ends.Radio (stateIn (l .words) .datalink) datagram in
-      absurd (not-refused (stateIn (l .words)) (dueOf (stateIn (l .words) .context) (reading .message .context)) refusal (rw (f, p, v) at e))
-  verdict-refused Verdict.OtherPlane refusal v f p e = rw (f, p, v)
-  verdict-refused (Verdict.Refused why) refusal v f p e = rw (f, p, v)
+-- a word written back over itself
+set-back : (words : List ℕ) (at time k : ℕ) → (k ≡ at → ⊥) → set (set words at time) k (word words k) ≡ set words at time
+set-back words at time k apart = rw (← (getD-set-other words at k time 0 apart)) (set-getD (set words at time) k 0)
 
-  accepted-none : (refusal : Refusal) → handedIn (stateIn (l .words)) datagram .answer ≡ RadioAnswer.Refused refusal → acceptedBy (radio datagram) (worldIn l) ≡ []
-  unfolding acceptedUnder acceptedIn
-  accepted-none refusal e = go (stateFits (stateIn (l .words))) refl (planeOf datagram) refl
-    where
-      go : (fits : Bool) → stateFits (stateIn (l .words)) ≡ fits → (plane : PlaneAnswer) → planeOf datagram ≡ plane → acceptedBy (radio datagram) (worldIn l) ≡ []
-      go false f plane p = rw f
-      go true f PlaneAnswer.Control p = verdict-refused (readControl ends.Radio (stateIn (l .words) .datalink) datagram .verdict) refusal refl f p e
-      go true f PlaneAnswer.Data p = rw (f, p)
-      go true f (PlaneAnswer.Refused why) p = rw (f, p)
+refused-dropped : (l : Lent) (time : ℕ) (datagram : List ℕ) {h : AfterRadio} → Handed (stateIn (l .words)) time datagram h → (refusal : Refusal) → h .answer ≡ RadioAnswer.Refused refusal
+    → afterIn (radio time datagram) l ≡ l
+unfolding afterInUnder
+refused-dropped l time datagram (outside f) refusal e = rw f
+refused-dropped l time datagram (earlier f early) refusal e = rw (f, lt-ltb time (stateIn (l .words) .pacer .clock) early)
+refused-dropped l time datagram (unread why f w) refusal e = rw (f, unheard (stateIn (l .words) .datalink) datagram why w)
+refused-dropped l time datagram (heard m f a) refusal e = absurd (not-refused (stateIn (l .words)) (dueOf (stateIn (l .words) .context) (m .context)) refusal e)
+refused-dropped l time datagram (passed f a) refusal e = clash (cc)
 
-module _ {l l′ : Lent} {datagram : List ℕ} where
-  pub radio-refused-in : {refusal : Refusal} → PerformedIn (radio datagram) l (ofRadio (RadioAnswer.Refused refusal)) l′ → l′ ≡ l
-  unfolding afterInUnder
-  radio-refused-in {refusal} h = h .lent-is ∙ rw (accepted-none l datagram refusal (cc (h .reply-is)))
+module _ {l l′ : Lent} {time : ℕ} {datagram : List ℕ} where
+  pub radio-refused-in : {refusal : Refusal} → PerformedIn (radio time datagram) l (ofRadio (RadioAnswer.Refused refusal)) l′ → l′ ≡ l
+  radio-refused-in {refusal} h = h .lent-is ∙ refused-dropped l time datagram (handed (stateIn (l .words)) time datagram) refusal (cc (h .reply-is))
 
-  -- "An accepted radio data message changes nothing."
-  pub radio-data-in : planeOf datagram ≡ PlaneAnswer.Data → {x : EndpointReply} → PerformedIn (radio datagram) l x l′ → l′ ≡ l
-  unfolding afterInUnder acceptedUnder acceptedIn
-  radio-data-in p h = h .lent-is ∙ go (stateFits (stateIn (l .words))) refl
-    where
-      go : (fits : Bool) → stateFits (stateIn (l .words)) ≡ fits → afterIn (radio datagram) l ≡ l
-      go true f = rw (f, p)
-      go false f = rw f
+  -- a data message "changes nothing else" than the clock's word
+  pub radio-data-in : stateFits (stateIn (l .words)) ≡ true → stateIn (l .words) .pacer .clock ≤ time → receivedIn (stateIn (l .words) .datalink) datagram ≡ carried
+      → {x : EndpointReply} → PerformedIn (radio time datagram) l x l′ → l′ ≡ lent (set (l .words) CLOCK-WORD time) (l .memory)
+  unfolding afterInUnder putPacer movedTo
+  radio-data-in fits on-time is h =
+      h .lent-is ∙ rw (fits, le-ltb time (stateIn (l .words) .pacer .clock) on-time, is, set-back (l .words) CLOCK-WORD time DUE-WORD (λ e. omega arith), set-back (l .words) CLOCK-WORD time HEARD-WORD (λ e. omega arith))
+
+-- ---- the pacer asked
+pub pace-refused-in : {l l′ : Lent} {time : ℕ} {refusal : Refusal} → PerformedIn (pace time) l (ofPace (PaceAnswer.Refused refusal)) l′ → l′ ≡ l
+unfolding afterInUnder
+pace-refused-in {l} {l′} {time} {refusal} h = h .lent-is ∙ go (paced (stateIn (l .words)) time) (cc (h .reply-is))
+  where
+    go : {a : PaceAnswer} → Paced (stateIn (l .words)) time a → PaceAnswer.Refused refusal ≡ a → afterIn (pace time) l ≡ l
+    go (asked-outside f) e = rw f
+    go (asked-earlier f early) e = rw (f, lt-ltb time (stateIn (l .words) .pacer .clock) early)
+    go (asked-in-time f on-time) e = absurd (answered-so (isDue time (stateIn (l .words) .pacer)) (isSilent time (stateIn (l .words) .pacer)) refusal (sym e))
 
 -- ---- a query, whatever its answer; refused, it leaves the output too
 pub query-in : {l l′ : Lent} {out : List ℕ} {x : EndpointReply} → PerformedIn (query out) l x l′ → l′ ≡ l
@@ -106,8 +110,9 @@ query-refused-in {l} {l′} {out} {out′} {refusal} h =
 -- ---- a start
 pub start-refused-in : {configuration words memory words′ memory′ : List ℕ} {refusal : Refusal} → StartedIn configuration words memory (StartAnswer.Refused refusal) words′ memory′
     → (words′ ≡ words) × (memory′ ≡ memory)
-start-refused-in {configuration} {words} {memory} {words′} {memory′} {refusal} h = go (startsIn configuration words memory) refl
+start-refused-in {configuration} {words} {memory} {words′} {memory′} {refusal} h = go (startsIn configuration words memory) refl (waitsFit (configurationIn configuration)) refl
   where
-    go : (fits : Bool) → startsIn configuration words memory ≡ fits → (words′ ≡ words) × (memory′ ≡ memory)
-    go true f = let started : StartAnswer.Refused refusal ≡ StartAnswer.Started = rw f at (h .answer-is) in clash (cc)
-    go false f = (h .words-are ∙ rw f, h .memory-is ∙ rw f)
+    go : (fits : Bool) → startsIn configuration words memory ≡ fits → (waits : Bool) → waitsFit (configurationIn configuration) ≡ waits → (words′ ≡ words) × (memory′ ≡ memory)
+    go true f true l = let started : StartAnswer.Refused refusal ≡ StartAnswer.Started = rw (f, l) at (h .answer-is) in clash (cc)
+    go true f false l = (h .words-are ∙ rw (f, l), h .memory-is ∙ rw (f, l))
+    go false f waits l = (h .words-are ∙ rw f, h .memory-is ∙ rw f)

@@ -25,7 +25,9 @@ use Rattle.ips_words_survey.proofs.Finding.{place-found}
 use Rattle.endpoint.specs.declared.shown.ChannelShown.{ChannelShown}
 use Rattle.endpoint.specs.declared.shown.KeptAnswer.{KeptAnswer}
 use Rattle.endpoint.specs.Calls.{Placed}
-use Rattle.endpoint.specs.Shown.{wordsNeeded, channelOf, shownOf, keptOf}
+use Rattle.endpoint.specs.Shown.{wordsNeeded, channelOf, shownOf, keptOf, pacerOf}
+use Rattle.endpoint.specs.declared.shown.PacerAnswer.{PacerAnswer}
+use Rattle.pacer.specs.declared.Pacer.{Pacer}
 use Rattle.endpoint.proofs.Placing.{says-so}
 
 -- ---- how many words
@@ -97,3 +99,13 @@ module _ (words : List ℕ) where
   unfolding keptOf
   kept-told e link a last b =
       rw (e, says-so words e (λ (s : State). s .instance) link a, says-so words e (λ (s : State). s .context) last b)
+
+-- ---- the pacer
+module _ (words : List ℕ) where
+  pub pacer-unfit : stateFits (stateIn words) ≡ false → PacerAnswer.Refused (record { number = OUTSIDE-LIMITS; place = 0 }) ≡ pacerOf (stateIn words)
+  unfolding pacerOf
+  pacer-unfit e = rw e
+
+  pub pacer-told : stateFits (stateIn words) ≡ true → (pacer : Pacer) → pacer ≡ stateOf words .pacer → PacerAnswer.Shown pacer ≡ pacerOf (stateIn words)
+  unfolding pacerOf
+  pacer-told e pacer a = rw (e, says-so words e (λ (s : State). s .pacer) pacer a)

@@ -1,6 +1,6 @@
 -- Words simulate the state that they stand for: what a call on words leaves stands for what the call on the state leaves, and so for any calls. Assumes nothing.
 use Prim.Native.Nat.{ℕ}
-use mathlib.Core.Bool.{true, and-eq-true-iff}
+use mathlib.Core.Bool.{Bool, true, false, cond, and-eq-true-iff}
 use mathlib.Core.List.{List}
 use mathlib.Core.Path.{_≡_, refl, sym, ap, _∙_}
 use native.Mathlib.Omega.{arith}
@@ -13,7 +13,7 @@ use Rattle.ips_state.specs.Memory.{memoryFits, World, worldFits, isConfigured, 
 use Rattle.ips_state.proofs.Channels.{ChannelFit}
 use Rattle.ips_state.proofs.Places.{found, channel-fitting-at, store-length, at-with-same, with-back}
 use Rattle.ips_run.specs.Calling.{resultIn, WorldResult, calling, Judged, outside, unknown, served}
-use Rattle.ips_run.specs.Run.{Call, on, radio, query, afterUnder, after}
+use Rattle.ips_run.specs.Run.{Call, on, radio, pace, query, inTime, withState, afterUnder, after}
 use Rattle.ips_run.specs.Demand.{bytesIn, BytesIn}
 use Rattle.ips_run.proofs.Exact.{judged}
 use Rattle.ips_calls.specs.Replies.{EndpointReply}
@@ -23,7 +23,7 @@ use Rattle.ips_calls.specs.Ran.{Ran}
 use Rattle.ips_words.specs.Words.{slot, stateIn, putChannel, Narrow}
 use Rattle.ips_words.proofs.Slots.{in-narrow}
 use Rattle.ips_words.proofs.Whole.{readable-facts, fit-readable, fit-count, fit-channel, fit-put}
-use Rattle.ips_words_radio.proofs.Datagrams.{radio-in}
+use Rattle.ips_words_radio.proofs.Datagrams.{radio-in, pace-in}
 use Rattle.endpoint.specs.Lent.{Lent, worldIn, wordsCalledUnder, wordsCalled, afterInUnder, afterIn}
 use Rattle.endpoint.specs.Calls.{PerformedIn, Placed}
 use Rattle.endpoint.specs.Ran.{RanIn, over, ran}
@@ -89,10 +89,18 @@ module _ (l : Lent) (id : ℕ) (call : ChannelCall) where
   in-state = by-judged (judged id call (worldIn l))
 
 -- ---- any call, on any words and any memory
+-- neither a radio message nor the pacer touches the memory
+still : (t : Bool) (w : World) (s : State) → record { state = cond t (withState w s) w .state; memory = w .memory } ≡ cond t (withState w s) w
+still true w s = refl
+still false w s = refl
+
 pub step-in : (c : Call) → bytesIn c → (l : Lent) → worldIn (afterIn c l) ≡ after c (worldIn l)
 unfolding afterInUnder afterUnder
 step-in (on id call) bytes l = ap {B = World} (λ (s : State). record { state = s; memory = calling id call (worldIn l) .world .memory }) (in-state l id call)
-step-in (radio datagram) bytes l = ap {B = World} (λ (s : State). record { state = s; memory = l .memory }) (radio-in (l .words) datagram bytes (l .memory))
+step-in (radio time datagram) bytes l =
+    ap {B = World} (λ (s : State). record { state = s; memory = l .memory }) (radio-in time (l .words) (l .memory) datagram bytes) ∙ still (inTime time (stateIn (l .words))) (worldIn l) _
+step-in (pace time) bytes l =
+    ap {B = World} (λ (s : State). record { state = s; memory = l .memory }) (pace-in time (l .words) (l .memory)) ∙ still (inTime time (stateIn (l .words))) (worldIn l) _
 step-in (query out) bytes l = refl
 
 -- so the contract on words is the contract on the state that they stand for

@@ -6,17 +6,18 @@ use mathlib.Core.Path.{_≡_, refl, _∙_}
 use lib.ListN.{length}
 use lib.Dec.{eqb}
 use Rattle.facts.proofs.Tests.{clash}
+use Rattle.ips_state.specs.Limits.{waitsFit}
 use Rattle.ips_state.specs.Memory.{memoryFits}
 use Rattle.ips_state.specs.declared.StartAnswer.{StartAnswer}
 use Rattle.ips_run.specs.Run.{Call, freshWorld}
 use Rattle.ips_run.specs.Demand.{BytesIn}
 use Rattle.ips_calls.specs.Replies.{EndpointReply}
-use Rattle.ips_calls.specs.Start.{storesOf, startFits, Started}
+use Rattle.ips_calls.specs.Start.{storesOf, startFits, starts, Started}
 use Rattle.ips_calls.specs.Own.{ServedSimply}
 use Rattle.ips_calls.proofs.Ran.{begins}
 use Rattle.ips_calls.proofs.Own.{started-own}
 use Rattle.ips_words.specs.Words.{wordsFor}
-use Rattle.ips_words_start.specs.Start.{configurationIn, startsInUnder, startsIn, StartedIn}
+use Rattle.ips_words_start.specs.Start.{configurationIn, startsInUnder, startsIn, beginsIn, StartedIn}
 use Rattle.ips_words_start.proofs.FreshWords.{configuration-small, fresh-in-words}
 use Rattle.endpoint.specs.Lent.{Lent, lent, worldIn}
 use Rattle.endpoint.specs.Ran.{RanIn}
@@ -34,9 +35,9 @@ module _ {configuration words memory words′ memory′ : List ℕ} where
   -- the contract of a start on words is the contract of a start
   pub start-in : {answer : StartAnswer} → StartedIn configuration words memory answer words′ memory′
       → Started (configurationIn configuration) (roomIn configuration words) (worldIn (lent words memory)) answer (worldIn (lent words′ memory′))
-  start-in {answer} h = go (startsIn configuration words memory) refl
+  start-in {answer} h = go (beginsIn configuration words memory) refl
     where
-      go : (fits : Bool) → startsIn configuration words memory ≡ fits
+      go : (begins : Bool) → beginsIn configuration words memory ≡ begins
           → Started (configurationIn configuration) (roomIn configuration words) (worldIn (lent words memory)) answer (worldIn (lent words′ memory′))
       go true f = record {
         answer-is = rw (starts-is configuration words memory) (h .answer-is);
@@ -44,21 +45,22 @@ module _ {configuration words memory words′ memory′ : List ℕ} where
       }
       go false f = record { answer-is = rw (starts-is configuration words memory) (h .answer-is); world-is = rw (starts-is configuration words memory, f, h .words-are, h .memory-is, f) }
 
-  module _ (starts : StartedIn configuration words memory StartAnswer.Started words′ memory′) where
-    started-fits : startsIn configuration words memory ≡ true
-    started-fits = go (startsIn configuration words memory) refl
+  module _ (begun : StartedIn configuration words memory StartAnswer.Started words′ memory′) where
+    started-fits : starts (configurationIn configuration) (roomIn configuration words) memory ≡ true
+    started-fits = rw (starts-is configuration words memory) (go (startsIn configuration words memory) refl (waitsFit (configurationIn configuration)) refl)
       where
-        go : (fits : Bool) → startsIn configuration words memory ≡ fits → fits ≡ true
-        go true f = refl
-        go false f = clash (cc (rw f at (starts .answer-is)))
+        go : (fits : Bool) → startsIn configuration words memory ≡ fits → (waits : Bool) → waitsFit (configurationIn configuration) ≡ waits → beginsIn configuration words memory ≡ true
+        go true f true l = rw (f, l)
+        go true f false l = clash (cc (rw (f, l) at (begun .answer-is)))
+        go false f waits l = clash (cc (rw f at (begun .answer-is)))
 
     -- a start that is not refused leaves words and memory that stand for the fresh world
     pub started-in : worldIn (lent words′ memory′) ≡ freshWorld (configurationIn configuration)
-    started-in = begins (configurationIn configuration) (roomIn configuration words) (worldIn (lent words memory)) (starts-is configuration words memory ∙ started-fits) StartAnswer.Started (worldIn (lent words′ memory′)) (start-in starts)
+    started-in = begins (configurationIn configuration) (roomIn configuration words) (worldIn (lent words memory)) started-fits StartAnswer.Started (worldIn (lent words′ memory′)) (start-in begun)
 
     -- THE STATEMENT: demand 3's sentence, of the code's own outcomes on lent words, with nothing asked of configuration, words and memory
     pub started-own-in : (index : ℕ) → index < length (configurationIn configuration .starts) → (cs : List Call) → BytesIn cs → (xs : List EndpointReply) (last : Lent)
         → RanIn (lent words′ memory′) cs xs last → ServedSimply (configurationIn configuration) index cs xs (worldIn last)
     started-own-in index inside cs bytes xs last run =
-        started-own (configurationIn configuration) (roomIn configuration words) (worldIn (lent words memory)) (worldIn (lent words′ memory′)) (start-in starts) index inside
+        started-own (configurationIn configuration) (roomIn configuration words) (worldIn (lent words memory)) (worldIn (lent words′ memory′)) (start-in begun) index inside
         (configuration-small configuration .firsts index inside) cs bytes xs (worldIn last) (ran-in bytes run)

@@ -10,6 +10,7 @@ use Rattle.ips_words_survey.specs.declared.place.Place.{Place}
 use Rattle.ips_words_survey.specs.Places.{placeOf}
 use Rattle.endpoint.specs.declared.shown.ChannelShown.{ChannelShown}
 use Rattle.endpoint.specs.declared.shown.KeptAnswer.{KeptAnswer}
+use Rattle.endpoint.specs.declared.shown.PacerAnswer.{PacerAnswer}
 
 -- 0 where no state has so many channels
 unfoldable pub wordsNeeded : ℕ → ℕ
@@ -23,6 +24,10 @@ channelOf s (Place.Refused number) = freshOf noStart
 -- 19, then 12, with a memory as long as the stores ask; else the channel of an ID, and where its store starts
 unfoldable pub shownOf : State → ℕ → ChannelShown
 shownOf s id = record { place = placeOf s id (sizes (s .channels)); channel = channelOf s (placeOf s id (sizes (s .channels))) }
+
+-- 19, or the pacer
+unfoldable pub pacerOf : State → PacerAnswer
+pacerOf s = cond (stateFits s) (PacerAnswer.Shown (s .pacer)) (PacerAnswer.Refused (record { number = OUTSIDE-LIMITS; place = 0 }))
 
 -- 19, or "Link Instance is kept when given", and the Context of "the control message just before"
 unfoldable pub keptOf : State → KeptAnswer

@@ -1,16 +1,18 @@
 // The endpoint, the IPS end of the router: every call of document 01, on a state that stands in lent words and on a memory that the caller lends with them.
 //
-// `words_for` says how many words a number of channels asks for. `start` takes a configuration in words (the Datalink ID, the count of channels, then for each
+// `words_for` says how many words a number of channels asks for. `start` takes a configuration in words (the Datalink ID, the count of channels, HelloTime and silence limit, then for each
 // channel its ID, its kind, its first sequence and the length of its store) and writes the first state into the words; the memory has one store after the other.
 // From then on each call takes words and memory as the one before left them:
 // - `offer` hands in a packet with its expiry for a channel, `next` writes the message of the next packet that may go, `withdraw` empties a channel;
-// - `hand_in` takes a datagram from the radio: channel statuses, flow windows, Link Instance and Context;
+// - `hand_in` takes a datagram from the radio, with its time: channel statuses, flow windows, Link Instance and Context;
+// - `pace` asks the pacer whether a query is due and whether the radio is silent;
 // - `query` writes the query with the Flow Sequences, and changes nothing;
-// - `find_channel` and `kept` tell what stands in the words.
+// - `find_channel`, `kept` and `pacer` tell what stands in the words.
 // An answer says what was done, or is a `Refusal` with document 01's number: then every word, the memory and the output are as they were.
 pub mod begin;
 pub mod call;
 mod channel;
+pub mod pacing;
 pub mod queries;
 pub mod radio;
 pub mod shown;
@@ -36,6 +38,9 @@ pub use ips_words_survey::place::Found;
 pub use ips_words_survey::place::Place;
 pub use meaning::message::Context;
 pub use meaning::message::Instance;
+pub use pacer::PaceAnswer;
+pub use pacer::Pacer;
+pub use pacing::pace;
 pub use quantity::count::ByteCount;
 pub use quantity::count::DatalinkId;
 pub use quantity::count::FlowSequence;
@@ -44,6 +49,8 @@ pub use queries::query;
 pub use radio::hand_in;
 pub use shown::ChannelShown;
 pub use shown::KeptAnswer;
+pub use shown::PacerAnswer;
 pub use shown::find_channel;
 pub use shown::kept;
+pub use shown::pacer;
 pub use writer::answer::WriteAnswer;

@@ -1,7 +1,7 @@
-// What the words say of a channel, and of the Link Instance and the Context that are kept. Nothing is changed.
+// What the words say of a channel, of the Link Instance and the Context that are kept, and of the pacer. Nothing is changed.
 ghost use mathlib.Core.Path.{_≡_};
 ghost use Rattle.ips_words.specs.Words.{stateIn};
-ghost use Rattle.endpoint.specs.Shown.{shownOf, keptOf};
+ghost use Rattle.endpoint.specs.Shown.{shownOf, keptOf, pacerOf};
 use crate::channel;
 use ips_channel::state;
 use ips_channel::state::Channel;
@@ -12,6 +12,7 @@ use ips_words_survey::place::Place;
 use ips_words_survey::survey;
 use meaning::message::Context;
 use meaning::message::Instance;
+use pacer::Pacer;
 use quantity::count::ByteCount;
 use quantity::count::FlowSequence;
 use quantity::refusal;
@@ -25,6 +26,11 @@ pub struct ChannelShown {
 
 pub enum KeptAnswer {
     Kept(Instance, Context),
+    Refused(Refusal),
+}
+
+pub enum PacerAnswer {
+    Shown(Pacer),
     Refused(Refusal),
 }
 
@@ -71,4 +77,18 @@ pub fn kept(words: &[u64]) -> KeptAnswer
     let instance = head::instance(words);
     let context = head::context(words);
     KeptAnswer::Kept(instance, context)
+}
+
+// 19, or the pacer: HelloTime and silence limit, its clock, the last query due, the last accepted control message.
+pub fn pacer(words: &[u64]) -> PacerAnswer
+    ensures { λ r. ⌜ r ≡ pacerOf (stateIn (now (words .entry))) ⌝ }
+{
+    let survey = survey::survey_words(words, 0);
+    if !survey.fits {
+        return PacerAnswer::Refused(Refusal {
+            number: refusal::OUTSIDE_LIMITS,
+            place: 0,
+        });
+    }
+    PacerAnswer::Shown(head::pacer(words))
 }

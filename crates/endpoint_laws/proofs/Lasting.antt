@@ -1,8 +1,9 @@
--- A channel's latest time, status and flow state after any run of calls as they should be on a state, by their answers and the radio control messages accepted.
+-- A channel's latest time, status and flow state after any run of calls as they should be on a state, by their answers, the radio control messages accepted and the
+-- silences.
 -- Assumes nothing.
 use Prim.Native.Nat.{ℕ, _<_}
 use mathlib.Core.Bool.{Bool, true, false, cond}
-use mathlib.Core.List.{List, [], _∷_, _++_, map}
+use mathlib.Core.List.{List, [], _∷_, _++_, map, map-append}
 use mathlib.Core.Path.{_≡_, refl, sym, ap, ap₂, _∙_}
 use lib.ListN.{length}
 use lib.Dec.{eqb}
@@ -20,23 +21,20 @@ use Rattle.ips_channel.specs.declared.state.Channel.{Channel}
 use Rattle.ips_channel.specs.Channel.{conditionOf}
 use Rattle.ips_channel_calls.specs.Calls.{replyTo}
 use Rattle.ips_state.specs.State.{Configuration, startAt}
-use Rattle.ips_state.specs.Limits.{configurationFits}
+use Rattle.ips_state.specs.Limits.{configurationTaken}
 use Rattle.ips_state.specs.Memory.{World, channelIn, storeIn}
 use Rattle.ips_radio.specs.Heard.{statusIn, windowIn}
-use Rattle.ips_run.specs.Run.{Call, on, radio, query, ifOwn, partOf, acceptedUnder, acceptedBy, acceptedAll, freshWorld, after, seesAll}
+use Rattle.ips_run.specs.Run.{Call, on, radio, pace, query, ifOwn, ifSilent, partOf, acceptedBy, silentBy, freshWorld, after, seesAll}
 use Rattle.ips_run.specs.Demand.{BytesIn, idAt, ruled, seen, freshAt}
 use Rattle.ips_run.specs.Kept.{lastOr}
+use Rattle.ips_run.proofs.Kept.{last-append}
 use Rattle.ips_run.proofs.Fresh.{fresh-in}
 use Rattle.ips_run.proofs.Whole.{projected, projected-history}
 use Rattle.ips_calls.specs.Replies.{EndpointReply}
 use Rattle.ips_calls.specs.Ran.{Ran}
 use Rattle.ips_calls.proofs.Ran.{ran-world, ran-replies}
-use Rattle.endpoint_laws.specs.Lasting.{timeFrom, lastTime, lastStatus, flowFor, lastFlow}
+use Rattle.endpoint_laws.specs.Lasting.{timeFrom, lastTime, News, message, silence, newsBy, newsAll, statusGiven, lastStatus, flowFor, flowGiven, lastFlow}
 use Rattle.endpoint_laws.proofs.Transcript.{told}
-
-last-append : {A : Type 0} (none : A) (xs ys : List A) → lastOr none (xs ++ ys) ≡ lastOr (lastOr none xs) ys
-last-append none [] ys = refl
-last-append none (x ∷ xs) ys = last-append x xs ys
 
 -- ---- the latest time, by the rules
 abbrev timeBy : Happened → List ℕ
@@ -92,27 +90,34 @@ module _ {A : Type 0} (from : Status → Window → A) where
       go true = refl
       go false = refl
 
-  said-heard : (own : ℕ) (ms : List Control) (es : List Event) → saidIn (map (partOf own) ms ++ es) ≡ map (λ m. from (statusIn m own) (windowIn m own)) ms ++ saidIn es
+  -- what is said to a channel by an accepted message, and by a silence
+  abbrev saidBy : ℕ → News → A
+  saidBy own (message m) = from (statusIn m own) (windowIn m own)
+  saidBy own silence = from Status.Absent Window.Empty
+
+  said-heard : (own : ℕ) (ms : List Control) (es : List Event) → saidIn (map (partOf own) ms ++ es) ≡ map (saidBy own) (map message ms) ++ saidIn es
   said-heard own [] es = refl
   said-heard own (m ∷ ms) es = ap (λ (l : List A). from (statusIn m own) (windowIn m own) ∷ l) (said-heard own ms es)
 
-  stated-append : (own : ℕ) (ms ns : List Control)
-      → map (λ m. from (statusIn m own) (windowIn m own)) (ms ++ ns) ≡ map (λ m. from (statusIn m own) (windowIn m own)) ms ++ map (λ m. from (statusIn m own) (windowIn m own)) ns
-  stated-append own [] ns = refl
-  stated-append own (m ∷ ms) ns = ap (λ (l : List A). from (statusIn m own) (windowIn m own) ∷ l) (stated-append own ms ns)
+  said-silent : (own : ℕ) (silent : Bool) (es : List Event) → saidIn (ifSilent silent rules.silence ++ es) ≡ map (saidBy own) (ifSilent silent silence) ++ saidIn es
+  said-silent own true es = refl
+  said-silent own false es = refl
 
-  -- what a channel sees said are the messages accepted
-  said-is : (own : ℕ) (cs : List Call) (w : World) → saidIn (seesAll own cs w) ≡ map (λ m. from (statusIn m own) (windowIn m own)) (acceptedAll cs w)
-  unfolding acceptedUnder
+  -- what a channel sees said are the messages accepted, and the silences
+  said-more : (own : ℕ) (ns : List News) (cs : List Call) (w : World) {said : List A} → said ≡ map (saidBy own) (newsAll cs w)
+      → map (saidBy own) ns ++ said ≡ map (saidBy own) (ns ++ newsAll cs w)
+  said-more own ns cs w e = ap (λ (l : List A). map (saidBy own) ns ++ l) e ∙ sym (map-append (saidBy own) ns (newsAll cs w))
+
+  said-is : (own : ℕ) (cs : List Call) (w : World) → saidIn (seesAll own cs w) ≡ map (saidBy own) (newsAll cs w)
   said-is own [] w = refl
   said-is own (on id c ∷ cs) w = said-own own id c _ ∙ said-is own cs (after (on id c) w)
-  said-is own (radio datagram ∷ cs) w =
-      let ms = acceptedBy (radio datagram) w in
-      let v = after (radio datagram) w in
-      said-heard own ms (seesAll own cs v) ∙ ap (λ (l : List A). map (λ m. from (statusIn m own) (windowIn m own)) ms ++ l) (said-is own cs v) ∙ sym (stated-append own ms (acceptedAll cs v))
+  said-is own (radio time datagram ∷ cs) w =
+      said-heard own (acceptedBy (radio time datagram) w) _ ∙ said-more own (newsBy (radio time datagram) w) cs (after (radio time datagram) w) (said-is own cs (after (radio time datagram) w))
+  said-is own (pace time ∷ cs) w =
+      said-silent own (silentBy (pace time) w) _ ∙ said-more own (newsBy (pace time) w) cs (after (pace time) w) (said-is own cs (after (pace time) w))
   said-is own (query out ∷ cs) w = said-is own cs (after (query out) w)
 
-  -- what every radio message sets and no call changes
+  -- what every radio message and every silence sets, and no call changes
   module _ (k : Terms) (of : Condition machine → A) (law : (e : Event) (st : Condition machine) → of (step machine k e st) ≡ lastOr (of st) (saidIn (e ∷ []))) where
     said-last : (es : List Event) (st : Condition machine) → of (final machine k es st) ≡ lastOr (of st) (saidIn es)
     said-last [] st = refl
@@ -124,6 +129,18 @@ stated status window = status
 
 abbrev flowing : Status → Window → Flow
 flowing status window = flowFor window
+
+map-same : {A B : Type 0} {f g : A → B} → ((x : A) → f x ≡ g x) → (xs : List A) → map f xs ≡ map g xs
+map-same h [] = refl
+map-same {B = B} h (x ∷ xs) = ap₂ (λ (y : B) (ys : List B). y ∷ ys) (h x) (map-same h xs)
+
+status-said : (own : ℕ) (n : News) → saidBy stated own n ≡ statusGiven own n
+status-said own (message m) = refl
+status-said own silence = refl
+
+flow-said : (own : ℕ) (n : News) → saidBy flowing own n ≡ flowGiven own n
+flow-said own (message m) = refl
+flow-said own silence = refl
 
 status-step : (k : Terms) {e : Event} {st : Condition machine} {h : Happened} {st′ : Condition machine} → Leaves machine k e st h st′ → st′ .status ≡ lastOr (st .status) (saidIn stated (e ∷ []))
 status-step k stays = refl
@@ -152,7 +169,7 @@ unfolding conditionOf
 condition-fields c store = (refl, refl, refl)
 
 -- ---- any calls from a fresh start, each with whatever outcome its contract allows
-module _ (k : Configuration) (fits : configurationFits k ≡ true) (index : ℕ) (inside : index < length (k .starts))
+module _ (k : Configuration) (fits : configurationTaken k ≡ true) (index : ℕ) (inside : index < length (k .starts))
     (cs : List Call) (bytes : BytesIn cs) (xs : List EndpointReply) (last : World) (run : Ran (freshWorld k) cs xs last) where
   abbrev final-at : Condition machine
   final-at = final machine (ruled k index) (seen k index cs) (freshAt k index)
@@ -172,23 +189,23 @@ module _ (k : Configuration) (fits : configurationFits k ≡ true) (index : ℕ)
       ∙ ap (lastOr 0) (sym times)
       ∙ ap (λ (ys : List EndpointReply). lastTime (idAt k index) cs ys) (sym (ran-replies run))
 
-  -- the status is what the last accepted radio control message states, and no call changes it
-  pub status-lasts : channelIn last index .status ≡ lastStatus (idAt k index) (acceptedAll cs (freshWorld k))
+  -- the status is what the last accepted radio control message states, or none of a silence after it, and no call changes it
+  pub status-lasts : channelIn last index .status ≡ lastStatus (idAt k index) (newsAll cs (freshWorld k))
   status-lasts =
       sym (condition-fields (channelIn last index) (storeIn last index) .1)
       ∙ ap (λ (st : Condition machine). st .status) at-end
       ∙ said-last stated (ruled k index) (λ st. st .status) (λ e st. status-step (ruled k index) (leaves machine (ruled k index) e st)) (seen k index cs) (freshAt k index)
-      ∙ ap (lastOr Status.Absent) (said-is stated (idAt k index) cs (freshWorld k))
+      ∙ ap (lastOr Status.Absent) (said-is stated (idAt k index) cs (freshWorld k) ∙ map-same (status-said (idAt k index)) (newsAll cs (freshWorld k)))
 
   -- and so is the flow state of a flow-controlled channel; "Plain channels are always free."
-  pub flow-lasts : channelIn last index .flow ≡ lastFlow (startAt k index .setting .controlled) (idAt k index) (acceptedAll cs (freshWorld k))
+  pub flow-lasts : channelIn last index .flow ≡ lastFlow (startAt k index .setting .controlled) (idAt k index) (newsAll cs (freshWorld k))
   flow-lasts =
       sym (condition-fields (channelIn last index) (storeIn last index) .2)
       ∙ ap (λ (st : Condition machine). st .counting .flow) at-end
       ∙ go (startAt k index .setting .controlled) refl
     where
-      go : (controlled : Bool) → startAt k index .setting .controlled ≡ controlled → final-at .counting .flow ≡ lastFlow controlled (idAt k index) (acceptedAll cs (freshWorld k))
+      go : (controlled : Bool) → startAt k index .setting .controlled ≡ controlled → final-at .counting .flow ≡ lastFlow controlled (idAt k index) (newsAll cs (freshWorld k))
       go true is =
           said-last flowing (ruled k index) (λ st. st .counting .flow) (λ e st. flow-step (ruled k index) is (leaves machine (ruled k index) e st)) (seen k index cs) (freshAt k index)
-          ∙ ap₂ lastOr (rw is) (said-is flowing (idAt k index) cs (freshWorld k))
+          ∙ ap₂ lastOr (rw is) (said-is flowing (idAt k index) cs (freshWorld k) ∙ map-same (flow-said (idAt k index)) (newsAll cs (freshWorld k)))
       go false is = plain-free (ruled k index) is (startAt k index .first) (seen k index cs)

@@ -11,7 +11,7 @@ use Rattle.store.specs.Waiting.{storeOf}
 use Rattle.ips_channel_rules.specs.Simple.{isWaiting, having}
 use Rattle.ips_channel.specs.declared.state.Channel.{Channel}
 use Rattle.ips_state.specs.State.{Configuration, noChannel, channelAt, startAt}
-use Rattle.ips_state.specs.Limits.{sizes, configurationFits}
+use Rattle.ips_state.specs.Limits.{sizes, configurationTaken}
 use Rattle.ips_state.specs.Memory.{startOf, storeAt, World, channelIn, storeIn}
 use Rattle.ips_run.specs.Run.{Call, freshWorld}
 use Rattle.ips_run.specs.Demand.{BytesIn, reached}
@@ -65,7 +65,7 @@ unfolding storeOf
 holding-is size ps = rw (bytes-joined ps)
 
 -- every byte of the memory: of each channel, in configuration order, the packets that wait by its ledger, and zeros behind them
-pub ran-memory : (k : Configuration) → configurationFits k ≡ true → ((index : ℕ) → index < length (k .starts) → startAt k index .first .0 < 2 ^ 32)
+pub ran-memory : (k : Configuration) → configurationTaken k ≡ true → ((index : ℕ) → index < length (k .starts) → startAt k index .first .0 < 2 ^ 32)
     → (cs : List Call) → BytesIn cs → (xs : List EndpointReply) (last : World) → Ran (freshWorld k) cs xs last
     → last .memory ≡ endToEnd (λ index. holding (startAt k index .setting .size .0) (having isWaiting (ledgerAt k index cs))) (length (k .starts))
 ran-memory k fits small cs bytes xs last run =

@@ -17,6 +17,7 @@ use Rattle.meaning.specs.declared.message.Control.{Control}
 use Rattle.meaning.specs.declared.message.Sequence.{Sequence}
 use Rattle.store.specs.Waiting.{packetsOf}
 use Rattle.flow.specs.declared.Flow.{Flow}
+use Rattle.ips_channel_rules.specs.Rules as rules
 use Rattle.ips_channel_rules.specs.Rules.{ChannelCall, offer, next, withdraw, Says, Answer, refused, answered, taken, nothingWaiting, notOperational, windowShut, sent, emptied, Tried, Happened, called, heard, Terms, Condition, final}
 use Rattle.ips_channel_rules.specs.Machine.{machine}
 use Rattle.ips_channel_rules.specs.Simple.{simple}
@@ -27,15 +28,15 @@ use Rattle.ips_channel_rules.proofs.FlowCases.{number-simple}
 use Rattle.ips_channel_calls.specs.declared.asking.NextAnswer.{NextAnswer}
 use Rattle.ips_channel_calls.specs.Calls.{Reply, asked, replyTo, nextAnswer, outputAfter}
 use Rattle.ips_state.specs.State.{Configuration, startAt}
-use Rattle.ips_state.specs.Limits.{configurationFits}
+use Rattle.ips_state.specs.Limits.{configurationTaken}
 use Rattle.ips_state.specs.Memory.{World, indexIn, channelIn, storeIn}
 use Rattle.ips_run.specs.Calling.{termsIn, calling}
-use Rattle.ips_run.specs.Run.{Call, on, radio, query, ifOwn, partHeard, acceptedBy, acceptedAll, freshWorld, after, happensAll}
-use Rattle.ips_run.specs.Demand.{BytesIn, idAt, reached, ruled, seen, happenedSince, freshAt, simplyAt, RuledIn}
+use Rattle.ips_run.specs.Run.{Call, on, radio, pace, query, ifOwn, ifSilent, partHeard, acceptedBy, acceptedAll, silentBy, freshWorld, after, happensAll}
+use Rattle.ips_run.specs.Demand.{BytesIn, idAt, reached, ruled, seen, happenedSince, freshAt, simplyAt, NoNews, RuledIn}
 use Rattle.ips_run.specs.Settling.{ledgerAt}
 use Rattle.ips_run.proofs.Project.{step-follows, all-follow}
 use Rattle.ips_run.proofs.Fresh.{fresh-in}
-use Rattle.ips_run.proofs.Whole.{whole-account, whole-ledger, whole-within, whole-none}
+use Rattle.ips_run.proofs.Whole.{whole-account, whole-ledger, whole-within, whole-none, whole-silence}
 use Rattle.ips_calls.specs.Replies.{EndpointReply, ofChannel}
 use Rattle.ips_calls.specs.Calls.{Performed}
 use Rattle.ips_calls.specs.Ran.{Ran, repliesOf}
@@ -53,6 +54,10 @@ module _ {A : Type 0} (from : ChannelCall → Reply → List A) (of : Happened �
   unheard own [] hs = refl
   unheard own (m ∷ messages) hs = some _ _ ∙ ap₂ (λ (xs ys : List A). xs ++ ys) (silent _ _) (unheard own messages hs)
 
+  unsilenced : (b : Bool) (hs : List Happened) → ofAll (ifSilent b rules.silent ++ hs) ≡ ofAll hs
+  unsilenced true hs = some _ _ ∙ ap (λ (xs : List A). xs ++ ofAll hs) (silent _ _)
+  unsilenced false hs = refl
+
   of-call : (own id : ℕ) (c : ChannelCall) (x : Reply) (h : Happened) → from c x ≡ of h → (xs : List A) (hs : List Happened) → xs ≡ ofAll hs
       → ofOwn from own (on id c) (ofChannel x) ++ xs ≡ ofAll (ifOwn own id h ++ hs)
   of-call own id c x h e xs hs more = go (eqb own id)
@@ -69,7 +74,8 @@ module _ {A : Type 0} (from : ChannelCall → Reply → List A) (of : Happened �
       by : (d : Call) → ofAllOwn from (k .id) cs (repliesOf cs (after d w)) ≡ ofAll (happensAll (k .id) cs (after d w))
           → ofAllOwn from (k .id) (d ∷ cs) (repliesOf (d ∷ cs) w) ≡ ofAll (happensAll (k .id) (d ∷ cs) w)
       by (on id call) more = of-call (k .id) id call _ _ (same w id call) _ _ more
-      by (radio datagram) more = more ∙ sym (unheard (k .id) (acceptedBy (radio datagram) w) (happensAll (k .id) cs (after (radio datagram) w)))
+      by (radio time datagram) more = more ∙ sym (unheard (k .id) (acceptedBy (radio time datagram) w) (happensAll (k .id) cs (after (radio time datagram) w)))
+      by (pace time) more = more ∙ sym (unsilenced (silentBy (pace time) w) (happensAll (k .id) cs (after (pace time) w)))
       by (query out) more = more
 
 -- ---- the packets taken in
@@ -120,7 +126,7 @@ module _ (k : Terms) (count index : ℕ) (inside : index < count) (cs : List Cal
   sent-is = told sentFrom handedBy handedOver refl (λ h hs. refl) (λ status window. refl) sent-told k count index inside cs bytes w st p
 
 -- ---- any calls from a fresh start, each with whatever outcome its contract allows
-module _ (k : Configuration) (fits : configurationFits k ≡ true) (index : ℕ) (inside : index < length (k .starts))
+module _ (k : Configuration) (fits : configurationTaken k ≡ true) (index : ℕ) (inside : index < length (k .starts))
     (small : startAt k index .first .0 < 2 ^ 32) where
   -- THE ACCOUNT: of the packets whose Offer was answered so, those sent are, in order and byte for byte, the packets read out of Next's outputs, and those that wait
   -- stand in the queue and the lent memory
@@ -147,35 +153,46 @@ module _ (k : Configuration) (fits : configurationFits k ≡ true) (index : ℕ)
   unfolding ran-account
   ran-account-ledger cs bytes xs last run = whole-ledger k fits index inside small cs bytes
 
-  -- ---- between two radio messages: calls `ds` after calls `cs`, no radio message accepted among them
+  -- ---- between two radio messages: calls `ds` after calls `cs`, no radio message accepted and no silence among them
   module _ (cs ds : List Call) (bytes : BytesIn cs) (more : BytesIn ds) (xs ys : List EndpointReply) (w last : World) (before : Ran (freshWorld k) cs xs w) (since : Ran w ds ys last)
-      (none : acceptedAll ds w ≡ []) where
-    -- the outputs of those calls carry what the rules say was handed over
-    sent-since : packetsSent (idAt k index) ds ys ≡ handedOver (happenedSince k index cs ds)
-    sent-since =
-        let there = all-follow (ruled k index) (length (k .starts)) index inside cs bytes (freshWorld k) (freshAt k index) (fresh-in k fits index inside) .ruled-in in
-        ap (packetsSent (idAt k index) ds) (ran-replies since ∙ ap (repliesOf ds) (ran-world before)) ∙ sent-is (ruled k index) (length (k .starts)) index inside ds more (reached k cs) _ there
+    where
+      -- the outputs of those calls carry what the rules say was handed over
+      sent-since : packetsSent (idAt k index) ds ys ≡ handedOver (happenedSince k index cs ds)
+      sent-since =
+          let there = all-follow (ruled k index) (length (k .starts)) index inside cs bytes (freshWorld k) (freshAt k index) (fresh-in k fits index inside) .ruled-in in
+          ap (packetsSent (idAt k index) ds) (ran-replies since ∙ ap (repliesOf ds) (ran-world before)) ∙ sent-is (ruled k index) (length (k .starts)) index inside ds more (reached k cs) _ there
 
-    -- "While a window is in force no packet goes past it.": the bytes of the packets in the outputs, added to the count, are at most the number that the window stands for
-    pub ran-within : (window : FlowWindow) → channelIn w index .flow ≡ Flow.InForce window
-        → Within (final simple (ruled k index) (seen k index cs) (simplyAt k index) .counting) (channelIn w index .sequence) window (bytesOver (packetsSent (idAt k index) ds ys))
-    ran-within window force =
-        let world = ran-world before in
-        rw (world, sent-since) (whole-within k fits index inside cs ds bytes more (rw world at none) small window (rw world at force))
+      module _ (none : NoNews ds w) where
+        -- "While a window is in force no packet goes past it.": the bytes of the packets in the outputs, added to the count, are at most the number that the window stands for
+        pub ran-within : (window : FlowWindow) → channelIn w index .flow ≡ Flow.InForce window
+            → Within (final simple (ruled k index) (seen k index cs) (simplyAt k index) .counting) (channelIn w index .sequence) window (bytesOver (packetsSent (idAt k index) ds ys))
+        ran-within window force =
+            let world = ran-world before in
+            rw (world, sent-since) (whole-within k fits index inside cs ds bytes more (rw world at none) small window (rw world at force))
 
-    -- the same in plain numbers, "from 2^31 below the bytes counted so far to 2^31 - 1 above"
-    pub ran-below : (window : FlowWindow) → channelIn w index .flow ≡ Flow.InForce window
-        → let count = final simple (ruled k index) (seen k index cs) (simplyAt k index) .counting .count in
-        (number : ℤ) → NumberFor count (window .0) number
-        → (bytesOver (packetsSent (idAt k index) ds ys) ≡ 0) ⊎ (pos (count + bytesOver (packetsSent (idAt k index) ds ys)) ≤ℤ number)
-    ran-below window force number is =
-        let count = final simple (ruled k index) (seen k index cs) (simplyAt k index) .counting .count in
-        let h = ran-within window force in
-        let same : h .number ≡ number = stands-one count window (h .number) (standingAt count window) (h .stands) (standing-stands count window) ∙ number-simple count window number is in
-        rw (← same) (h .below)
+        -- the same in plain numbers, "from 2^31 below the bytes counted so far to 2^31 - 1 above"
+        pub ran-below : (window : FlowWindow) → channelIn w index .flow ≡ Flow.InForce window
+            → let count = final simple (ruled k index) (seen k index cs) (simplyAt k index) .counting .count in
+            (number : ℤ) → NumberFor count (window .0) number
+            → (bytesOver (packetsSent (idAt k index) ds ys) ≡ 0) ⊎ (pos (count + bytesOver (packetsSent (idAt k index) ds ys)) ≤ℤ number)
+        ran-below window force number is =
+            let count = final simple (ruled k index) (seen k index cs) (simplyAt k index) .counting .count in
+            let h = ran-within window force in
+            let same : h .number ≡ number = stands-one count window (h .number) (standingAt count window) (h .stands) (standing-stands count window) ∙ number-simple count window number is in
+            rw (← same) (h .below)
 
-    -- "no window": no output carries a packet
-    pub ran-none : channelIn w index .flow ≡ Flow.NoWindow → packetsSent (idAt k index) ds ys ≡ []
-    ran-none shut =
-        let world = ran-world before in
-        sent-since ∙ whole-none k fits index inside cs ds bytes more (rw world at none) (rw world at shut)
+        -- "no window": no output carries a packet
+        pub ran-none : channelIn w index .flow ≡ Flow.NoWindow → packetsSent (idAt k index) ds ys ≡ []
+        ran-none shut =
+            let world = ran-world before in
+            sent-since ∙ whole-none k fits index inside cs ds bytes more (rw world at none) (rw world at shut)
+
+      -- from an ask that is answered silent to the next accepted radio control message no output carries a packet, whatever else is called, further silences too
+      rest : (time : ℕ) (es : List Call) → BytesIn (pace time ∷ es) → BytesIn es
+      rest time es b = b .1
+
+      pub ran-silence : (time : ℕ) (es : List Call) → ds ≡ pace time ∷ es → silentBy (pace time) w ≡ true → acceptedAll es (after (pace time) w) ≡ [] → packetsSent (idAt k index) ds ys ≡ []
+      ran-silence time es is silent none =
+          let world = ran-world before in
+          sent-since ∙ ap (λ (cs′ : List Call). handedOver (happenedSince k index cs cs′)) is
+          ∙ whole-silence k fits index inside cs es bytes (rest time es (rw is at more)) time (rw world at silent) (rw world at none)

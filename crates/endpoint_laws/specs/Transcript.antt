@@ -11,8 +11,8 @@ use Rattle.ips_channel_rules.specs.Rules.{ChannelCall, offer, next, withdraw}
 use Rattle.ips_channel_calls.specs.declared.offering.OfferAnswer.{OfferAnswer}
 use Rattle.ips_channel_calls.specs.declared.asking.NextAnswer.{NextAnswer}
 use Rattle.ips_channel_calls.specs.Calls.{Reply, offered, asked, withdrawn}
-use Rattle.ips_run.specs.Run.{Call, on, radio, query}
-use Rattle.ips_calls.specs.Replies.{EndpointReply, ofChannel, ofRadio, ofQuery}
+use Rattle.ips_run.specs.Run.{Call, on, radio, pace, query}
+use Rattle.ips_calls.specs.Replies.{EndpointReply, ofChannel, ofRadio, ofPace, ofQuery}
 
 -- ---- of one call on a channel
 
@@ -45,8 +45,10 @@ sentFrom c (withdrawn answer) = []
 abbrev pub ofOwn : {A : Type 0} → (ChannelCall → Reply → List A) → (own : ℕ) → Call → EndpointReply → List A
 ofOwn from own (on id c) (ofChannel x) = cond (eqb own id) (from c x) []
 ofOwn from own (on id c) (ofRadio answer) = []
+ofOwn from own (on id c) (ofPace answer) = []
 ofOwn from own (on id c) (ofQuery answer out) = []
-ofOwn from own (radio datagram) x = []
+ofOwn from own (radio time datagram) x = []
+ofOwn from own (pace time) x = []
 ofOwn from own (query out) x = []
 
 abbrev pub ofAllOwn : {A : Type 0} → (ChannelCall → Reply → List A) → (own : ℕ) → List Call → List EndpointReply → List A

@@ -46,7 +46,7 @@ use Rattle.ips_channel_calls.specs.Calls.{asked, Ready}
 use Rattle.ips_channel_calls.proofs.Leaving.{ready-alive}
 use Rattle.ips_channel_calls.proofs.Message.{carrier-allowed}
 use Rattle.ips_state.specs.State.{Configuration, State, channelAt, noChannel, startAt}
-use Rattle.ips_state.specs.Limits.{stateFits, configurationFits}
+use Rattle.ips_state.specs.Limits.{stateFits, configurationTaken}
 use Rattle.ips_state.specs.Memory.{memoryFits, storeAt, World, worldFits, indexIn, channelIn, storeIn}
 use Rattle.ips_state.proofs.Places.{found, channel-fitting-at, store-length}
 use Rattle.ips_query.specs.Query.{sequenceFor, sequencesOf, queryOf}
@@ -71,7 +71,7 @@ channel-sequence : (c : Channel) (store : List ℕ) → conditionOf c store .cou
 unfolding conditionOf
 channel-sequence c store = refl
 
-module _ (k : Configuration) (fits : configurationFits k ≡ true) (index : ℕ) (inside : index < length (k .starts))
+module _ (k : Configuration) (fits : configurationTaken k ≡ true) (index : ℕ) (inside : index < length (k .starts))
     (cs : List Call) (bytes : BytesIn cs) where
   abbrev s : State
   s = reached k cs .state
@@ -152,7 +152,7 @@ module _ (s : State) (words : SequenceWords s) where
         go true f = control-returned ends.Ips (queryOf s) query-value out r out′ (query-outcome f) (s .datalink) count refl wrote
 
 -- the sequences of every state reached are such words
-pub reached-words : (k : Configuration) → configurationFits k ≡ true → ((index : ℕ) → index < length (k .starts) → startAt k index .first .0 < 2 ^ 32)
+pub reached-words : (k : Configuration) → configurationTaken k ≡ true → ((index : ℕ) → index < length (k .starts) → startAt k index .first .0 < 2 ^ 32)
     → (cs : List Call) → BytesIn cs → SequenceWords (reached k cs .state)
 reached-words k fits small cs bytes index there =
     let inside : index < length (k .starts) = omega (arith, reached-fits k fits cs bytes .order .counted) in

@@ -6,5 +6,6 @@ pub mod Counted
 pub mod Coincide
 pub mod Exactly
 pub mod Due
+pub mod Pacing
 pub mod Others
 pub mod Own

@@ -8,7 +8,7 @@ use borrow.Author.Tests.{eqb-true}
 use lib.ListN.{length}
 use lib.Dec.{eqb}
 use Rattle.facts.proofs.Tests.{clash}
-use Rattle.quantity.specs.Refusals.{OUTSIDE-LIMITS}
+use Rattle.quantity.specs.Refusals.{OUTSIDE-LIMITS, NO-WAIT}
 use Rattle.meaning.specs.declared.message.Control.{Control}
 use Rattle.store.specs.Waiting.{Holds, packetsOf}
 use Rattle.ips_channel_rules.specs.Rules as rules
@@ -18,18 +18,18 @@ use Rattle.ips_channel_rules.specs.Simple.{simple, isWaiting, having}
 use Rattle.ips_channel_calls.specs.Calls.{replyTo}
 use Rattle.ips_channel_calls.specs.ChannelRan.{repliesTo}
 use Rattle.ips_state.specs.State.{Configuration, startAt}
-use Rattle.ips_state.specs.Limits.{configurationFits}
+use Rattle.ips_state.specs.Limits.{waitsFit, configurationTaken}
 use Rattle.ips_state.specs.Memory.{World, channelIn, storeIn}
 use Rattle.ips_state.specs.declared.StartAnswer.{StartAnswer}
 use Rattle.ips_run.specs.Calling.{calling}
-use Rattle.ips_run.specs.Run.{Call, on, radio, query, ifOwn, partHeard, acceptedBy, freshWorld, after, happensAll}
+use Rattle.ips_run.specs.Run.{Call, on, radio, pace, query, ifOwn, ifSilent, partHeard, acceptedBy, silentBy, freshWorld, after, happensAll}
 use Rattle.ips_run.specs.Demand.{BytesIn, idAt, reached, ruled, seen, freshAt, simplyAt, RuledIn}
 use Rattle.ips_run.specs.Settling.{ledgerAt}
 use Rattle.ips_run.proofs.Project.{own-terms, step-follows}
 use Rattle.ips_run.proofs.Fresh.{fresh-in}
 use Rattle.ips_run.proofs.Whole.{waiting-of, whole-history, whole-holds, whole-tidy, reached-fits}
 use Rattle.ips_calls.specs.Replies.{EndpointReply, ofChannel, replyOf}
-use Rattle.ips_calls.specs.Start.{startFits, Started}
+use Rattle.ips_calls.specs.Start.{startFits, starts, notStarted, Started}
 use Rattle.ips_calls.specs.Ran.{Ran, repliesOf}
 use Rattle.ips_calls.specs.Own.{ownReplies, ServedSimply}
 use Rattle.ips_calls.proofs.Ran.{ran-world, ran-replies, start-configured, begins}
@@ -38,6 +38,11 @@ use Rattle.ips_calls.proofs.Ran.{ran-world, ran-replies, start-configur
 heard-out : (k : Terms) (messages : List Control) (hs : List Happened) → repliesTo k (map (partHeard (k .id)) messages ++ hs) ≡ repliesTo k hs
 heard-out k [] hs = refl
 heard-out k (m ∷ messages) hs = heard-out k messages hs
+
+-- nor for a silence
+silent-out : (k : Terms) (silent : Bool) (hs : List Happened) → repliesTo k (ifSilent silent rules.silent ++ hs) ≡ repliesTo k hs
+silent-out k true hs = refl
+silent-out k false hs = refl
 
 -- a call on a channel, and then others
 told : (k : Terms) (id : ℕ) (c : ChannelCall) (x : EndpointReply) (a : Answer (Says c)) → (k .id ≡ id → x ≡ ofChannel (replyTo k c a)) → (xs : List EndpointReply) (hs : List Happened)
@@ -57,10 +62,11 @@ own-told k count index inside (c ∷ cs) b w st p = by c (own-told k count index
     by : (d : Call) → ownReplies (k .id) cs (repliesOf cs (after d w)) ≡ map ofChannel (repliesTo k (happensAll (k .id) cs (after d w)))
         → ownReplies (k .id) (d ∷ cs) (repliesOf (d ∷ cs) w) ≡ map ofChannel (repliesTo k (happensAll (k .id) (d ∷ cs) w))
     by (on id call) more = told k id call (replyOf (on id call) w) (calling id call w .answer) (λ own. rw (own-terms k count index inside w st p id own)) _ _ more
-    by (radio datagram) more = more ∙ ap (map ofChannel) (sym (heard-out k (acceptedBy (radio datagram) w) (happensAll (k .id) cs (after (radio datagram) w))))
+    by (radio time datagram) more = more ∙ ap (map ofChannel) (sym (heard-out k (acceptedBy (radio time datagram) w) (happensAll (k .id) cs (after (radio time datagram) w))))
+    by (pace time) more = more ∙ ap (map ofChannel) (sym (silent-out k (silentBy (pace time) w) (happensAll (k .id) cs (after (pace time) w))))
     by (query out) more = more
 
-module _ (k : Configuration) (fits : configurationFits k ≡ true) (index : ℕ) (inside : index < length (k .starts))
+module _ (k : Configuration) (fits : configurationTaken k ≡ true) (index : ℕ) (inside : index < length (k .starts))
     (small : startAt k index .first .0 < 2 ^ 32) where
   own-replies : (cs : List Call) → BytesIn cs
       → ownReplies (idAt k index) cs (repliesOf cs (freshWorld k)) ≡ map ofChannel (repliesTo (ruled k index) (history simple (ruled k index) (seen k index cs) (simplyAt k index)))
@@ -84,18 +90,19 @@ module _ (k : Configuration) (fits : configurationFits k ≡ true) (index : ℕ)
       rw (ran-world run, ran-replies run)
       (record { replies = own-replies cs bytes; holds = whole-holds k fits index inside small cs bytes; keeps = own-keeps cs bytes })
 
--- a start that is answered so is one that 19 does not refuse
-started-fits : (k : Configuration) (room : Bool) (w w′ : World) → Started k room w StartAnswer.Started w′ → startFits k room (w .memory) ≡ true
-started-fits k room w w′ h = go (startFits k room (w .memory)) refl
+-- a start that is answered so is one that neither 19 nor 22 refuses
+started-fits : (k : Configuration) (room : Bool) (w w′ : World) → Started k room w StartAnswer.Started w′ → starts k room (w .memory) ≡ true
+started-fits k room w w′ h = go (startFits k room (w .memory)) refl (waitsFit k) refl
   where
-    go : (fits : Bool) → startFits k room (w .memory) ≡ fits → startFits k room (w .memory) ≡ true
-    go true f = f
-    go false f = let refused : StartAnswer.Started ≡ StartAnswer.Refused (record { number = OUTSIDE-LIMITS; place = 0 }) = rw f at (h .answer-is) in clash (cc)
+    go : (fits : Bool) → startFits k room (w .memory) ≡ fits → (waits : Bool) → waitsFit k ≡ waits → starts k room (w .memory) ≡ true
+    go true f true l = rw (f, l)
+    go true f false l = let refused : StartAnswer.Started ≡ notStarted NO-WAIT = rw (f, l) at (h .answer-is) in clash (cc)
+    go false f waits l = let refused : StartAnswer.Started ≡ notStarted OUTSIDE-LIMITS = rw f at (h .answer-is) in clash (cc)
 
 -- "any sequence of calls from a fresh start", both as they should be on a state
 pub started-own : (k : Configuration) (room : Bool) (lent w : World) → Started k room lent StartAnswer.Started w
     → (index : ℕ) → index < length (k .starts) → startAt k index .first .0 < 2 ^ 32
     → (cs : List Call) → BytesIn cs → (xs : List EndpointReply) (last : World) → Ran w cs xs last → ServedSimply k index cs xs last
-started-own k room lent w starts index inside small cs bytes xs last run =
-    let fits = started-fits k room lent w starts in
-    ran-own k (start-configured k room lent fits) index inside small cs bytes xs last (rw (begins k room lent fits StartAnswer.Started w starts) at run)
+started-own k room lent w begun index inside small cs bytes xs last run =
+    let fits = started-fits k room lent w begun in
+    ran-own k (start-configured k room lent fits) index inside small cs bytes xs last (rw (begins k room lent fits StartAnswer.Started w begun) at run)

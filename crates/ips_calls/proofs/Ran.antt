@@ -8,46 +8,47 @@ use borrow.Author.Tests.{eqb-true}
 use lib.Dec.{eqb}
 use lib.ListN.{length}
 use Rattle.meaning.specs.declared.message.End.the-variants as ends
-use Rattle.reader.specs.Readings.{Verdict, ControlReading, readControl, planeOf}
+use Rattle.reader.specs.Readings.{Verdict, readControl, readData, planeOf}
 use Rattle.reader.specs.declared.answer.PlaneAnswer.{PlaneAnswer}
+use Rattle.pacer.specs.Pacing.{isEarlier}
 use Rattle.ips_state.specs.State.{Configuration, State, freshState}
-use Rattle.ips_state.specs.Limits.{sizes, stateFits, configurationFits}
+use Rattle.ips_state.specs.Limits.{sizes, stateFits, configurationFits, waitsFit, configurationTaken}
 use Rattle.ips_state.specs.Memory.{World}
 use Rattle.ips_radio.specs.declared.RadioAnswer.{RadioAnswer}
-use Rattle.ips_run.specs.Run.{Call, radio, ifAccepted, acceptedIn, acceptedUnder, acceptedBy, hearEach, afterUnder, after, afterAll, freshWorld}
+use Rattle.ips_run.specs.Run.{Call, radio, Received, carried, stated, ifAccepted, receivedIn, received, afterUnder, after, afterAll, freshWorld}
 use Rattle.ips_state.specs.declared.StartAnswer.{StartAnswer}
-use Rattle.ips_calls.specs.Radio.{handedInUnder, handedIn, controlHeard}
+use Rattle.ips_calls.specs.Radio.{AfterRadio, byVerdict, heardControl, passedOn, handedInUnder, handedIn}
 use Rattle.ips_calls.specs.Replies.{EndpointReply, ofRadio}
 use Rattle.ips_calls.specs.Calls.{lending, PerformedWithAny}
-use Rattle.ips_calls.specs.Start.{storesOf, startFits, Started}
+use Rattle.ips_calls.specs.Start.{storesOf, startFits, starts, Started}
 use Rattle.ips_calls.specs.Ran.{Ran, over, ran, repliesOf}
-use Rattle.ips_calls.proofs.Refused.{radio-data-same}
 
--- ---- a radio message handed in leaves what the run has: its message heard, if it is accepted
-control-hears : (reading : ControlReading) (s : State) → controlHeard reading s .state ≡ hearEach (ifAccepted (reading .verdict) (reading .message)) s
-control-hears reading s = go (reading .verdict) refl
-  where
-    go : (v : Verdict) → reading .verdict ≡ v → controlHeard reading s .state ≡ hearEach (ifAccepted (reading .verdict) (reading .message)) s
-    go Verdict.Accepted e = rw e
-    go Verdict.OtherPlane e = rw e
-    go (Verdict.Refused refusal) e = rw e
+-- ---- a radio message handed in leaves what the run has: its message heard, if it is accepted, and the pacer's clock moved
+verdict-leaves : (v : Verdict) (time : ℕ) (s : State) (r : Received) (accepted : AfterRadio) → accepted .state ≡ received time r s
+    → byVerdict v s accepted .state ≡ received time (ifAccepted v r) s
+verdict-leaves Verdict.Accepted time s r accepted e = e
+verdict-leaves Verdict.OtherPlane time s r accepted e = refl
+verdict-leaves (Verdict.Refused refusal) time s r accepted e = refl
 
-handed-state : (w : World) (datagram : List ℕ) → handedIn (w .state) datagram .state ≡ hearEach (acceptedBy (radio datagram) w) (w .state)
-unfolding handedInUnder acceptedIn acceptedUnder
-handed-state w datagram = go (stateFits (w .state)) refl (planeOf datagram) refl
+handed-state : (w : World) (time : ℕ) (datagram : List ℕ) → handedIn time (w .state) datagram .state ≡ after (radio time datagram) w .state
+unfolding handedInUnder receivedIn afterUnder
+handed-state w time datagram = go (stateFits (w .state)) refl (isEarlier time (w .state .pacer)) refl (planeOf datagram) refl
   where
-    go : (fits : Bool) → stateFits (w .state) ≡ fits → (plane : PlaneAnswer) → planeOf datagram ≡ plane
-        → handedIn (w .state) datagram .state ≡ hearEach (acceptedBy (radio datagram) w) (w .state)
-    go false f plane p = rw f
-    go true f PlaneAnswer.Control p = rw (f, p) (control-hears (readControl ends.Radio (w .state .datalink) datagram) (w .state))
-    go true f PlaneAnswer.Data p = radio-data-same (w .state) datagram p ∙ rw (f, p)
-    go true f (PlaneAnswer.Refused refusal) p = rw (f, p)
+    go : (fits : Bool) → stateFits (w .state) ≡ fits → (early : Bool) → isEarlier time (w .state .pacer) ≡ early → (plane : PlaneAnswer) → planeOf datagram ≡ plane
+        → handedIn time (w .state) datagram .state ≡ after (radio time datagram) w .state
+    go false f early l plane p = rw f
+    go true f true l plane p = rw (f, l)
+    go true f false l PlaneAnswer.Control p =
+        let reading = readControl ends.Radio (w .state .datalink) datagram in
+        rw (f, l, p) (verdict-leaves (reading .verdict) time (w .state) (stated (reading .message)) (heardControl time (reading .message) (w .state)) refl)
+    go true f false l PlaneAnswer.Data p =
+        rw (f, l, p) (verdict-leaves (readData ends.Radio (w .state .datalink) datagram .verdict) time (w .state) carried (passedOn time (w .state)) refl)
+    go true f false l (PlaneAnswer.Refused refusal) p = rw (f, l, p)
 
 -- so a radio message handed in as it should be, with any memory, is answered and leaves a state as `handedIn` says: the laws over `handedIn` are laws of the call
-pub radio-handed : {s : State} {datagram : List ℕ} {answer : RadioAnswer} {s′ : State} → PerformedWithAny (radio datagram) s (ofRadio answer) s′
-    → (answer ≡ handedIn s datagram .answer) × (s′ ≡ handedIn s datagram .state)
-unfolding afterUnder
-radio-handed {s} {datagram} h = (cc (h [] .reply-is), ap (λ (w : World). w .state) (h [] .world-is) ∙ sym (handed-state (lending s []) datagram))
+pub radio-handed : {s : State} {time : ℕ} {datagram : List ℕ} {answer : RadioAnswer} {s′ : State} → PerformedWithAny (radio time datagram) s (ofRadio answer) s′
+    → (answer ≡ handedIn time s datagram .answer) × (s′ ≡ handedIn time s datagram .state)
+radio-handed {s} {time} {datagram} h = (cc (h [] .reply-is), ap (λ (w : World). w .state) (h [] .world-is) ∙ sym (handed-state (lending s []) time datagram))
 
 -- ---- any calls
 pub ran-world : {w last : World} {cs : List Call} {xs : List EndpointReply} → Ran w cs xs last → last ≡ afterAll cs w
@@ -59,10 +60,13 @@ ran-replies over = refl
 ran-replies (ran {cs} h more) = ap₂ (λ (x : EndpointReply) (xs : List EndpointReply). x ∷ xs) (h .reply-is) (ran-replies more ∙ ap (repliesOf cs) (h .world-is))
 
 -- ---- a start that is not refused leaves the fresh world
-module _ (k : Configuration) (room : Bool) (w : World) (fits : startFits k room (w .memory) ≡ true) where
-  pub start-configured : configurationFits k ≡ true
+module _ (k : Configuration) (room : Bool) (w : World) (begun : starts k room (w .memory) ≡ true) where
+  fits : startFits k room (w .memory) ≡ true
+  fits = and-eq-true-iff (startFits k room (w .memory)) (waitsFit k) .0 begun .0
+
+  pub start-configured : configurationTaken k ≡ true
   unfolding startFits
-  start-configured = and-eq-true-iff (configurationFits k) _ .0 fits .0
+  start-configured = rw (and-eq-true-iff (configurationFits k) _ .0 fits .0, and-eq-true-iff (startFits k room (w .memory)) (waitsFit k) .0 begun .1)
 
   memory-length : length (w .memory) ≡ sizes (freshState k .channels)
   unfolding startFits storesOf
@@ -70,4 +74,4 @@ module _ (k : Configuration) (room : Bool) (w : World) (fits : startFits k room 
 
   pub begins : (answer : StartAnswer) (w′ : World) → Started k room w answer w′ → w′ ≡ freshWorld k
   unfolding freshWorld
-  begins answer w′ h = h .world-is ∙ rw (fits, memory-length)
+  begins answer w′ h = h .world-is ∙ rw (begun, memory-length)

@@ -2,7 +2,7 @@
 use Prim.Native.Nat.{ℕ}
 use mathlib.Core.Bool.{Bool, true, false, cond}
 use mathlib.Core.List.{List}
-use mathlib.Core.Path.{_≡_, refl, _∙_}
+use mathlib.Core.Path.{_≡_, refl, sym, _∙_}
 use lib.ListN.{length}
 use Rattle.facts.proofs.Tests.{clash}
 use Rattle.quantity.specs.declared.refusal.Refusal.{Refusal}
@@ -16,19 +16,22 @@ use Rattle.ips_channel_rules.specs.Rules.{ChannelCall, offer, next, withdraw, T
 use Rattle.ips_channel_calls.specs.declared.offering.OfferAnswer.{OfferAnswer}
 use Rattle.ips_channel_calls.specs.declared.asking.NextAnswer.{NextAnswer}
 use Rattle.ips_channel_calls.specs.Calls.{offerAnswer, nextAnswer, withdrawAnswer, outputAfter, Reply, offered, asked, withdrawn}
+use Rattle.pacer.specs.declared.PaceAnswer.{PaceAnswer}
+use Rattle.pacer.specs.Pacing.{isEarlier, isDue, isSilent, answerOf}
 use Rattle.ips_state.specs.State.{Configuration, State}
-use Rattle.ips_state.specs.Limits.{stateFits}
+use Rattle.ips_state.specs.Limits.{stateFits, waitsFit}
 use Rattle.ips_state.specs.Memory.{World, indexIn}
 use Rattle.ips_run.specs.Calling.{termsIn, calling}
-use Rattle.ips_run.specs.Run.{on, query, afterUnder}
-use Rattle.ips_run.proofs.Exact.{refused-world}
+use Rattle.ips_run.specs.Run.{on, pace, query, afterUnder}
+use Rattle.ips_run.proofs.Exact.{refused-world, pace-late}
 use Rattle.ips_radio.specs.Heard.{dueOf}
 use Rattle.ips_channel_calls.specs.declared.offering.WithdrawAnswer.{WithdrawAnswer}
 use Rattle.ips_radio.specs.declared.RadioAnswer.{RadioAnswer}
 use Rattle.ips_state.specs.declared.StartAnswer.{StartAnswer}
-use Rattle.ips_calls.specs.Radio.{AfterRadio, byVerdict, heardControl, unchanged, handedInUnder, handedIn}
+use Rattle.ips_calls.specs.Radio.{AfterRadio, byVerdict, heardControl, passedOn, handedInUnder, handedIn}
+use Rattle.ips_calls.specs.Pace.{paceAnswerUnder, paceAnswer}
 use Rattle.ips_calls.specs.Query.{queryBytes}
-use Rattle.ips_calls.specs.Replies.{ofChannel, ofQuery}
+use Rattle.ips_calls.specs.Replies.{ofChannel, ofPace, ofQuery}
 use Rattle.ips_calls.specs.Calls.{Performed}
 use Rattle.ips_calls.specs.Start.{startFits, Started}
 use Rattle.ips_calls.proofs.Querying.{query-gives}
@@ -78,13 +81,8 @@ module _ (w : World) (id : ℕ) (refusal : Refusal) (w′ : World) where
       let is : withdrawAnswer (calling id withdraw w .answer) ≡ WithdrawAnswer.Refused refusal = cc (one-reply (h .reply-is)) in
       refused-same withdraw (withdrawn answer) h (withdraw-told _ refusal is)
 
--- ---- a radio message; "an accepted radio data message changes nothing"
+-- ---- a radio message
 module _ (s : State) where
-  data-same : (verdict : Verdict) → byVerdict verdict s (unchanged s) .state ≡ s
-  data-same Verdict.Accepted = refl
-  data-same Verdict.OtherPlane = refl
-  data-same (Verdict.Refused refusal) = refl
-
   control-same : (verdict : Verdict) (accepted : AfterRadio) (refusal : Refusal) → (accepted .answer ≡ RadioAnswer.Refused refusal → ⊥)
       → byVerdict verdict s accepted .answer ≡ RadioAnswer.Refused refusal → byVerdict verdict s accepted .state ≡ s
   control-same Verdict.Accepted accepted refusal other e = absurd (other e)
@@ -95,35 +93,53 @@ module _ (s : State) where
   not-refused true refusal e = clash (cc)
   not-refused false refusal e = clash (cc)
 
-  module _ (datagram : List ℕ) where
-    pub radio-data-same : planeOf datagram ≡ PlaneAnswer.Data → handedIn s datagram .state ≡ s
+  module _ (time : ℕ) (datagram : List ℕ) where
+    pub radio-refused-same : (refusal : Refusal) → handedIn time s datagram .answer ≡ RadioAnswer.Refused refusal → handedIn time s datagram .state ≡ s
     unfolding handedInUnder
-    radio-data-same p = go (stateFits s) refl
+    radio-refused-same refusal e = go (stateFits s) refl (isEarlier time (s .pacer)) refl (planeOf datagram) refl
       where
-        go : (fits : Bool) → stateFits s ≡ fits → handedIn s datagram .state ≡ s
-        go true f = rw (f, p) (data-same (readData ends.Radio (s .datalink) datagram .verdict))
-        go false f = rw f
-
-    pub radio-refused-same : (refusal : Refusal) → handedIn s datagram .answer ≡ RadioAnswer.Refused refusal → handedIn s datagram .state ≡ s
-    unfolding handedInUnder
-    radio-refused-same refusal e = go (stateFits s) refl (planeOf datagram) refl
-      where
-        go : (fits : Bool) → stateFits s ≡ fits → (plane : PlaneAnswer) → planeOf datagram ≡ plane → handedIn s datagram .state ≡ s
-        go false f plane p = rw f
-        go true f PlaneAnswer.Control p =
+        go : (fits : Bool) → stateFits s ≡ fits → (early : Bool) → isEarlier time (s .pacer) ≡ early → (plane : PlaneAnswer) → planeOf datagram ≡ plane
+            → handedIn time s datagram .state ≡ s
+        go false f early l plane p = rw f
+        go true f true l plane p = rw (f, l)
+        go true f false l PlaneAnswer.Control p =
             let reading = readControl ends.Radio (s .datalink) datagram in
-            rw (f, p) (control-same (reading .verdict) (heardControl (reading .message) s) refusal (not-refused (dueOf (s .context) (reading .message .context)) refusal) (rw (f, p) at e))
-        go true f PlaneAnswer.Data p = radio-data-same p
-        go true f (PlaneAnswer.Refused why) p = rw (f, p)
+            rw (f, l, p) (control-same (reading .verdict) (heardControl time (reading .message) s) refusal (not-refused (dueOf (s .context) (reading .message .context)) refusal) (rw (f, l, p) at e))
+        go true f false l PlaneAnswer.Data p =
+            let reading = readData ends.Radio (s .datalink) datagram in
+            rw (f, l, p) (control-same (reading .verdict) (passedOn time s) refusal (λ other. clash (cc)) (rw (f, l, p) at e))
+        go true f false l (PlaneAnswer.Refused why) p = rw (f, l, p)
+
+-- ---- the pacer asked
+pub answered-so : (due silent : Bool) (refusal : Refusal) → answerOf due silent ≡ PaceAnswer.Refused refusal → ⊥
+answered-so true true refusal e = clash (cc)
+answered-so true false refusal e = clash (cc)
+answered-so false true refusal e = clash (cc)
+answered-so false false refusal e = clash (cc)
+
+pub pace-refused-same : (w : World) (time : ℕ) (answer : PaceAnswer) (w′ : World) (refusal : Refusal) → Performed (pace time) w (ofPace answer) w′ → answer ≡ PaceAnswer.Refused refusal
+    → w′ ≡ w
+unfolding paceAnswerUnder
+pace-refused-same w time answer w′ refusal h e = go (stateFits (w .state)) refl (isEarlier time (w .state .pacer)) refl
+  where
+    answer-is : answer ≡ paceAnswer time (w .state)
+    answer-is = cc (h .reply-is)
+
+    go : (fits : Bool) → stateFits (w .state) ≡ fits → (early : Bool) → isEarlier time (w .state .pacer) ≡ early → w′ ≡ w
+    go false f early l = h .world-is ∙ pace-late w time (rw f)
+    go true f true l = h .world-is ∙ pace-late w time (rw (f, l))
+    go true f false l =
+        absurd (answered-so (isDue time (w .state .pacer)) (isSilent time (w .state .pacer)) refusal (sym (rw (f, l) at answer-is) ∙ e))
 
 -- ---- a start, and a query
 pub start-refused-same : (k : Configuration) (room : Bool) (w : World) (answer : StartAnswer) (w′ : World) (refusal : Refusal) → Started k room w answer w′
     → answer ≡ StartAnswer.Refused refusal → w′ ≡ w
-start-refused-same k room w answer w′ refusal h e = go (startFits k room (w .memory)) refl
+start-refused-same k room w answer w′ refusal h e = go (startFits k room (w .memory)) refl (waitsFit k) refl
   where
-    go : (fits : Bool) → startFits k room (w .memory) ≡ fits → w′ ≡ w
-    go true f = let started : answer ≡ StartAnswer.Started = rw f at (h .answer-is) in clash (cc)
-    go false f = h .world-is ∙ rw f
+    go : (fits : Bool) → startFits k room (w .memory) ≡ fits → (waits : Bool) → waitsFit k ≡ waits → w′ ≡ w
+    go true f true l = let started : answer ≡ StartAnswer.Started = rw (f, l) at (h .answer-is) in clash (cc)
+    go true f false l = h .world-is ∙ rw (f, l)
+    go false f waits l = h .world-is ∙ rw f
 
 pub query-refused-same : (w : World) (out : List ℕ) (r : WriteAnswer) (out′ : List ℕ) (w′ : World) (refusal : Refusal) → Performed (query out) w (ofQuery r out′) w′ → r ≡ WriteAnswer.Refused refusal
     → (w′ ≡ w) × (out′ ≡ out)

@@ -1,4 +1,5 @@
 pub mod Radio
+pub mod Pace
 pub mod Query
 pub mod Replies
 pub mod Calls

@@ -1,5 +1,5 @@
 -- Demand 3, of calls that are each performed as they should be: "Each channel answers, sends and holds what a simple channel counting in numbers that never wrap would, starting at its
--- first sequence, seeing its own calls and its part of each accepted radio message."
+-- first sequence, seeing its own calls and its part of each accepted radio message." Document 02, §1: and each silence.
 use Prim.Native.Nat.{ℕ}
 use mathlib.Core.List.{List, [], _∷_, _++_, map}
 use mathlib.Core.Path.{_≡_}
@@ -11,7 +11,7 @@ use Rattle.ips_channel_calls.specs.ChannelRan.{repliesTo}
 use Rattle.ips_state.specs.State.{Configuration, startAt}
 use Rattle.ips_state.specs.Memory.{World, channelIn, storeIn}
 use Rattle.ips_run.specs.Calling.{conditionIn}
-use Rattle.ips_run.specs.Run.{Call, on, radio, query, ifOwn}
+use Rattle.ips_run.specs.Run.{Call, on, radio, pace, query, ifOwn}
 use Rattle.ips_run.specs.Demand.{idAt, ruled, seen, simplyAt}
 use Rattle.ips_run.specs.Settling.{ledgerAt}
 use Rattle.ips_calls.specs.Replies.{EndpointReply, ofChannel}
@@ -19,7 +19,8 @@ use Rattle.ips_calls.specs.Replies.{EndpointReply, ofChannel}
 -- ---- the replies to "its own calls"
 abbrev pub ifToOwn : ℕ → Call → EndpointReply → List EndpointReply
 ifToOwn own (on id c) x = ifOwn own id x
-ifToOwn own (radio datagram) x = []
+ifToOwn own (radio time datagram) x = []
+ifToOwn own (pace time) x = []
 ifToOwn own (query out) x = []
 
 abbrev pub ownReplies : ℕ → List Call → List EndpointReply → List EndpointReply

@@ -7,18 +7,22 @@ use Rattle.ips_channel_calls.specs.Calls.{Reply, replyTo}
 use Rattle.ips_state.specs.Memory.{World, indexIn}
 use Rattle.ips_radio.specs.declared.RadioAnswer.{RadioAnswer}
 use Rattle.ips_run.specs.Calling.{termsInUnder, callingUnder}
-use Rattle.ips_run.specs.Run.{Call, on, radio, query}
+use Rattle.pacer.specs.declared.PaceAnswer.{PaceAnswer}
+use Rattle.ips_run.specs.Run.{Call, on, radio, pace, query}
 use Rattle.ips_calls.specs.Radio.{handedInUnder}
+use Rattle.ips_calls.specs.Pace.{paceAnswerUnder}
 use Rattle.ips_calls.specs.Query.{queryAnswerUnder, queryOutUnder}
 
 pub data EndpointReply : Type 0 where
   ofChannel : Reply → EndpointReply
   ofRadio : RadioAnswer → EndpointReply
+  ofPace : PaceAnswer → EndpointReply
   ofQuery : WriteAnswer → (out : List ℕ) → EndpointReply
 
 abbrev pub replyUnder : Limits → Call → World → EndpointReply
 replyUnder limits (on id c) w = ofChannel (replyTo (termsInUnder (limits .packet) w (indexIn w id)) c (callingUnder limits id c w .answer))
-replyUnder limits (radio datagram) w = ofRadio (handedInUnder limits (w .state) datagram .answer)
+replyUnder limits (radio time datagram) w = ofRadio (handedInUnder limits time (w .state) datagram .answer)
+replyUnder limits (pace time) w = ofPace (paceAnswerUnder limits time (w .state))
 replyUnder limits (query out) w = ofQuery (queryAnswerUnder limits (w .state) out) (queryOutUnder limits (w .state) out)
 
 abbrev pub replyOf : Call → World → EndpointReply

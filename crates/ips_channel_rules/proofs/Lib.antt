@@ -9,6 +9,7 @@ pub mod Ledger
 pub mod Fates
 pub mod Account
 pub mod Within
+pub mod Silence
 pub mod FlowCases
 pub mod Lives
 pub mod CallCases

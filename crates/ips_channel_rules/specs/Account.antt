@@ -4,6 +4,7 @@ use Prim.Native.Nat.{ℕ, _+_, _<_, _≤_}
 use mathlib.Core.List.{List, [], _∷_, _++_, map}
 use mathlib.Core.Path.{_≡_}
 use lib.ListN.{length}
+use Rattle.meaning.specs.declared.message.Status.{Status}
 use Rattle.store.specs.Packets.{Packet}
 use Rattle.ips_channel_rules.specs.Rules.{offer, next, withdraw, taken, Tried, nothingWaiting, notOperational, windowShut, sent, emptied, refused, answered, Event, call, radio, Happened, called, heard}
 use Rattle.ips_channel_rules.specs.Simple as simples
@@ -84,3 +85,12 @@ isCall (radio status window) = ⊥
 abbrev pub NoRadio : List Event → Type 0
 NoRadio [] = Unit {0}
 NoRadio (e ∷ es) = isCall e × NoRadio es
+
+-- ---- from a silence to the next radio message that names the channel: its calls, and what leaves it not reported
+abbrev pub isQuiet : Event → Type 0
+isQuiet (call c) = Unit {0}
+isQuiet (radio status window) = status ≡ Status.Absent
+
+abbrev pub Quiet : List Event → Type 0
+Quiet [] = Unit {0}
+Quiet (e ∷ es) = isQuiet e × Quiet es

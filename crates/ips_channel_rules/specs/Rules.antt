@@ -60,10 +60,18 @@ pub data Event : Type 0 where
   call : ChannelCall → Event
   radio : Status → Window → Event
 
+-- Document 02, §1: "a silence counts in the third demand as an event seen by all channels": "every channel becomes not reported and every flow-controlled one has no
+-- window. Packets stay waiting." That is what a radio message does that doesn't name the channel and has a Flow Window without a window for it.
+abbrev pub silence : Event
+silence = radio Status.Absent Window.Empty
+
 -- an event with the answer that was given to it; nobody answers for a channel's part of a radio message
 pub data Happened : Type 0 where
   called : (c : ChannelCall) → Answer (Says c) → Happened
   heard : Status → Window → Happened
+
+abbrev pub silent : Happened
+silent = heard Status.Absent Window.Empty
 
 -- ---- how a channel is configured, with its datalink and the longest packet that the endpoint takes
 pub record Terms : Type 0 where

@@ -20,7 +20,7 @@ use Rattle.ips_channel.specs.Channel.{heardOf}
 use Rattle.ips_state.specs.State.{State, channelAt, noChannel}
 use Rattle.ips_state.specs.Limits.{flowFits, channelFits, allFitUnder, allFit, ids, namesFit, stateFits, sizes}
 use Rattle.ips_state.specs.Memory.{startOf}
-use Rattle.ips_radio.specs.Heard.{statusIn, windowIn, keptInstance, heardFrom, heardBy}
+use Rattle.ips_radio.specs.Heard.{statusIn, windowIn, keptInstance, heardFrom, heardBy, silenced, silencedBy}
 use Rattle.ips_state.proofs.Channels.{getD-mapped, fitting, fitting-fits}
 use Rattle.ips_state.proofs.Places.{fit, fit-fits}
 
@@ -38,35 +38,47 @@ instance-kept : (before given : Instance) → instanceAllowed ends.Radio before 
 instance-kept before Instance.Absent e d = e
 instance-kept before (Instance.Given id n) e d = d
 
-module _ (message : Control) where
-  sizes-heard : (cs : List Channel) → sizes (map (heardFrom message) cs) ≡ sizes cs
-  unfolding sizes heardFrom heardOf
-  sizes-heard [] = refl
-  sizes-heard (c ∷ cs) = rw (sizes-heard cs)
+-- ---- every channel is told something by its Channel ID: a Channel Status and a Flow Window, or their absence
+module _ (status : ℕ → Status) (window : ℕ → Window) where
+  abbrev told : Channel → Channel
+  told c = heardOf c (status (c .setting .id)) (window (c .setting .id))
 
-  module _ (allowed : statusesAllowed ends.Radio (message .statuses) ≡ true) where
-    pub status-heard : (id : ℕ) → statusAllowed ends.Radio (statusIn message id) ≡ true
-    unfolding statusesAllowed
-    status-heard id =
-        each-place (statusesAllowed ends.Radio) (λ (cell : StatusCell). statusAllowed ends.Radio (cell .status)) noStatus (λ cell cells. refl) refl (message .statuses) allowed id
+  sizes-told : (cs : List Channel) → sizes (map told cs) ≡ sizes cs
+  unfolding sizes heardOf
+  sizes-told [] = refl
+  sizes-told (c ∷ cs) = rw (sizes-told cs)
 
-    fits-heard : (c : Channel) → channelFits c ≡ true → channelFits (heardFrom message c) ≡ true
-    unfolding heardFrom heardOf
-    fits-heard c fits =
+  starts-told : (index : ℕ) (cs : List Channel) → sizes (take index (map told cs)) ≡ sizes (take index cs)
+  starts-told index cs = rw (take-map told index cs) (sizes-told (take index cs))
+
+  ids-told : (cs : List Channel) → ids (map told cs) ≡ ids cs
+  unfolding ids heardOf
+  ids-told cs = rw map-map
+
+  module _ (allowed : (id : ℕ) → statusAllowed ends.Radio (status id) ≡ true) where
+    fits-told : (c : Channel) → channelFits c ≡ true → channelFits (told c) ≡ true
+    unfolding heardOf
+    fits-told c fits =
         let f = fitting c fits in
-        fitting-fits (heardFrom message c) (record {
+        fitting-fits (told c) (record {
           unreserved = f .unreserved;
           smallest = f .smallest;
           largest = f .largest;
-          status-allowed = status-heard (c .setting .id);
-          flow-fits = flow-heard (c .setting .controlled) (c .flow) (windowIn message (c .setting .id)) (f .flow-fits);
+          status-allowed = allowed (c .setting .id);
+          flow-fits = flow-heard (c .setting .controlled) (c .flow) (window (c .setting .id)) (f .flow-fits);
           well-formed = f .well-formed;
         })
 
-    all-heard : (cs : List Channel) → allFit cs ≡ true → allFit (map (heardFrom message) cs) ≡ true
+    all-told : (cs : List Channel) → allFit cs ≡ true → allFit (map told cs) ≡ true
     unfolding allFitUnder
-    all-heard [] fits = refl
-    all-heard (c ∷ cs) fits = let parts = and-eq-true-iff (channelFits c) (allFit cs) .0 fits in rw (fits-heard c (parts .0), all-heard cs (parts .1))
+    all-told [] fits = refl
+    all-told (c ∷ cs) fits = let parts = and-eq-true-iff (channelFits c) (allFit cs) .0 fits in rw (fits-told c (parts .0), all-told cs (parts .1))
+
+-- ---- a radio message
+pub status-heard : (message : Control) → statusesAllowed ends.Radio (message .statuses) ≡ true → (id : ℕ) → statusAllowed ends.Radio (statusIn message id) ≡ true
+unfolding statusesAllowed
+status-heard message allowed id =
+    each-place (statusesAllowed ends.Radio) (λ (cell : StatusCell). statusAllowed ends.Radio (cell .status)) noStatus (λ cell cells. refl) refl (message .statuses) allowed id
 
 module _ (message : Control) (s : State) where
   pub heard-count : length (heardBy message s .channels) ≡ length (s .channels)
@@ -74,21 +86,21 @@ module _ (message : Control) (s : State) where
   heard-count = length-map (s .channels) (heardFrom message)
 
   pub heard-ids : ids (heardBy message s .channels) ≡ ids (s .channels)
-  unfolding heardBy ids heardFrom heardOf
-  heard-ids = rw map-map
+  unfolding heardBy heardFrom
+  heard-ids = ids-told (statusIn message) (windowIn message) (s .channels)
 
   pub heard-sizes : sizes (heardBy message s .channels) ≡ sizes (s .channels)
-  unfolding heardBy
-  heard-sizes = sizes-heard message (s .channels)
+  unfolding heardBy heardFrom
+  heard-sizes = sizes-told (statusIn message) (windowIn message) (s .channels)
 
   pub heard-start : (index : ℕ) → startOf (heardBy message s) index ≡ startOf s index
-  unfolding startOf heardBy
-  heard-start index = rw (take-map (heardFrom message) index (s .channels)) (sizes-heard message (take index (s .channels)))
+  unfolding startOf heardBy heardFrom
+  heard-start index = starts-told (statusIn message) (windowIn message) index (s .channels)
 
   -- a state within the limits stays within them, where the message states what the radio may state
   pub heard-fits : stateFits s ≡ true → statusesAllowed ends.Radio (message .statuses) ≡ true → instanceAllowed ends.Radio (message .instance) ≡ true
       → contextAllowed ends.Radio (message .context) ≡ true → stateFits (heardBy message s) ≡ true
-  unfolding heardBy namesFit
+  unfolding heardBy heardFrom namesFit
   heard-fits fits statuses instance context =
       let f = fit s fits in
       let names = and-eq-true-iff (instanceAllowed ends.Radio (s .instance)) (contextAllowed ends.Radio (s .context)) .0 (f .names) in
@@ -96,7 +108,8 @@ module _ (message : Control) (s : State) where
         some = rw heard-count (f .some);
         few = rw heard-count (f .few);
         names = rw (instance-kept (s .instance) (message .instance) (names .0) instance, context);
-        each = all-heard message statuses (s .channels) (f .each);
+        waits = f .waits;
+        each = all-told (statusIn message) (windowIn message) (status-heard message statuses) (s .channels) (f .each);
         apart = rw heard-ids (f .apart);
         primary = rw heard-ids (f .primary);
       })
@@ -121,3 +134,40 @@ module _ (message : Control) (s : State) where
     pub heard-flow : channelAt s index .setting .controlled ≡ true → channelAt (heardBy message s) index .flow ≡ flowAfter (windowIn message (channelAt s index .setting .id))
     unfolding heardFrom heardOf
     heard-flow controlled = rw (heard-at, controlled)
+
+-- ---- a silence
+module _ (s : State) where
+  pub silenced-count : length (silencedBy s .channels) ≡ length (s .channels)
+  unfolding silencedBy
+  silenced-count = length-map (s .channels) silenced
+
+  silenced-ids : ids (silencedBy s .channels) ≡ ids (s .channels)
+  unfolding silencedBy silenced
+  silenced-ids = ids-told (λ id. Status.Absent) (λ id. Window.Empty) (s .channels)
+
+  pub silenced-sizes : sizes (silencedBy s .channels) ≡ sizes (s .channels)
+  unfolding silencedBy silenced
+  silenced-sizes = sizes-told (λ id. Status.Absent) (λ id. Window.Empty) (s .channels)
+
+  pub silenced-start : (index : ℕ) → startOf (silencedBy s) index ≡ startOf s index
+  unfolding startOf silencedBy silenced
+  silenced-start index = starts-told (λ id. Status.Absent) (λ id. Window.Empty) index (s .channels)
+
+  pub silenced-fits : stateFits s ≡ true → stateFits (silencedBy s) ≡ true
+  unfolding silencedBy silenced namesFit
+  silenced-fits fits =
+      let f = fit s fits in
+      fit-fits (silencedBy s) (record {
+        some = rw silenced-count (f .some);
+        few = rw silenced-count (f .few);
+        names = f .names;
+        waits = f .waits;
+        each = all-told (λ id. Status.Absent) (λ id. Window.Empty) (λ id. refl) (s .channels) (f .each);
+        apart = rw silenced-ids (f .apart);
+        primary = rw silenced-ids (f .primary);
+      })
+
+  module _ (index : ℕ) (inside : index < length (s .channels)) where
+    pub silenced-at : channelAt (silencedBy s) index ≡ silenced (channelAt s index)
+    unfolding channelAt silencedBy
+    silenced-at = getD-mapped silenced (s .channels) index noChannel noChannel inside

@@ -38,7 +38,15 @@ heardBy message s =
       channels = map (heardFrom message) (s .channels);
       instance = keptInstance (s .instance) (message .instance);
       context = message .context;
+      pacer = s .pacer;
     }
+
+-- Document 02, §1, a silence: "every channel becomes not reported and every flow-controlled one has no window. Packets stay waiting."
+unfoldable pub silenced : Channel → Channel
+silenced c = heardOf c Status.Absent Window.Empty
+
+unfoldable pub silencedBy : State → State
+silencedBy s = record { datalink = s .datalink; channels = map silenced (s .channels); instance = s .instance; context = s .context; pacer = s .pacer }
 
 -- By the Context of the accepted control message just before. Document 01: "A mobility message is reported due when a Context comes that differs from the last Context
 -- received (in length or bytes), or is the first."; document 02 §2: "also .. when the control message just before had no Context at all".

@@ -1,6 +1,6 @@
 -- 19 and 12 are given exactly when the paper says so; from 13 on the channel judges. A refusal "changes no state and no lent byte". Assumes nothing.
 use Prim.Native.Nat.{ℕ, _<_}
-use mathlib.Core.Bool.{Bool, true, false, cond, not, and-eq-true-iff}
+use mathlib.Core.Bool.{Bool, true, false, cond, not, and-false, and-eq-true-iff}
 use mathlib.Core.List.{List, [], _∷_}
 use mathlib.Core.Logic.{_↔_}
 use mathlib.Core.Path.{_≡_, refl, ap, ap₂, _∙_}
@@ -10,7 +10,7 @@ use Rattle.facts.proofs.Tests.{clash}
 use Rattle.quantity.specs.declared.count.DatalinkId.{DatalinkId}
 use Rattle.quantity.specs.Refusals.{NO-CHANNEL, OUTSIDE-LIMITS}
 use Rattle.meaning.specs.declared.message.End.the-variants as ends
-use Rattle.reader.specs.Readings.{Verdict, readControl, planeOf}
+use Rattle.reader.specs.Readings.{Verdict, readControl, readData, planeOf}
 use Rattle.reader.specs.declared.answer.PlaneAnswer.{PlaneAnswer}
 use Rattle.store.specs.Packets.{Packet}
 use Rattle.ips_channel_rules.specs.Rules.{ChannelCall, offer, next, withdraw, Taken, Tried, Emptied, Says, refused, Terms, Condition, Result, callAt}
@@ -19,13 +19,14 @@ use Rattle.ips_channel_rules.specs.Exactly.{Offered, offered-not-ipv6, offered-
 use Rattle.ips_channel_rules.proofs.Exact.{offered, asked, withdraw-is}
 use Rattle.ips_channel.specs.declared.state.Channel.{Channel}
 use Rattle.ips_channel_calls.specs.Calls.{channelAfter, storeAfter}
+use Rattle.pacer.specs.Pacing.{isEarlier}
 use Rattle.ips_state.specs.State.{State, channelAt}
 use Rattle.ips_state.specs.Limits.{ids, stateFits}
 use Rattle.ips_state.specs.Memory.{memoryFits, World, worldFits, isConfigured, indexIn, channelIn, storeIn}
 use Rattle.ips_state.proofs.Channels.{stands-among, ids-length, ids-at}
 use Rattle.ips_state.proofs.Places.{with-back, store-back, index-one}
 use Rattle.ips_run.specs.Calling.{termsIn, conditionIn, resultIn, WorldResult, refusing, atChannel, callingUnder, calling, Judged, outside, unknown, served}
-use Rattle.ips_run.specs.Run.{radio, ifAccepted, ifControl, acceptedIn, acceptedUnder, acceptedBy, afterUnder, after}
+use Rattle.ips_run.specs.Run.{radio, pace, Received, dropped, carried, stated, ifAccepted, byPlane, controlRead, dataRead, receivedIn, acceptedIn, inTime, acceptedUnder, acceptedBy, received, pacedBy, withState, afterUnder, after}
 
 -- the ID of a configured channel is among the IDs
 pub named : (w : World) (index id : ℕ) → index < length (w .state .channels) → channelIn w index .setting .id ≡ id → isConfigured w id ≡ true
@@ -131,48 +132,71 @@ module _ (id : ℕ) (c : ChannelCall) (w : World) where
   pub refused-world : (n : ℕ) → calling id c w .answer ≡ refused n → calling id c w .world ≡ w
   refused-world = world-same (judged id c w)
 
--- ---- a datagram from the radio is heard exactly when it is a control message that is accepted, and the state is within the limits
+-- ---- a datagram from the radio is heard exactly when it is a control message that is accepted, the state is within the limits and the time is not earlier
 module _ (datalink : DatalinkId) (datagram : List ℕ) where
   pub heard-when : planeOf datagram ≡ PlaneAnswer.Control → readControl ends.Radio datalink datagram .verdict ≡ Verdict.Accepted
-      → acceptedIn datalink datagram ≡ readControl ends.Radio datalink datagram .message ∷ []
-  unfolding acceptedIn
+      → receivedIn datalink datagram ≡ stated (readControl ends.Radio datalink datagram .message)
+  unfolding receivedIn
   heard-when plane verdict = rw (plane, verdict)
 
-  pub unheard-when : (planeOf datagram ≡ PlaneAnswer.Control → readControl ends.Radio datalink datagram .verdict ≡ Verdict.Accepted → ⊥) → acceptedIn datalink datagram ≡ []
-  unfolding acceptedIn
-  unheard-when never = by-plane (planeOf datagram) refl
+  pub carried-when : planeOf datagram ≡ PlaneAnswer.Data → readData ends.Radio datalink datagram .verdict ≡ Verdict.Accepted → receivedIn datalink datagram ≡ carried
+  unfolding receivedIn
+  carried-when plane verdict = rw (plane, verdict)
+
+  pub dropped-when : (planeOf datagram ≡ PlaneAnswer.Control → readControl ends.Radio datalink datagram .verdict ≡ Verdict.Accepted → ⊥)
+      → (planeOf datagram ≡ PlaneAnswer.Data → readData ends.Radio datalink datagram .verdict ≡ Verdict.Accepted → ⊥) → receivedIn datalink datagram ≡ dropped
+  unfolding receivedIn
+  dropped-when never neither = by-plane (planeOf datagram) refl
     where
-      by-verdict : planeOf datagram ≡ PlaneAnswer.Control → (v : Verdict) → readControl ends.Radio datalink datagram .verdict ≡ v
-          → ifAccepted v (readControl ends.Radio datalink datagram .message) ≡ []
-      by-verdict e Verdict.Accepted f = absurd (never e f)
-      by-verdict e Verdict.OtherPlane f = refl
-      by-verdict e (Verdict.Refused refusal) f = refl
+      by-verdict : (v : Verdict) (r : Received) → (v ≡ Verdict.Accepted → ⊥) → ifAccepted v r ≡ dropped
+      by-verdict Verdict.Accepted r f = absurd (f refl)
+      by-verdict Verdict.OtherPlane r f = refl
+      by-verdict (Verdict.Refused refusal) r f = refl
 
       by-plane : (p : PlaneAnswer) → planeOf datagram ≡ p
-          → ifControl p (ifAccepted (readControl ends.Radio datalink datagram .verdict) (readControl ends.Radio datalink datagram .message)) ≡ []
-      by-plane PlaneAnswer.Control e = by-verdict e _ refl
-      by-plane PlaneAnswer.Data e = refl
+          → byPlane p (controlRead (readControl ends.Radio datalink datagram)) (dataRead (readData ends.Radio datalink datagram)) ≡ dropped
+      by-plane PlaneAnswer.Control e = by-verdict _ _ (never e)
+      by-plane PlaneAnswer.Data e = by-verdict _ _ (neither e)
       by-plane (PlaneAnswer.Refused refusal) e = refl
 
-module _ (w : World) (datagram : List ℕ) where
-  pub accepted-fits : stateFits (w .state) ≡ true → acceptedBy (radio datagram) w ≡ acceptedIn (w .state .datalink) datagram
+module _ (w : World) (time : ℕ) (datagram : List ℕ) where
+  pub accepted-in-time : inTime time (w .state) ≡ true → acceptedBy (radio time datagram) w ≡ acceptedIn (w .state .datalink) datagram
   unfolding acceptedUnder
-  accepted-fits e = rw e
+  accepted-in-time e = rw e
 
-  pub accepted-outside : stateFits (w .state) ≡ false → acceptedBy (radio datagram) w ≡ []
+  pub accepted-late : inTime time (w .state) ≡ false → acceptedBy (radio time datagram) w ≡ []
   unfolding acceptedUnder
-  accepted-outside e = rw e
+  accepted-late e = rw e
 
-  pub unaccepted-same : acceptedBy (radio datagram) w ≡ [] → after (radio datagram) w ≡ w
+  pub received-in-time : inTime time (w .state) ≡ true → after (radio time datagram) w ≡ withState w (received time (receivedIn (w .state .datalink) datagram) (w .state))
   unfolding afterUnder
-  unaccepted-same e = rw e
+  received-in-time e = rw e
 
-  pub outside-same : stateFits (w .state) ≡ false → after (radio datagram) w ≡ w
-  outside-same e = unaccepted-same (accepted-outside e)
+  -- 19 and 21 leave the world
+  pub late-same : inTime time (w .state) ≡ false → after (radio time datagram) w ≡ w
+  unfolding afterUnder
+  late-same e = rw e
 
-  pub unread-same : (planeOf datagram ≡ PlaneAnswer.Control → readControl ends.Radio (w .state .datalink) datagram .verdict ≡ Verdict.Accepted → ⊥) → after (radio datagram) w ≡ w
-  unread-same never = go (stateFits (w .state)) refl
+  pub outside-same : stateFits (w .state) ≡ false → after (radio time datagram) w ≡ w
+  outside-same e = late-same (rw e)
+
+  pub earlier-same : isEarlier time (w .state .pacer) ≡ true → after (radio time datagram) w ≡ w
+  earlier-same e = late-same (rw (e, and-false (stateFits (w .state))))
+
+  -- so does what reading refuses
+  pub dropped-same : receivedIn (w .state .datalink) datagram ≡ dropped → after (radio time datagram) w ≡ w
+  unfolding afterUnder
+  dropped-same e = rw e (go (inTime time (w .state)))
     where
-      go : (b : Bool) → stateFits (w .state) ≡ b → after (radio datagram) w ≡ w
-      go true f = unaccepted-same (accepted-fits f ∙ unheard-when (w .state .datalink) datagram never)
-      go false f = outside-same f
+      go : (b : Bool) → cond b w w ≡ w
+      go true = refl
+      go false = refl
+
+module _ (w : World) (time : ℕ) where
+  pub paced-in-time : inTime time (w .state) ≡ true → after (pace time) w ≡ withState w (pacedBy time (w .state))
+  unfolding afterUnder
+  paced-in-time e = rw e
+
+  pub pace-late : inTime time (w .state) ≡ false → after (pace time) w ≡ w
+  unfolding afterUnder
+  pace-late e = rw e

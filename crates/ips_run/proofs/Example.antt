@@ -7,7 +7,7 @@ use native.Mathlib.Omega.{arith}
 use Rattle.ips_channel_rules.specs.Rules.{history}
 use Rattle.ips_channel_rules.specs.Simple.{simple}
 use Rattle.ips_state.specs.State.{ChannelStart, Configuration, startAt}
-use Rattle.ips_state.specs.Limits.{distinct, startsFit, startIds, configurationFitsUnder, configurationFits}
+use Rattle.ips_state.specs.Limits.{distinct, startsFit, startIds, configurationFitsUnder, configurationTaken}
 use Rattle.ips_run.specs.Run.{Call}
 use Rattle.ips_run.specs.Demand.{BytesIn, ruled, seen, happened, simplyAt}
 use Rattle.ips_run.proofs.Whole.{whole-history}
@@ -16,9 +16,9 @@ abbrev start : ℕ → ChannelStart
 start id = record { setting = record { id = id; controlled = true; size = record { 0 = 4096 } }; first = record { 0 = 4294967295 } }
 
 abbrev two : Configuration
-two = record { datalink = record { 0 = 1 }; starts = start 7 ∷ start 0 ∷ [] }
+two = record { datalink = record { 0 = 1 }; hello = 5000; limit = 9000; starts = start 7 ∷ start 0 ∷ [] }
 
-two-fit : configurationFits two ≡ true
+two-fit : configurationTaken two ≡ true
 unfolding configurationFitsUnder startsFit startIds distinct
 two-fit = refl
 

@@ -14,7 +14,7 @@ use Rattle.ips_channel_rules.specs.Machine.{freshMachine}
 use Rattle.ips_channel.specs.Channel.{termsOf, freshChannel}
 use Rattle.ips_channel_calls.proofs.Again.{fresh-condition}
 use Rattle.ips_state.specs.State.{ChannelStart, Configuration, channelAt, startAt, freshOf, freshState}
-use Rattle.ips_state.specs.Limits.{sizes, stateFits, configurationFits}
+use Rattle.ips_state.specs.Limits.{sizes, stateFits, configurationTaken}
 use Rattle.ips_state.specs.Memory.{memoryFits, startOf, storeAt}
 use Rattle.ips_state.proofs.Places.{fresh-count, fresh-fits, fresh-at, store-room}
 use Rattle.ips_run.specs.Run.{freshWorld}
@@ -43,7 +43,7 @@ fresh-ruled : (datalink : DatalinkId) (x : ChannelStart) (store : List ℕ) → 
 unfolding freshChannel
 fresh-ruled datalink x store e = record { terms = refl; condition = fresh-condition (x .setting) (x .first) store; tidy = fresh-tidy x store e }
 
-module _ (k : Configuration) (fits : configurationFits k ≡ true) where
+module _ (k : Configuration) (fits : configurationTaken k ≡ true) where
   abbrev begun : stateFits (freshState k) ≡ true
   begun = fresh-fits k ∙ fits
 

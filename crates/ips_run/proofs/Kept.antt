@@ -1,9 +1,9 @@
 -- Over a whole run the state keeps the Context of the accepted radio control message just before, and the last Link Instance given. Assumes nothing.
 use Prim.Native.Nat.{ℕ}
-use mathlib.Core.Bool.{Bool, true, false, not, _&&_, and-false}
+use mathlib.Core.Bool.{Bool, true, false, cond, not, _&&_, and-false}
 use mathlib.Core.List.{List, [], _∷_, _++_, append-assoc, append-nil}
 use mathlib.Core.Logic.{_↔_}
-use mathlib.Core.Path.{_≡_, refl, sym, _∙_}
+use mathlib.Core.Path.{_≡_, refl, sym, ap, _∙_}
 use borrow.Author.Tests.{eqb-false, ne-eqb}
 use lib.Dec.{eqb}
 use Rattle.facts.proofs.Tests.{clash}
@@ -12,16 +12,18 @@ use Rattle.meaning.specs.declared.message.Context.{Context}
 use Rattle.meaning.specs.declared.message.Control.{Control}
 use Rattle.ips_channel_rules.specs.Rules.{ChannelCall, Says}
 use Rattle.ips_channel.specs.declared.state.Channel.{Channel}
-use Rattle.ips_state.specs.State.{Configuration, State, withChannel, freshState}
-use Rattle.ips_radio.specs.Heard.{keptInstance, heardBy, dueOf}
+use Rattle.pacer.specs.declared.Pacer.{Pacer}
+use Rattle.pacer.specs.Pacing.{isSilent}
+use Rattle.ips_state.specs.State.{Configuration, State, withChannel, withPacer, freshState}
+use Rattle.ips_radio.specs.Heard.{keptInstance, heardBy, silencedBy, dueOf}
 use Rattle.ips_state.specs.Memory.{World}
 use Rattle.ips_run.specs.Calling.{WorldResult, Judged, outside, unknown, served}
-use Rattle.ips_run.specs.Run.{Call, on, radio, query, acceptedUnder, acceptedBy, hearEach, afterUnder, after, afterAll, acceptedAll, freshWorld}
+use Rattle.ips_run.specs.Run.{Call, on, radio, pace, query, Received, dropped, carried, stated, receivedIn, messagesIn, acceptedIn, inTime, acceptedUnder, acceptedBy, received, pacedBy, withState, afterUnder, after, afterAll, acceptedAll, freshWorld}
 use Rattle.ips_run.specs.Demand.{reached}
 use Rattle.ips_run.specs.Kept.{givenIn, lastOr, ifInstance, lastInstance, contextBefore, ifContext, lastContext, Comes, is-first, in-length, in-bytes, MobilityDue, first-or-differs, after-gap}
 use Rattle.ips_run.proofs.Exact.{judged}
 
-last-append : {A : Type 0} (none : A) (xs ys : List A) → lastOr none (xs ++ ys) ≡ lastOr (lastOr none xs) ys
+pub last-append : {A : Type 0} (none : A) (xs ys : List A) → lastOr none (xs ++ ys) ≡ lastOr (lastOr none xs) ys
 last-append none [] ys = refl
 last-append none (x ∷ xs) ys = last-append x xs ys
 
@@ -31,20 +33,36 @@ given-append gives (m ∷ ms) ns = rw (given-append gives ms ns) (sym (append-as
 
 -- any part of the state that messages give and no other call changes
 module _ {A : Type 0} (part : State → A) (gives : Control → List A) (hears : (m : Control) (s : State) → part (heardBy m s) ≡ lastOr (part s) (gives m))
-    (stays : (s : State) (index : ℕ) (c : Channel) → part (withChannel s index c) ≡ part s) where
+    (stays : (s : State) (index : ℕ) (c : Channel) → part (withChannel s index c) ≡ part s)
+    (paced : (s : State) (p : Pacer) → part (withPacer s p) ≡ part s) (silent : (s : State) → part (silencedBy s) ≡ part s) where
   kept-called : (id : ℕ) (c : ChannelCall) (w : World) {r : WorldResult (Says c)} → Judged id c w r → part (r .world .state) ≡ part (w .state)
   kept-called id c w (outside f) = refl
   kept-called id c w (unknown f g) = refl
   kept-called id c w (served f g) = stays (w .state) _ _
 
-  kept-heard : (ms : List Control) (s : State) → part (hearEach ms s) ≡ lastOr (part s) (givenIn gives ms)
-  kept-heard [] s = refl
-  kept-heard (m ∷ ms) s = kept-heard ms (heardBy m s) ∙ rw (hears m s) (sym (last-append (part s) (gives m) (givenIn gives ms)))
+  kept-received : (time : ℕ) (r : Received) (s : State) → part (received time r s) ≡ lastOr (part s) (givenIn gives (messagesIn r))
+  kept-received time dropped s = refl
+  kept-received time carried s = paced s _
+  kept-received time (stated m) s = paced _ _ ∙ hears m s ∙ ap (lastOr (part s)) (sym (append-nil (gives m)))
+
+  kept-silent : (silent-now : Bool) (s : State) → part (cond silent-now (silencedBy s) s) ≡ part s
+  kept-silent false s = refl
+  kept-silent true s = silent s
 
   kept-after : (c : Call) (w : World) → part (after c w .state) ≡ lastOr (part (w .state)) (givenIn gives (acceptedBy c w))
-  unfolding afterUnder acceptedUnder
+  unfolding afterUnder acceptedUnder acceptedIn pacedBy
   kept-after (on id c) w = kept-called id c w (judged id c w)
-  kept-after (radio datagram) w = kept-heard (acceptedBy (radio datagram) w) (w .state)
+  kept-after (radio time datagram) w = go (inTime time (w .state))
+    where
+      go : (t : Bool) → part (cond t (withState w (received time (receivedIn (w .state .datalink) datagram) (w .state))) w .state)
+          ≡ lastOr (part (w .state)) (givenIn gives (cond t (acceptedIn (w .state .datalink) datagram) []))
+      go true = kept-received time (receivedIn (w .state .datalink) datagram) (w .state)
+      go false = refl
+  kept-after (pace time) w = go (inTime time (w .state))
+    where
+      go : (t : Bool) → part (cond t (withState w (pacedBy time (w .state))) w .state) ≡ part (w .state)
+      go true = paced _ _ ∙ kept-silent (isSilent time (w .state .pacer)) (w .state)
+      go false = refl
   kept-after (query out) w = refl
 
   kept-all : (cs : List Call) (w : World) → part (afterAll cs w .state) ≡ lastOr (part (w .state)) (givenIn gives (acceptedAll cs w))
@@ -60,18 +78,18 @@ instance-last before Instance.Absent = refl
 instance-last before (Instance.Given id length) = refl
 
 context-all : (cs : List Call) (w : World) → afterAll cs w .state .context ≡ lastOr (w .state .context) (givenIn (λ m. m .context ∷ []) (acceptedAll cs w))
-unfolding heardBy withChannel
-context-all = kept-all (λ s. s .context) (λ m. m .context ∷ []) (λ m s. refl) (λ s index c. refl)
+unfolding heardBy withChannel withPacer silencedBy
+context-all = kept-all (λ s. s .context) (λ m. m .context ∷ []) (λ m s. refl) (λ s index c. refl) (λ s p. refl) (λ s. refl)
 
--- calls that accept no control message leave the kept Context; radio data messages and refused datagrams are such (`unheard-when`)
+-- calls that accept no control message leave the kept Context; radio data messages, refused datagrams and a pacer that is asked are such
 pub no-gap : (cs : List Call) (w : World) → acceptedAll cs w ≡ [] → afterAll cs w .state .context ≡ w .state .context
 no-gap cs w none = context-all cs w ∙ rw none
 
 module _ (k : Configuration) (cs : List Call) where
   -- "Link Instance is kept when given."
   pub whole-instance : reached k cs .state .instance ≡ lastInstance (acceptedAll cs (freshWorld k))
-  unfolding heardBy withChannel freshWorld freshState
-  whole-instance = kept-all (λ s. s .instance) (λ m. ifInstance (m .instance)) (λ m s. instance-last (s .instance) (m .instance)) (λ s index c. refl) cs (freshWorld k)
+  unfolding heardBy withChannel withPacer silencedBy freshWorld freshState
+  whole-instance = kept-all (λ s. s .instance) (λ m. ifInstance (m .instance)) (λ m s. instance-last (s .instance) (m .instance)) (λ s index c. refl) (λ s p. refl) (λ s. refl) cs (freshWorld k)
 
   -- the Context of the accepted control message just before: none, if it had none, or if there was no message
   pub whole-context : reached k cs .state .context ≡ contextBefore (acceptedAll cs (freshWorld k))

@@ -8,5 +8,6 @@ pub mod Datagrams
 pub mod Fresh
 pub mod Whole
 pub mod Kept
+pub mod Times
 pub mod Settling
 pub mod Example

@@ -1,26 +1,28 @@
 -- Each channel's run is the projection of the whole run: what it leaves, and every answer, is what the rules of its life give on what it sees. Assumes nothing.
 use Prim.Native.Nat.{ℕ, _<_}
-use mathlib.Core.Bool.{Bool, true, false, cond}
+use mathlib.Core.Bool.{Bool, true, false, cond, not, _&&_}
 use mathlib.Core.List.{List, [], _∷_, _++_, map}
 use mathlib.Core.Path.{_≡_, refl, sym, ap, _∙_}
 use native.Mathlib.Omega.{arith}
 use borrow.Author.Tests.{eqb-true, eqb-false}
 use lib.Dec.{eqb}
 use Rattle.facts.proofs.Tests.{clash}
-use Rattle.quantity.specs.declared.count.DatalinkId.{DatalinkId}
-use Rattle.meaning.specs.declared.message.Control.{Control}
 use Rattle.ips_channel_rules.specs.Rules as rules
-use Rattle.ips_channel_rules.specs.Rules.{ChannelCall, Says, Event, Happened, Terms, Condition, happens, history, final}
+use Rattle.ips_channel_rules.specs.Rules.{ChannelCall, Says, Event, Happened, Terms, Condition, step, happens, history, final}
 use Rattle.ips_channel_rules.specs.Machine.{machine}
 use Rattle.ips_channel_rules.proofs.Leaves.{final-append}
-use Rattle.ips_state.specs.Memory.{World, worldFits, isConfigured, indexIn, channelIn}
-use Rattle.ips_state.proofs.Places.{found, index-one}
+use Rattle.pacer.specs.Pacing.{pacerFits, isEarlier, isSilent, asked, heardAt, movedTo}
+use Rattle.ips_state.specs.State.{channelAt, withPacer}
+use Rattle.ips_state.specs.Memory.{startOf, storeAt, World, worldFits, isConfigured, indexIn, channelIn}
+use Rattle.ips_state.proofs.Places.{fit, found, index-one}
+use Rattle.ips_radio.specs.Heard.{heardBy, silencedBy}
 use Rattle.ips_run.specs.Calling.{termsIn, WorldResult, calling, Judged, outside, unknown, served}
-use Rattle.ips_run.specs.Run.{Call, on, radio, query, ifOwn, partOf, partHeard, acceptedIn, acceptedBy, hearEach, afterUnder, after, afterAll, sees, seesAll, happensTo, happensAll}
+use Rattle.ips_run.specs.Run.{Call, on, radio, pace, query, Received, dropped, carried, stated, receivedIn, messagesIn, acceptedIn, inTime, acceptedUnder, acceptedBy, silentUnder, received, pacedBy, withState, afterUnder, after, afterAll, ifOwn, ifSilent, partOf, partHeard, sees, seesAll, happensTo, happensAll}
+use Rattle.ips_run.specs.Datagrams.{acceptedWithin}
 use Rattle.ips_run.specs.Demand.{bytesIn, BytesIn, RuledIn, Follows, Untouched}
-use Rattle.ips_run.proofs.Exact.{serves-at, judged, accepted-fits}
+use Rattle.ips_run.proofs.Exact.{serves-at, judged}
 use Rattle.ips_run.proofs.Serving.{here, served-order, ruled-same, at-other, store-other, ruled-other}
-use Rattle.ips_run.proofs.Hearing.{Brings, nothing, message, brings, heard-order, ruled-heard}
+use Rattle.ips_run.proofs.Hearing.{Brings, nothing, packet, message, brings, heard-order, ruled-heard, silenced-order, ruled-silenced, paced-ruled}
 
 pub history-append : (k : Terms) (es fs : List Event) (st : Condition machine) → history machine k (es ++ fs) st ≡ history machine k es st ++ history machine k fs (final machine k es st)
 history-append k [] fs st = refl
@@ -33,10 +35,6 @@ unseen-other own id e none same = go (eqb own id) refl none
     go : (b : Bool) → eqb own id ≡ b → cond b (e ∷ []) [] ≡ [] → ⊥
     go true t h = clash (cc)
     go false t h = eqb-false own id t same
-
-unseen-unaccepted : (own : ℕ) (messages : List Control) → map (partOf own) messages ≡ [] → messages ≡ []
-unseen-unaccepted own [] e = refl
-unseen-unaccepted own (m ∷ messages) e = clash (cc)
 
 module _ (k : Terms) (count index : ℕ) (inside : index < count) (w : World) (st : Condition machine) (p : RuledIn k count index w st) where
   abbrev fits : worldFits w ≡ true
@@ -105,31 +103,92 @@ module _ (k : Terms) (count index : ℕ) (inside : index < count) (w : World) (s
         go true t = own-call (eqb-true _ _ t)
         go false t = other-call (eqb-false _ _ t) (judged id c w)
 
-  -- ---- a radio message
-  heard-by : {ms : List Control} → Brings ms
-      → Follows k count index (record { state = hearEach ms (w .state); memory = w .memory }) (map (partHeard (k .id)) ms) (map (partOf (k .id)) ms) st
-  heard-by nothing = unmoved
-  heard-by (message m allowed) = record {
-    ruled-in = record { order = heard-order count w (p .order) m allowed; as-ruled = ruled-heard count w (p .order) m index inside k st (p .as-ruled) };
-    history-is = refl;
-  }
+  pub waits-here : pacerFits (w .state .pacer) ≡ true
+  waits-here = fit (w .state) (p .order .state-fits) .waits
 
-  -- a radio message is accepted by its bytes alone here: the world is within the limits
-  pub accepted-here : (datagram : List ℕ) → acceptedBy (radio datagram) w ≡ acceptedIn (k .datalink) datagram
-  accepted-here datagram = accepted-fits w datagram (p .order .state-fits) ∙ ap (λ (d : DatalinkId). acceptedIn d datagram) own-datalink
+  -- ---- a radio message: heard by the channel, and the pacer moves
+  abbrev heard-follows : (time : ℕ) → Received → Type 0
+  heard-follows time r =
+      Follows k count index (withState w (received time r (w .state))) (map (partHeard (k .id)) (messagesIn r)) (map (partOf (k .id)) (messagesIn r)) st
+
+  received-follows : (time : ℕ) {r : Received} → Brings r → heard-follows time r
+  unfolding movedTo heardAt
+  received-follows time nothing = unmoved
+  received-follows time packet = record { ruled-in = paced-ruled k count index w st p (movedTo time (w .state .pacer)) waits-here; history-is = refl }
+  received-follows time (message m allowed) =
+      let heard-in : RuledIn k count index (withState w (heardBy m (w .state))) (step machine k (partOf (k .id) m) st) =
+      record { order = heard-order count w (p .order) m allowed; as-ruled = ruled-heard count w (p .order) m index inside k st (p .as-ruled) } in
+      record {
+        ruled-in = paced-ruled k count index (withState w (heardBy m (w .state))) _ heard-in (heardAt time (w .state .pacer)) waits-here;
+        history-is = refl;
+      }
+
+  -- ---- the pacer is asked: a silence is seen by the channel
+  paced-follows : (time : ℕ) (silent : Bool)
+      → Follows k count index (withState w (withPacer (cond silent (silencedBy (w .state)) (w .state)) (asked time (w .state .pacer)))) (ifSilent silent rules.silent) (ifSilent silent rules.silence) st
+  unfolding asked
+  paced-follows time false = record { ruled-in = paced-ruled k count index w st p (asked time (w .state .pacer)) waits-here; history-is = refl }
+  paced-follows time true =
+      let silent-in : RuledIn k count index (withState w (silencedBy (w .state))) (step machine k rules.silence st) =
+      record { order = silenced-order count w (p .order); as-ruled = ruled-silenced count w (p .order) index inside k st (p .as-ruled) } in
+      record {
+        ruled-in = paced-ruled k count index (withState w (silencedBy (w .state))) _ silent-in (asked time (w .state .pacer)) waits-here;
+        history-is = refl;
+      }
+
+  -- 19 refuses no call here: what is accepted, and whether it is silent, goes by the datagram's bytes and by the pacer
+  pub in-time-here : (time : ℕ) → inTime time (w .state) ≡ not (isEarlier time (w .state .pacer))
+  in-time-here time = rw (p .order .state-fits)
+
+  pub accepted-here : (time : ℕ) (datagram : List ℕ) → acceptedBy (radio time datagram) w ≡ acceptedWithin (k .datalink) (w .state .pacer) (radio time datagram)
+  unfolding acceptedUnder
+  accepted-here time datagram = rw (p .order .state-fits, own-datalink)
 
   -- ONE CALL
   pub step-follows : (c : Call) → bytesIn c → Follows k count index (after c w) (happensTo (k .id) c w) (sees (k .id) c w) st
-  unfolding afterUnder
+  unfolding afterUnder acceptedUnder silentUnder acceptedIn pacedBy
   step-follows (on id c) b = any-call id c
-  step-follows (radio datagram) b = rw (accepted-here datagram) (heard-by (brings (k .datalink) datagram b))
+  step-follows (radio time datagram) b = go (inTime time (w .state))
+    where
+      go : (t : Bool) → Follows k count index (cond t (withState w (received time (receivedIn (w .state .datalink) datagram) (w .state))) w)
+          (map (partHeard (k .id)) (cond t (acceptedIn (w .state .datalink) datagram) [])) (map (partOf (k .id)) (cond t (acceptedIn (w .state .datalink) datagram) [])) st
+      go true = received-follows time (brings (w .state .datalink) datagram b)
+      go false = unmoved
+  step-follows (pace time) b = go (inTime time (w .state))
+    where
+      go : (t : Bool) → Follows k count index (cond t (withState w (pacedBy time (w .state))) w)
+          (ifSilent (t && isSilent time (w .state .pacer)) rules.silent) (ifSilent (t && isSilent time (w .state .pacer)) rules.silence) st
+      go true = paced-follows time (isSilent time (w .state .pacer))
+      go false = unmoved
   step-follows (query out) b = unmoved
 
-  -- what the channel doesn't see (a call on another, a radio message that is not accepted, a query) changes no byte of it
+  -- what the channel doesn't see (a call on another, a radio message that is not accepted, a pacer that is asked in no silence, a query) changes no byte of it
+  untouched-received : (time : ℕ) (r : Received) → map (partOf (k .id)) (messagesIn r) ≡ [] → Untouched index w (withState w (received time r (w .state)))
+  unfolding withPacer channelAt storeAt startOf
+  untouched-received time dropped unseen = record { channel = refl; store = refl }
+  untouched-received time carried unseen = record { channel = refl; store = refl }
+  untouched-received time (stated m) unseen = clash (cc)
+
+  untouched-paced : (time : ℕ) (silent : Bool) → ifSilent silent rules.silence ≡ []
+      → Untouched index w (withState w (withPacer (cond silent (silencedBy (w .state)) (w .state)) (asked time (w .state .pacer))))
+  unfolding withPacer channelAt storeAt startOf
+  untouched-paced time false unseen = record { channel = refl; store = refl }
+  untouched-paced time true unseen = clash (cc)
+
   pub untouched : (c : Call) → sees (k .id) c w ≡ [] → Untouched index w (after c w)
-  unfolding afterUnder
+  unfolding afterUnder acceptedUnder silentUnder acceptedIn pacedBy
   untouched (on id c) unseen = call-untouched id c (unseen-other (k .id) id (rules.call c) unseen)
-  untouched (radio datagram) unseen = rw (unseen-unaccepted (k .id) (acceptedBy (radio datagram) w) unseen) (record { channel = refl; store = refl })
+  untouched (radio time datagram) unseen = go (inTime time (w .state)) unseen
+    where
+      go : (t : Bool) → map (partOf (k .id)) (cond t (acceptedIn (w .state .datalink) datagram) []) ≡ []
+          → Untouched index w (cond t (withState w (received time (receivedIn (w .state .datalink) datagram) (w .state))) w)
+      go true none = untouched-received time (receivedIn (w .state .datalink) datagram) none
+      go false none = record { channel = refl; store = refl }
+  untouched (pace time) unseen = go (inTime time (w .state)) unseen
+    where
+      go : (t : Bool) → ifSilent (t && isSilent time (w .state .pacer)) rules.silence ≡ [] → Untouched index w (cond t (withState w (pacedBy time (w .state))) w)
+      go true none = untouched-paced time (isSilent time (w .state .pacer)) none
+      go false none = record { channel = refl; store = refl }
   untouched (query out) unseen = record { channel = refl; store = refl }
 
 -- ANY CALLS

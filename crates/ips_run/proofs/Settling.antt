@@ -10,7 +10,7 @@ use Rattle.ips_channel_rules.proofs.Leaves.{final-append}
 use Rattle.ips_channel_rules.proofs.Fates.{settled-by}
 use Rattle.ips_channel_rules.proofs.Agree.{agrees-history, same-end}
 use Rattle.ips_state.specs.State.{Configuration, startAt}
-use Rattle.ips_state.specs.Limits.{configurationFits}
+use Rattle.ips_state.specs.Limits.{configurationTaken}
 use Rattle.ips_run.specs.Run.{Call, freshWorld}
 use Rattle.ips_run.specs.Demand.{BytesIn, idAt, reached, ruled, seen, seenSince, happenedSince, freshAt, simplyAt}
 use Rattle.ips_run.specs.Settling.{ledgerAt, SettledAll, nothing, first}
@@ -23,7 +23,7 @@ settled-all : (k : Terms) (es : List Event) (st : Condition simple) → SettledA
 settled-all k [] st = nothing
 settled-all k (e ∷ es) st = first (settled-by k e st) (settled-all k es _)
 
-module _ (k : Configuration) (fits : configurationFits k ≡ true) (index : ℕ) (inside : index < length (k .starts))
+module _ (k : Configuration) (fits : configurationTaken k ≡ true) (index : ℕ) (inside : index < length (k .starts))
     (small : startAt k index .first .0 < 2 ^ 32) where
   ledger-on : (cs ds : List Call) → ledgerAt k index (cs ++ ds) ≡ final simple (ruled k index) (seenSince k index cs ds) (final simple (ruled k index) (seen k index cs) (simplyAt k index)) .keeping
   ledger-on cs ds =

@@ -1,6 +1,6 @@
 -- Demand 3, for any sequence of calls: what a world is that calls reached, and what one channel of it is.
 use Prim.Native.Nat.{ℕ, _<_}
-use mathlib.Core.Bool.{true}
+use mathlib.Core.Bool.{true, false}
 use mathlib.Core.List.{List, [], _∷_}
 use mathlib.Core.Path.{_≡_}
 use lib.ListN.{length}
@@ -16,12 +16,13 @@ use Rattle.ips_state.specs.State.{Configuration, startAt}
 use Rattle.ips_state.specs.Limits.{stateFits}
 use Rattle.ips_state.specs.Memory.{memoryFits, World, channelIn, storeIn}
 use Rattle.ips_run.specs.Calling.{termsIn}
-use Rattle.ips_run.specs.Run.{Call, on, radio, query, freshWorld, afterAll, seesAll, happensAll}
+use Rattle.ips_run.specs.Run.{Call, on, radio, pace, query, freshWorld, afterAll, acceptedAll, silentAll, seesAll, happensAll}
 
 -- ---- what is called: a datagram is made of bytes
 abbrev pub bytesIn : Call → Type 0
 bytesIn (on id c) = Unit {0}
-bytesIn (radio datagram) = Octets datagram
+bytesIn (radio time datagram) = Octets datagram
+bytesIn (pace time) = Unit {0}
 bytesIn (query out) = Unit {0}
 
 abbrev pub BytesIn : List Call → Type 0
@@ -58,6 +59,11 @@ seenSince k index cs ds = seesAll (idAt k index) ds (reached k cs)
 
 abbrev pub happenedSince : Configuration → ℕ → (cs ds : List Call) → List Happened
 happenedSince k index cs ds = happensAll (idAt k index) ds (reached k cs)
+
+-- ---- calls from a world among which no radio control message is accepted, and no silence is
+pub record NoNews (cs : List Call) (w : World) : Type 0 where
+  pub unheard : acceptedAll cs w ≡ []
+  pub unsilenced : silentAll cs w ≡ false
 
 -- ---- a world that 19 does not refuse
 pub record InOrder (count : ℕ) (w : World) : Type 0 where

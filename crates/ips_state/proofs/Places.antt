@@ -1,6 +1,6 @@
 -- Where a channel and its store stand in a state, and what a change of one leaves as it was: for the crates above. Assumes nothing.
 use Prim.Native.Nat.{ℕ, zero, suc, _+_, _-_, _≤_, _<_}
-use mathlib.Core.Bool.{Bool, true, false, and-true, and-eq-true-iff}
+use mathlib.Core.Bool.{Bool, true, false, _&&_, and-true, and-false, and-eq-true-iff}
 use mathlib.Core.List.{List, [], _∷_, _++_, map, append-assoc}
 use mathlib.Core.Logic.{_⊎_, inl, inr, ⊎-elim}
 use mathlib.Core.Path.{_≡_, refl, sym, ap, _∙_}
@@ -18,8 +18,10 @@ use Rattle.store.specs.Waiting.{waiting, total, listed, queueOf, allWithinUnder
 use Rattle.flow.specs.Counting.{firstFlow}
 use Rattle.ips_channel.specs.declared.state.Channel.{Channel}
 use Rattle.ips_channel.specs.Channel.{freshChannel}
-use Rattle.ips_state.specs.State.{ChannelStart, Configuration, State, noStart, noChannel, channelAt, withChannel, freshOf, freshState, blankState}
-use Rattle.ips_state.specs.Limits.{flowFits, channelFitsUnder, channelFits, allFitUnder, allFit, ids, distinct, channelsFitUnder, countFits, namesFit, stateFitsUnder, stateFits, settingFits, startsFit, startIds, configurationFitsUnder, configurationFits, sizes, indexOf}
+use Rattle.pacer.specs.declared.Pacer.{Pacer}
+use Rattle.pacer.specs.Pacing.{pacerFits}
+use Rattle.ips_state.specs.State.{ChannelStart, Configuration, State, noStart, noChannel, channelAt, withChannel, withPacer, freshOf, freshState, blankState}
+use Rattle.ips_state.specs.Limits.{flowFits, channelFitsUnder, channelFits, allFitUnder, allFit, ids, distinct, channelsFitUnder, countFits, namesFit, headFits, stateFitsUnder, stateFits, settingFits, startsFit, startIds, configurationFitsUnder, configurationFits, waitsFit, configurationTaken, sizes, indexOf}
 use Rattle.ips_state.specs.Memory.{memoryFits, startOf, storeAt, withStore}
 use Rattle.ips_state.proofs.Channels.{getD-mapped, index-none, index-stands, distinct-index, all-at, all-set, ids-length, ids-at, ids-set, sizes-room, sizes-set, sizes-all, ChannelFit, fitting}
 
@@ -46,23 +48,32 @@ pub record StateFit (s : State) : Type 0 where
   pub some : FEWEST-CHANNELS ≤ length (s .channels)
   pub few : length (s .channels) ≤ MOST-CHANNELS
   pub names : namesFit s ≡ true
+  pub waits : pacerFits (s .pacer) ≡ true
   pub each : allFit (s .channels) ≡ true
   pub apart : distinct (ids (s .channels)) ≡ true
   pub primary : among 0 (ids (s .channels)) ≡ true
 
 pub fit : (s : State) → stateFits s ≡ true → StateFit s
-unfolding stateFitsUnder channelsFitUnder
+unfolding stateFitsUnder headFits channelsFitUnder
 fit s e =
     let a = and-eq-true-iff (countFits (length (s .channels))) _ .0 e in
     let b = and-eq-true-iff (leb FEWEST-CHANNELS (length (s .channels))) _ .0 (a .0) in
-    let d = and-eq-true-iff (namesFit s) _ .0 (a .1) in
+    let d = and-eq-true-iff (headFits s) _ .0 (a .1) in
+    let h = and-eq-true-iff (namesFit s) _ .0 (d .0) in
     let f = and-eq-true-iff (allFit (s .channels)) _ .0 (d .1) in
     let g = and-eq-true-iff (distinct (ids (s .channels))) _ .0 (f .1) in
-    record { some = leb-true _ _ (b .0); few = leb-true _ _ (b .1); names = d .0; each = f .0; apart = g .0; primary = g .1 }
+    record { some = leb-true _ _ (b .0); few = leb-true _ _ (b .1); names = h .0; waits = h .1; each = f .0; apart = g .0; primary = g .1 }
 
 pub fit-fits : (s : State) → StateFit s → stateFits s ≡ true
-unfolding stateFitsUnder channelsFitUnder
-fit-fits s f = rw (le-leb _ _ (f .some), le-leb _ _ (f .few), f .names, f .each, f .apart, f .primary)
+unfolding stateFitsUnder headFits channelsFitUnder
+fit-fits s f = rw (le-leb _ _ (f .some), le-leb _ _ (f .few), f .names, f .waits, f .each, f .apart, f .primary)
+
+-- another pacer with both its waits
+pub paced-fits : (s : State) (p : Pacer) → pacerFits p ≡ true → stateFits s ≡ true → stateFits (withPacer s p) ≡ true
+unfolding withPacer namesFit
+paced-fits s p waits fits =
+    let f = fit s fits in
+    fit-fits (withPacer s p) (record { some = f .some; few = f .few; names = f .names; waits = waits; each = f .each; apart = f .apart; primary = f .primary })
 
 -- a state with no channel is outside the limits
 pub blank-unfit : stateFits blankState ≡ false
@@ -113,6 +124,7 @@ module _ (s : State) (index : ℕ) (c : Channel) where
     some = rw (with-count s index c) (fit s fits .some);
     few = rw (with-count s index c) (fit s fits .few);
     names = fit s fits .names;
+    waits = fit s fits .waits;
     each = all-set (s .channels) index c (fit s fits .each) new;
     apart = rw (ids-kept e) (fit s fits .apart);
     primary = rw (ids-kept e) (fit s fits .primary);
@@ -247,6 +259,11 @@ unfolding ids startIds freshChannel
 fresh-ids [] = refl
 fresh-ids (k ∷ ks) = rw (fresh-ids ks)
 
+waits-last : (few waits channels : Bool) → (few && (waits && channels)) ≡ ((few && channels) && waits)
+waits-last false waits channels = refl
+waits-last true false channels = sym (and-false channels)
+waits-last true true channels = sym (and-true channels)
+
 module _ (k : Configuration) where
   pub fresh-count : length (freshState k .channels) ≡ length (k .starts)
   unfolding freshState
@@ -256,6 +273,9 @@ module _ (k : Configuration) where
   unfolding channelAt freshState
   fresh-at index inside = getD-mapped freshOf (k .starts) index noStart noChannel inside
 
-  pub fresh-fits : stateFits (freshState k) ≡ configurationFits k
-  unfolding stateFitsUnder namesFit freshState channelsFitUnder configurationFitsUnder
-  fresh-fits = rw (length-map (k .starts) freshOf, fresh-fits-all (k .starts), fresh-ids (k .starts))
+  -- a fresh start is within the limits exactly if neither 19 nor 22 refuses its configuration
+  pub fresh-fits : stateFits (freshState k) ≡ configurationTaken k
+  unfolding stateFitsUnder headFits namesFit freshState channelsFitUnder configurationFitsUnder
+  fresh-fits =
+      rw (length-map (k .starts) freshOf, fresh-fits-all (k .starts), fresh-ids (k .starts))
+      (waits-last (countFits (length (k .starts))) (waitsFit k) (startsFit (k .starts) && (distinct (startIds (k .starts)) && among 0 (startIds (k .starts)))))

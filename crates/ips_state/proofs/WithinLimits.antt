@@ -127,6 +127,7 @@ module _ (s : State) where
     some = w .some;
     few = w .few;
     names = rw (instance-fits (s .instance) (w .instance-within), context-fits (s .context) (w .context-within));
+    waits = rw (lt-ltb 0 _ (w .hello), lt-ltb 0 _ (w .limit));
     each = all-by (s .channels) (λ i h. channel-fits (channelAt s i) (w .each i h));
     apart =
         distinct-by (ids (s .channels))
@@ -141,6 +142,7 @@ module _ (s : State) where
   fits-within e =
       let f = fit s e in
       let names = and-eq-true-iff (instanceAllowed ends.Radio (s .instance)) _ .0 (f .names) in
+      let waits = and-eq-true-iff (ltb 0 (s .pacer .hello)) _ .0 (f .waits) in
       record {
         some = f .some;
         few = f .few;
@@ -149,6 +151,8 @@ module _ (s : State) where
         primary = indexOf 0 (ids (s .channels));
         primary-inside = found s 0 (f .primary) .0;
         primary-is = found s 0 (f .primary) .1;
+        hello = ltb-true 0 _ (waits .0);
+        limit = ltb-true 0 _ (waits .1);
         instance-within = λ value size p. fits-name (value .0) size (rw p at (names .0));
         context-within = λ value size p. fits-name (value .0) size (rw p at (names .1));
       }

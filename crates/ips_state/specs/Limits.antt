@@ -15,6 +15,7 @@ use Rattle.store.specs.Waiting.{wellFormedUnder}
 use Rattle.flow.specs.declared.Flow.{Flow}
 use Rattle.ips_channel.specs.declared.state.Setting.{Setting}
 use Rattle.ips_channel.specs.declared.state.Channel.{Channel}
+use Rattle.pacer.specs.Pacing.{freshPacer, pacerFits}
 use Rattle.ips_state.specs.State.{ChannelStart, Configuration, State}
 
 -- ---- a setting: "ID 255", "store length"
@@ -56,9 +57,13 @@ countFitsUnder most n = leb FEWEST-CHANNELS n && leb n most
 unfoldable pub namesFit : State → Bool
 namesFit s = instanceAllowed ends.Radio (s .instance) && contextAllowed ends.Radio (s .context)
 
+-- these, and "a configuration in it that would be refused": by 22, too
+unfoldable pub headFits : State → Bool
+headFits s = namesFit s && pacerFits (s .pacer)
+
 -- A STATE WITHIN THE LIMITS
 unfoldable pub stateFitsUnder : Limits → State → Bool
-stateFitsUnder limits s = countFitsUnder (limits .channels) (length (s .channels)) && (namesFit s && channelsFitUnder (limits .packet) (s .channels))
+stateFitsUnder limits s = countFitsUnder (limits .channels) (length (s .channels)) && (headFits s && channelsFitUnder (limits .packet) (s .channels))
 
 -- the same of a configuration: "channel count, ID 255, an ID twice, no channel 0, store length"
 unfoldable pub startsFit : List ChannelStart → Bool
@@ -72,6 +77,10 @@ unfoldable pub configurationFitsUnder : (most : ℕ) → Configuration → Bool
 configurationFitsUnder most k =
     countFitsUnder most (length (k .starts))
     && (startsFit (k .starts) && (distinct (startIds (k .starts)) && among 0 (startIds (k .starts))))
+
+-- number 22 is "tested last in configuration": given where this doesn't hold, and 19 is not
+abbrev pub waitsFit : Configuration → Bool
+waitsFit k = pacerFits (freshPacer (k .hello) (k .limit))
 
 -- ---- the same under the limits in force
 abbrev pub channelFits : Channel → Bool
@@ -91,6 +100,10 @@ stateFits s = stateFitsUnder CURRENT-LIMITS s
 
 abbrev pub configurationFits : Configuration → Bool
 configurationFits k = configurationFitsUnder MOST-CHANNELS k
+
+-- a configuration that neither 19 nor 22 refuses
+abbrev pub configurationTaken : Configuration → Bool
+configurationTaken k = configurationFits k && waitsFit k
 
 -- ---- "one store .. for each channel, all of them end to end in configuration order in one lent memory"
 unfoldable pub sizes : List Channel → ℕ

@@ -12,23 +12,29 @@ use Rattle.flow.specs.declared.Flow.{Flow}
 use Rattle.ips_channel.specs.declared.state.Setting.{Setting}
 use Rattle.ips_channel.specs.declared.state.Channel.{Channel}
 use Rattle.ips_channel.specs.Channel.{freshChannel}
+use Rattle.pacer.specs.declared.Pacer.{Pacer}
+use Rattle.pacer.specs.Pacing.{freshPacer}
 
 -- how one channel starts: its setting and its first sequence
 pub record ChannelStart : Type 0 where
   pub setting : Setting
   pub first : FlowSequence
 
--- what a fresh start is given, its channels in configuration order
+-- what a fresh start is given: the Datalink ID, HelloTime and silence limit, its channels in configuration order
 pub record Configuration : Type 0 where
   pub datalink : DatalinkId
+  pub hello : ℕ
+  pub limit : ℕ
   pub starts : List ChannelStart
 
--- the channels in configuration order, as their stores stand in the lent memory; the Link Instance as last given, the Context of the control message accepted just before
+-- the channels in configuration order, as their stores stand in the lent memory; the Link Instance as last given, the Context of the control message accepted just before;
+-- the pacer with its clock
 pub record State : Type 0 where
   pub datalink : DatalinkId
   pub channels : List Channel
   pub instance : Instance
   pub context : Context
+  pub pacer : Pacer
 
 -- what an index past the end gives
 abbrev pub noSetting : Setting
@@ -44,7 +50,10 @@ unfoldable pub channelAt : State → ℕ → Channel
 channelAt s index = getD (s .channels) index noChannel
 
 unfoldable pub withChannel : State → ℕ → Channel → State
-withChannel s index c = record { datalink = s .datalink; channels = set (s .channels) index c; instance = s .instance; context = s .context }
+withChannel s index c = record { datalink = s .datalink; channels = set (s .channels) index c; instance = s .instance; context = s .context; pacer = s .pacer }
+
+unfoldable pub withPacer : State → Pacer → State
+withPacer s pacer = record { datalink = s .datalink; channels = s .channels; instance = s .instance; context = s .context; pacer = pacer }
 
 -- ---- a fresh start
 abbrev pub startAt : Configuration → ℕ → ChannelStart
@@ -54,11 +63,11 @@ abbrev pub freshOf : ChannelStart → Channel
 freshOf start = freshChannel (start .setting) (start .first)
 
 unfoldable pub freshState : Configuration → State
-freshState k = record { datalink = k .datalink; channels = map freshOf (k .starts); instance = Instance.Absent; context = Context.Absent }
+freshState k = record { datalink = k .datalink; channels = map freshOf (k .starts); instance = Instance.Absent; context = Context.Absent; pacer = freshPacer (k .hello) (k .limit) }
 
 -- ---- no channel at all, which every call refuses
 unfoldable pub blankState : State
-blankState = record { datalink = record { 0 = 0 }; channels = []; instance = Instance.Absent; context = Context.Absent }
+blankState = record { datalink = record { 0 = 0 }; channels = []; instance = Instance.Absent; context = Context.Absent; pacer = freshPacer 0 0 }
 
 unfoldable pub blankConfiguration : Configuration
-blankConfiguration = record { datalink = record { 0 = 0 }; starts = [] }
+blankConfiguration = record { datalink = record { 0 = 0 }; hello = 0; limit = 0; starts = [] }

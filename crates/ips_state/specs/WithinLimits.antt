@@ -44,5 +44,7 @@ pub record WithinLimits (s : State) : Type 0 where
   pub primary : ℕ
   pub primary-inside : primary < length (s .channels)
   pub primary-is : channelAt s primary .setting .id ≡ 0
+  pub hello : 1 ≤ s .pacer .hello
+  pub limit : 1 ≤ s .pacer .limit
   pub instance-within : (value : LinkInstanceId) (size : ℕ) → s .instance ≡ Instance.Given value size → NameWithin (value .0) size
   pub context-within : (value : ContextBytes) (size : ℕ) → s .context ≡ Context.Given value size → NameWithin (value .0) size

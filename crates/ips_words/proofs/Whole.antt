@@ -19,7 +19,7 @@ use Rattle.ips_state.specs.State.{State, noChannel, channelAt, withChannel, bla
 use Rattle.ips_state.specs.Limits.{stateFits}
 use Rattle.ips_state.proofs.Channels.{same-or-not, ChannelFit}
 use Rattle.ips_state.proofs.Places.{front-long, changed-length, changed-here, changed-before, changed-behind, apart, blank-unfit, channel-fitting-at}
-use Rattle.ips_words.specs.Words.{HEAD, SLOT, SIZE, DATALINK-WORD, COUNT-WORD, INSTANCE-TAG, INSTANCE-VALUE, INSTANCE-LENGTH, CONTEXT-TAG, CONTEXT-VALUE, CONTEXT-LENGTH, GIVEN, wordsFor, word, slot, slotStart, queueIn, channelIn, channelWords, stateOf, spelled, allSpelled, headSpelled, readable, stateIn, putSlot, putChannel, Loadable, Tidy, Narrow}
+use Rattle.ips_words.specs.Words.{HEAD, SLOT, SIZE, DATALINK-WORD, COUNT-WORD, INSTANCE-TAG, INSTANCE-VALUE, INSTANCE-LENGTH, CONTEXT-TAG, CONTEXT-VALUE, CONTEXT-LENGTH, HELLO-WORD, LIMIT-WORD, CLOCK-WORD, DUE-WORD, HEARD-WORD, GIVEN, wordsFor, word, slot, slotStart, queueIn, channelIn, channelWords, stateOf, spelled, allSpelled, headSpelled, readable, stateIn, putSlot, putChannel, Loadable, Tidy, Narrow}
 use Rattle.ips_words.proofs.Slots.{channel-length, channel-back, words-spelled}
 
 -- ---- the channels that words say
@@ -81,7 +81,7 @@ module _ (words : List ℕ) (index : ℕ) (room : slotStart index + SLOT ≤ len
   pub slot-put-state : stateOf (putSlot words index part) ≡ withChannel (stateOf words) index (channelIn part)
   unfolding stateOf withChannel
   slot-put-state =
-      rw (slot-put-head DATALINK-WORD (omega arith), slot-put-head COUNT-WORD (omega arith), slot-put-head INSTANCE-TAG (omega arith), slot-put-head INSTANCE-VALUE (omega arith), slot-put-head INSTANCE-LENGTH (omega arith), slot-put-head CONTEXT-TAG (omega arith), slot-put-head CONTEXT-VALUE (omega arith), slot-put-head CONTEXT-LENGTH (omega arith), channels-put (word words COUNT-WORD))
+      rw (slot-put-head DATALINK-WORD (omega arith), slot-put-head COUNT-WORD (omega arith), slot-put-head INSTANCE-TAG (omega arith), slot-put-head INSTANCE-VALUE (omega arith), slot-put-head INSTANCE-LENGTH (omega arith), slot-put-head CONTEXT-TAG (omega arith), slot-put-head CONTEXT-VALUE (omega arith), slot-put-head CONTEXT-LENGTH (omega arith), slot-put-head HELLO-WORD (omega arith), slot-put-head LIMIT-WORD (omega arith), slot-put-head CLOCK-WORD (omega arith), slot-put-head DUE-WORD (omega arith), slot-put-head HEARD-WORD (omega arith), channels-put (word words COUNT-WORD))
 
 -- ---- the parts of `readable`, as facts
 pub all-spelled-at : (words : List ℕ) (n : ℕ) → allSpelled words n ≡ true → (i : ℕ) → i < n → spelled (slot words i) ≡ true

@@ -4,7 +4,7 @@ use Prim.Native.Nat.{ℕ, zero, suc, _+_, _*_, _^_, _≤_, _<_}
 use mathlib.Core.Bool.{Bool, true, cond, _&&_}
 use mathlib.Core.List.{List, [], _∷_, _++_}
 use mathlib.Core.Path.{_≡_}
-use lib.ListN.{length, take, drop, getD}
+use lib.ListN.{length, take, drop, set, getD}
 use lib.Dec.{eqb, leb, ltb}
 use Rattle.facts.specs.Tables.{tabulate}
 use Rattle.quantity.specs.Limits.{MOST-WAITING}
@@ -16,11 +16,12 @@ use Rattle.store.specs.declared.queue.Queue.{Queue}
 use Rattle.store.specs.Waiting.{noEntry}
 use Rattle.flow.specs.declared.Flow.{Flow}
 use Rattle.ips_channel.specs.declared.state.Channel.{Channel}
+use Rattle.pacer.specs.declared.Pacer.{Pacer}
 use Rattle.ips_state.specs.State.{State, blankState}
 
 -- ---- the endpoint's own words
 abbrev pub HEAD : ℕ
-HEAD = 8
+HEAD = 13
 
 abbrev pub DATALINK-WORD : ℕ
 DATALINK-WORD = 0
@@ -45,6 +46,22 @@ CONTEXT-VALUE = 6
 
 abbrev pub CONTEXT-LENGTH : ℕ
 CONTEXT-LENGTH = 7
+
+-- the pacer's: HelloTime and silence limit, its clock, the last query due, the last accepted radio control message
+abbrev pub HELLO-WORD : ℕ
+HELLO-WORD = 8
+
+abbrev pub LIMIT-WORD : ℕ
+LIMIT-WORD = 9
+
+abbrev pub CLOCK-WORD : ℕ
+CLOCK-WORD = 10
+
+abbrev pub DUE-WORD : ℕ
+DUE-WORD = 11
+
+abbrev pub HEARD-WORD : ℕ
+HEARD-WORD = 12
 
 -- ---- a channel's words: those before what waits, what one waiting packet takes, all of them
 abbrev pub FIXED : ℕ
@@ -158,6 +175,9 @@ channelIn w = record {
   queue = queueIn w;
 }
 
+abbrev pub pacerIn : List ℕ → Pacer
+pacerIn words = record { hello = word words HELLO-WORD; limit = word words LIMIT-WORD; clock = word words CLOCK-WORD; due = word words DUE-WORD; heard = word words HEARD-WORD }
+
 -- ---- the state, of as many channels as the words count
 unfoldable pub stateOf : List ℕ → State
 stateOf words = record {
@@ -165,6 +185,7 @@ stateOf words = record {
   channels = tabulate (word words COUNT-WORD) (λ index. channelIn (slot words index));
   instance = instanceOf (word words INSTANCE-TAG) (word words INSTANCE-VALUE) (word words INSTANCE-LENGTH);
   context = contextOf (word words CONTEXT-TAG) (word words CONTEXT-VALUE) (word words CONTEXT-LENGTH);
+  pacer = pacerIn words;
 }
 
 -- ---- words that say something: tags that there are, and numbers no wider than what they are numbers of
@@ -224,6 +245,10 @@ putSlot words index part = take (slotStart index) words ++ (part ++ drop (slotSt
 
 unfoldable pub putChannel : List ℕ → ℕ → Channel → List ℕ
 putChannel words index c = putSlot words index (channelWords c)
+
+-- ---- the words with the pacer's three times written; its two waits stand
+unfoldable pub putPacer : List ℕ → Pacer → List ℕ
+putPacer words p = set (set (set words CLOCK-WORD (p .clock)) DUE-WORD (p .due)) HEARD-WORD (p .heard)
 
 -- ---- what a channel is loaded from
 pub record Loadable (w : List ℕ) : Type 0 where

@@ -1,21 +1,27 @@
-// The endpoint's own words: Datalink ID, Link Instance and Context.
+// The endpoint's own words: Datalink ID, Link Instance, Context and the pacer.
 ghost use mathlib.Core.Path.{_≡_};
 ghost use Prim.Native.Nat.{_≤_, _<_};
 ghost use lib.ListN.{length};
-ghost use Rattle.ips_words.specs.Words.{HEAD, DATALINK-WORD, word, instanceOf, contextOf, stateOf};
+ghost use Rattle.ips_words.specs.Words.{HEAD, DATALINK-WORD, word, instanceOf, contextOf, stateOf, putPacer};
 use crate::layout::ABSENT;
+use crate::layout::CLOCK_WORD;
 use crate::layout::CONTEXT_LENGTH;
 use crate::layout::CONTEXT_TAG;
 use crate::layout::CONTEXT_VALUE;
 use crate::layout::DATALINK_WORD;
+use crate::layout::DUE_WORD;
+use crate::layout::HEARD_WORD;
+use crate::layout::HELLO_WORD;
 use crate::layout::INSTANCE_LENGTH;
 use crate::layout::INSTANCE_TAG;
 use crate::layout::INSTANCE_VALUE;
+use crate::layout::LIMIT_WORD;
 use crate::slot;
 use crate::waiting;
 use meaning::message::Context;
 use meaning::message::ContextBytes;
 use meaning::message::Instance;
+use pacer::Pacer;
 use quantity::count::DatalinkId;
 use quantity::count::LinkInstanceId;
 
@@ -64,4 +70,27 @@ pub fn context(words: &[u64]) -> Context
         words[CONTEXT_VALUE],
         words[CONTEXT_LENGTH],
     )
+}
+
+pub fn pacer(words: &[u64]) -> Pacer
+    requires { ⌜ HEAD ≤ length (now words) ⌝ }
+    ensures { λ r. ⌜ r ≡ stateOf (now (words .entry)) .pacer ⌝ }
+{
+    Pacer {
+        hello: words[HELLO_WORD],
+        limit: words[LIMIT_WORD],
+        clock: words[CLOCK_WORD],
+        due: words[DUE_WORD],
+        heard: words[HEARD_WORD],
+    }
+}
+
+// The pacer's times; its waits stay as configured.
+pub fn move_pacer(words: &mut [u64], pacer: Pacer)
+    requires { ⌜ HEAD ≤ length (now words) ⌝ }
+    ensures { λ _. ⌜ now (words .exit) ≡ putPacer (now (words .entry)) pacer ⌝ }
+{
+    words[CLOCK_WORD] = pacer.clock;
+    words[DUE_WORD] = pacer.due;
+    words[HEARD_WORD] = pacer.heard;
 }

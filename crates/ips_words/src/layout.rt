@@ -2,7 +2,7 @@
 use quantity::limit::MOST_WAITING;
 
 // The endpoint's own words, before those of the channels.
-pub const HEAD: usize = 8;
+pub const HEAD: usize = 13;
 
 pub const DATALINK_WORD: usize = 0;
 
@@ -19,6 +19,17 @@ pub const CONTEXT_TAG: usize = 5;
 pub const CONTEXT_VALUE: usize = 6;
 
 pub const CONTEXT_LENGTH: usize = 7;
+
+// The pacer's: two waits as configured, and three times.
+pub const HELLO_WORD: usize = 8;
+
+pub const LIMIT_WORD: usize = 9;
+
+pub const CLOCK_WORD: usize = 10;
+
+pub const DUE_WORD: usize = 11;
+
+pub const HEARD_WORD: usize = 12;
 
 // A channel's words before those of what waits, what one waiting packet takes, and all of them.
 pub const FIXED: usize = 10;

@@ -1,12 +1,11 @@
--- A datagram from the radio: the message in it, if it is accepted, has no number wider than it may be, so that the words after it stand for the state after it.
--- Assumes nothing.
+-- A datagram from the radio: the message in it, if it is accepted, has no number wider than it may be, so that the words after it stand for the state after it; and so
+-- they do after the pacer was asked. Assumes nothing.
 use Prim.Native.Nat.{ℕ, _^_, _≤_, _<_}
 use mathlib.Core.Bool.{Bool, true, false, cond, and-eq-true-iff}
-use mathlib.Core.List.{List, [], _∷_}
-use mathlib.Core.Path.{_≡_, refl, ap}
+use mathlib.Core.List.{List}
+use mathlib.Core.Path.{_≡_, refl, sym, ap, _∙_}
 use native.Mathlib.Omega.{arith}
 use borrow.Author.Tests.{leb-true}
-use lib.ListN.{length, getD}
 use Rattle.quantity.specs.Limits.{HIGHEST-STATUS}
 use Rattle.quantity.specs.declared.count.DatalinkId.{DatalinkId}
 use Rattle.wire.specs.Numbers.{Octets}
@@ -16,21 +15,25 @@ use Rattle.meaning.specs.declared.message.Status.{Status}
 use Rattle.meaning.specs.declared.message.Window.{Window}
 use Rattle.meaning.specs.declared.message.Control.{Control}
 use Rattle.meaning.specs.Kinds.{CHANNEL-STATUS}
-use Rattle.reader.specs.Readings.{Verdict, readControl, planeOf}
+use Rattle.reader.specs.Readings.{Verdict, readControl, readData, planeOf}
 use Rattle.reader.specs.declared.answer.PlaneAnswer.{PlaneAnswer}
 use Rattle.writable.specs.Allowed.{may, datalinkAllowed, instanceAllowed, contextAllowed, statusAllowed, statusesAllowed, controlAllowed}
 use Rattle.roundtrip.specs.Values.{WindowWord, ControlValue}
 use Rattle.roundtrip.proofs.Writable.{control-writable, control-is-value}
 use Rattle.flow.specs.Counting.{flowAfter}
+use Rattle.pacer.specs.declared.Pacer.{Pacer}
+use Rattle.pacer.specs.Pacing.{isSilent, asked, heardAt, movedTo}
+use Rattle.ips_state.specs.State.{withPacer}
 use Rattle.ips_state.specs.Limits.{stateFits}
 use Rattle.ips_state.specs.Memory.{World}
-use Rattle.ips_radio.specs.Heard.{statusIn, windowIn}
+use Rattle.ips_radio.specs.Heard.{statusIn, windowIn, silencedBy}
 use Rattle.ips_radio.proofs.Hearings.{status-heard}
-use Rattle.ips_run.specs.Run.{radio, ifAccepted, ifControl, acceptedIn, acceptedUnder, acceptedBy, hearEach, afterUnder, after}
-use Rattle.ips_run.proofs.Hearing.{Brings, nothing, message, brings}
-use Rattle.ips_words.specs.Words.{stateIn, statusValue, flowWindow}
-use Rattle.ips_words_radio.specs.HeardWords.{hearEachIn, Slender}
-use Rattle.ips_words_radio.proofs.Heard.{heard-in}
+use Rattle.ips_run.specs.Run.{radio, pace, Received, dropped, carried, stated, ifAccepted, byPlane, controlRead, dataRead, receivedIn, inTime, received, pacedBy, withState, afterUnder, after}
+use Rattle.ips_words.specs.Words.{pacerIn, readable, stateIn, putPacer, statusValue, flowWindow}
+use Rattle.ips_words.proofs.Whole.{fit-readable}
+use Rattle.ips_words.proofs.Pacers.{paced-readable, paced-in, fit-pacer}
+use Rattle.ips_words_radio.specs.HeardWords.{heardWords, silencedWords, receivedWords, pacedWords, Slender}
+use Rattle.ips_words_radio.proofs.Heard.{heard-pacer, heard-readable, heard-in, silenced-pacer, silenced-readable, silenced-in}
 
 -- ---- a message that the radio may state, as a value of its struct
 low-status : (status : Status) → statusAllowed ends.Radio status ≡ true → statusValue status < 256
@@ -56,35 +59,98 @@ allowed-slender m allowed value =
       windows = λ id. low-window (windowIn m id) (value .window-words id);
     }
 
--- ---- a message that a datagram brings is the one that was read, and accepted
-read-so : (plane : PlaneAnswer) (verdict : Verdict) (read m : Control) → ifControl plane (ifAccepted verdict read) ≡ m ∷ [] → (verdict ≡ Verdict.Accepted) × (read ≡ m)
-read-so PlaneAnswer.Control Verdict.Accepted read m e = (refl, ap (λ (ms : List Control). getD ms 0 m) e)
-read-so PlaneAnswer.Control Verdict.OtherPlane read m e = absurd (omega (arith, ap (λ (ms : List Control). length ms) e))
-read-so PlaneAnswer.Control (Verdict.Refused refusal) read m e = absurd (omega (arith, ap (λ (ms : List Control). length ms) e))
-read-so PlaneAnswer.Data verdict read m e = absurd (omega (arith, ap (λ (ms : List Control). length ms) e))
-read-so (PlaneAnswer.Refused refusal) verdict read m e = absurd (omega (arith, ap (λ (ms : List Control). length ms) e))
+-- ---- what a datagram comes to: nothing, a packet, or a message whose numbers are no wider than their words are read
+pub data SlenderIn : Received → Type 0 where
+  nothing : SlenderIn dropped
+  packet : SlenderIn carried
+  message : (m : Control) → Slender m → SlenderIn (stated m)
 
-module _ (datalink : DatalinkId) (datagram : List ℕ) (octets : Octets datagram) where
-  pub accepted-slender : (m : Control) → acceptedIn datalink datagram ≡ m ∷ [] → Slender m
-  unfolding acceptedIn
-  accepted-slender m e =
-      let so = read-so (planeOf datagram) (readControl ends.Radio datalink datagram .verdict) (readControl ends.Radio datalink datagram .message) m e in
-      rw (so .1) at
-      (allowed-slender (readControl ends.Radio datalink datagram .message) (control-writable ends.Radio datalink datagram octets (so .0))
-      (control-is-value ends.Radio datalink datagram octets (so .0)))
+pub received-slender : (datalink : DatalinkId) (datagram : List ℕ) → Octets datagram → SlenderIn (receivedIn datalink datagram)
+unfolding receivedIn
+received-slender datalink datagram octets = plane (planeOf datagram)
+  where
+    control : (v : Verdict) → readControl ends.Radio datalink datagram .verdict ≡ v → SlenderIn (ifAccepted v (stated (readControl ends.Radio datalink datagram .message)))
+    control Verdict.Accepted e = message _ (allowed-slender _ (control-writable ends.Radio datalink datagram octets e) (control-is-value ends.Radio datalink datagram octets e))
+    control Verdict.OtherPlane e = nothing
+    control (Verdict.Refused refusal) e = nothing
 
--- ---- the words after a datagram, whatever it is
-module _ (words datagram : List ℕ) (octets : Octets datagram) where
-  heard-each : (datalink : DatalinkId) → stateFits (stateIn words) ≡ true → {ms : List Control} → acceptedIn datalink datagram ≡ ms → Brings ms → stateIn (hearEachIn ms words) ≡ hearEach ms (stateIn words)
-  heard-each datalink fits e nothing = refl
-  heard-each datalink fits e (message m allowed) = heard-in m words fits (accepted-slender datalink datagram octets m e)
+    data′ : (v : Verdict) → SlenderIn (ifAccepted v carried)
+    data′ Verdict.Accepted = packet
+    data′ Verdict.OtherPlane = nothing
+    data′ (Verdict.Refused refusal) = nothing
+
+    plane : (p : PlaneAnswer) → SlenderIn (byPlane p (controlRead (readControl ends.Radio datalink datagram)) (dataRead (readData ends.Radio datalink datagram)))
+    plane PlaneAnswer.Control = control _ refl
+    plane PlaneAnswer.Data = data′ (readData ends.Radio datalink datagram .verdict)
+    plane (PlaneAnswer.Refused refusal) = nothing
+
+-- ---- the words after a datagram, and after the pacer was asked
+module _ (time : ℕ) (words : List ℕ) (fits : stateFits (stateIn words) ≡ true) where
+  says-something : readable words ≡ true
+  says-something = fit-readable words fits
+
+  -- the pacer's times written behind what leaves the pacer's words
+  moved-in : (words′ : List ℕ) → readable words′ ≡ true → pacerIn words′ ≡ pacerIn words → (p : Pacer) → p .hello ≡ pacerIn words .hello → p .limit ≡ pacerIn words .limit
+      → stateIn (putPacer words′ p) ≡ withPacer (stateIn words′) p
+  moved-in words′ e same p hello limit =
+      paced-in words′ p e (hello ∙ ap (λ (x : Pacer). x .hello) (sym same)) (limit ∙ ap (λ (x : Pacer). x .limit) (sym same))
 
   -- THE LAW: they stand for the state after it
-  pub radio-in : (memory : List ℕ) → let w : World = record { state = stateIn words; memory = memory } in stateIn (hearEachIn (acceptedBy (radio datagram) w) words) ≡ after (radio datagram) w .state
-  unfolding acceptedUnder afterUnder
-  radio-in memory = go (stateFits (stateIn words)) refl
+  pub received-in : {r : Received} → SlenderIn r → stateIn (receivedWords time r words) ≡ received time r (stateIn words)
+  unfolding movedTo heardAt
+  received-in nothing = refl
+  received-in packet = moved-in words says-something refl (movedTo time (pacerIn words)) refl refl ∙ rw (fit-pacer words fits)
+  received-in (message m slender) =
+      moved-in (heardWords m words) (heard-readable m words fits slender) (heard-pacer m words fits) (heardAt time (pacerIn words)) refl refl
+      ∙ rw (heard-in m words fits slender, fit-pacer words fits)
+
+  pub received-readable : {r : Received} → SlenderIn r → readable (receivedWords time r words) ≡ true
+  received-readable nothing = says-something
+  received-readable packet = paced-readable words (movedTo time (pacerIn words)) says-something
+  received-readable (message m slender) = paced-readable (heardWords m words) (heardAt time (pacerIn words)) (heard-readable m words fits slender)
+
+  pub asked-in : stateIn (pacedWords time words) ≡ pacedBy time (stateIn words)
+  unfolding pacedWords pacedBy asked
+  asked-in =
+      go (isSilent time (pacerIn words))
+      ∙ ap (λ (p : Pacer). withPacer (cond (isSilent time p) (silencedBy (stateIn words)) (stateIn words)) (asked time p)) (sym (fit-pacer words fits))
     where
-      go : (b : Bool) → stateFits (stateIn words) ≡ b
-          → stateIn (hearEachIn (cond b (acceptedIn (stateIn words .datalink) datagram) []) words) ≡ hearEach (cond b (acceptedIn (stateIn words .datalink) datagram) []) (stateIn words)
-      go true f = heard-each (stateIn words .datalink) f refl (brings (stateIn words .datalink) datagram octets)
-      go false f = refl
+      go : (silent : Bool) → stateIn (putPacer (cond silent (silencedWords words) words) (asked time (pacerIn words))) ≡ withPacer (cond silent (silencedBy (stateIn words)) (stateIn words)) (asked time (pacerIn words))
+      go true = moved-in (silencedWords words) (silenced-readable words fits) (silenced-pacer words fits) (asked time (pacerIn words)) refl refl ∙ rw (silenced-in words fits)
+      go false = moved-in words says-something refl (asked time (pacerIn words)) refl refl
+
+  pub asked-readable : readable (pacedWords time words) ≡ true
+  unfolding pacedWords
+  asked-readable = go (isSilent time (pacerIn words))
+    where
+      go : (silent : Bool) → readable (putPacer (cond silent (silencedWords words) words) (asked time (pacerIn words))) ≡ true
+      go true = paced-readable (silencedWords words) (asked time (pacerIn words)) (silenced-readable words fits)
+      go false = paced-readable words (asked time (pacerIn words)) says-something
+
+-- ---- the same of the two calls, refused ones too
+module _ (time : ℕ) (words memory : List ℕ) where
+  abbrev world : World
+  world = record { state = stateIn words; memory = memory }
+
+  in-time-fits : inTime time (stateIn words) ≡ true → stateFits (stateIn words) ≡ true
+  in-time-fits e = and-eq-true-iff (stateFits (stateIn words)) _ .0 e .0
+
+  pub radio-in : (datagram : List ℕ) → Octets datagram
+      → stateIn (cond (inTime time (stateIn words)) (receivedWords time (receivedIn (stateIn words .datalink) datagram) words) words) ≡ after (radio time datagram) world .state
+  unfolding afterUnder
+  radio-in datagram octets = go (inTime time (stateIn words)) refl
+    where
+      r : Received
+      r = receivedIn (stateIn words .datalink) datagram
+
+      go : (b : Bool) → inTime time (stateIn words) ≡ b → stateIn (cond b (receivedWords time r words) words) ≡ cond b (withState world (received time r (stateIn words))) world .state
+      go true e = received-in time words (in-time-fits e) (received-slender (stateIn words .datalink) datagram octets)
+      go false e = refl
+
+  pub pace-in : stateIn (cond (inTime time (stateIn words)) (pacedWords time words) words) ≡ after (pace time) world .state
+  unfolding afterUnder
+  pace-in = go (inTime time (stateIn words)) refl
+    where
+      go : (b : Bool) → inTime time (stateIn words) ≡ b → stateIn (cond b (pacedWords time words) words) ≡ cond b (withState world (pacedBy time (stateIn words))) world .state
+      go true e = asked-in time words (in-time-fits e)
+      go false e = refl

@@ -1,4 +1,4 @@
--- The channels hear a radio message one after another. Assumes nothing.
+-- The channels are told something one after another. Assumes nothing.
 use Prim.Native.Nat.{ℕ, zero, suc, _+_, _*_, _-_, _≤_, _<_}
 use mathlib.Core.Bool.{true}
 use mathlib.Core.List.{List}
@@ -11,6 +11,8 @@ use borrow.Rule.Slice.PartMut.{putMid}
 use lib.ListN.{length, take, drop, getD}
 use lib.Seq.{drop-drop}
 use Rattle.quantity.specs.Limits.{MOST-CHANNELS, RESERVED-CHANNEL}
+use Rattle.meaning.specs.declared.message.Status.{Status}
+use Rattle.meaning.specs.declared.message.Window.{Window}
 use Rattle.meaning.specs.declared.message.Instance.{Instance}
 use Rattle.meaning.specs.declared.message.Control.{Control}
 use Rattle.ips_state.specs.Limits.{stateFits}
@@ -19,22 +21,22 @@ use Rattle.ips_state.proofs.Places.{fit, channel-fitting-at}
 use Rattle.ips_radio.specs.Heard.{statusIn, windowIn}
 use Rattle.ips_words.specs.Words.{HEAD, SLOT, ID, COUNT-WORD, wordsFor, word, slot, slotStart, putSlot, channelIn, stateIn}
 use Rattle.ips_words.proofs.Whole.{slot-length, slot-word, slot-put-length, slot-put-same, slot-put-other, slot-put-head, readable-facts, fit-readable, fit-count, fit-channel}
-use Rattle.ips_words_radio.specs.HeardWords.{heardPart, heardSlot, heardSlots, instanceHeard}
+use Rattle.ips_words_radio.specs.HeardWords.{heardPart, toldSlot, toldSlots, heardSlots, instanceHeard}
 use Rattle.ips_words_radio.proofs.Parts.{part-length, instance-length}
 
 -- ---- the first channels of the words, so many
-module _ (message : Control) (words : List ℕ) where
-  abbrev heardTo : ℕ → List ℕ
-  heardTo n = heardSlots message words n
+module _ (status : ℕ → Status) (window : ℕ → Window) (words : List ℕ) where
+  abbrev toldTo : ℕ → List ℕ
+  toldTo n = toldSlots status window words n
 
   pub record Passed (n : ℕ) : Type 0 where
-    pub long : length (heardTo n) ≡ length words
-    pub head : (k : ℕ) → k < HEAD → word (heardTo n) k ≡ word words k
-    pub done : (i : ℕ) → i < n → slot (heardTo n) i ≡ heardSlot message (slot words i)
-    pub rest : (i : ℕ) → n ≤ i → slot (heardTo n) i ≡ slot words i
+    pub long : length (toldTo n) ≡ length words
+    pub head : (k : ℕ) → k < HEAD → word (toldTo n) k ≡ word words k
+    pub done : (i : ℕ) → i < n → slot (toldTo n) i ≡ toldSlot status window (slot words i)
+    pub rest : (i : ℕ) → n ≤ i → slot (toldTo n) i ≡ slot words i
 
   passed-more : (n : ℕ) → slotStart (suc n) ≤ length words → Passed n → Passed (suc n)
-  unfolding heardSlots
+  unfolding toldSlots
   passed-more n room before = record {
     long = slot-put-length was n space part part-long ∙ before .long;
     head = λ k h. slot-put-head was n space part part-long k h ∙ before .head k h;
@@ -43,10 +45,10 @@ module _ (message : Control) (words : List ℕ) where
   }
     where
       was : List ℕ
-      was = heardTo n
+      was = toldTo n
 
       part : List ℕ
-      part = heardSlot message (slot was n)
+      part = toldSlot status window (slot was n)
 
       space : slotStart n + SLOT ≤ length was
       space = omega (arith, before .long)
@@ -54,13 +56,13 @@ module _ (message : Control) (words : List ℕ) where
       part-long : length part ≡ SLOT
       part-long = part-length _ _ (slot was n) ∙ slot-length was n space
 
-      done : (i : ℕ) → i < suc n → slot (putSlot was n part) i ≡ heardSlot message (slot words i)
+      done : (i : ℕ) → i < suc n → slot (putSlot was n part) i ≡ toldSlot status window (slot words i)
       done i h =
-          ⊎-elim (λ (e : i ≡ n). rw e (slot-put-same was n space part part-long ∙ ap (heardSlot message) (before .rest n (omega arith))))
+          ⊎-elim (λ (e : i ≡ n). rw e (slot-put-same was n space part part-long ∙ ap (toldSlot status window) (before .rest n (omega arith))))
           (λ (l : i < n). slot-put-other was n space part part-long i (λ e. omega arith) ∙ before .done i l) (eq-or-lt-of-le (omega arith))
 
   pub passed : (n : ℕ) → slotStart n ≤ length words → Passed n
-  unfolding heardSlots
+  unfolding toldSlots
   passed zero room = record { long = refl; head = λ k h. refl; done = λ i h. absurd (omega arith); rest = λ i h. refl }
   passed (suc n) room = passed-more n room (passed n (omega arith))
 
@@ -70,30 +72,30 @@ fit-long words t = readable-facts words (fit-readable words t) .long
 pub head-there : (words : List ℕ) → stateFits (stateIn words) ≡ true → HEAD ≤ length words
 head-there words t = omega (arith, fit-long words t)
 
-pub all-passed : (message : Control) (words : List ℕ) → stateFits (stateIn words) ≡ true → Passed message words (word words COUNT-WORD)
-all-passed message words t = passed message words (word words COUNT-WORD) (omega (arith, fit-long words t))
+pub all-passed : (status : ℕ → Status) (window : ℕ → Window) (words : List ℕ) → stateFits (stateIn words) ≡ true → Passed status window words (word words COUNT-WORD)
+all-passed status window words t = passed status window words (word words COUNT-WORD) (omega (arith, fit-long words t))
 
 -- ---- the loop
-pub record Hears (words : List ℕ) (message : Control) (count : ℕ) (words′ : List ℕ) (at from : ℕ) : Type 0 where
+pub record Hears (words : List ℕ) (status : ℕ → Status) (window : ℕ → Window) (count : ℕ) (words′ : List ℕ) (at from : ℕ) : Type 0 where
   pub fits : stateFits (stateIn words) ≡ true
   pub count-is : count ≡ word words COUNT-WORD
   pub inside : at ≤ count
   pub from-is : from ≡ slotStart at
-  pub heard : words′ ≡ heardSlots message words at
+  pub heard : words′ ≡ toldSlots status window words at
 
-pub hears-start : (words : List ℕ) (message : Control) (count : ℕ) → stateFits (stateIn words) ≡ true → count ≡ word words COUNT-WORD → Hears words message count words 0 HEAD
-unfolding heardSlots
-hears-start words message count t e = record { fits = t; count-is = e; inside = omega arith; from-is = refl; heard = refl }
+pub hears-start : (words : List ℕ) (status : ℕ → Status) (window : ℕ → Window) (count : ℕ) → stateFits (stateIn words) ≡ true → count ≡ word words COUNT-WORD → Hears words status window count words 0 HEAD
+unfolding toldSlots
+hears-start words status window count t e = record { fits = t; count-is = e; inside = omega arith; from-is = refl; heard = refl }
 
-module _ (words : List ℕ) (message : Control) (count : ℕ) (words′ : List ℕ) (at from : ℕ) (h : Hears words message count words′ at from) where
+module _ (words : List ℕ) (status : ℕ → Status) (window : ℕ → Window) (count : ℕ) (words′ : List ℕ) (at from : ℕ) (h : Hears words status window count words′ at from) where
   pub few : count ≤ MOST-CHANNELS
   few = omega (arith, h .count-is, fit-count words (h .fits), fit (stateIn words) (h .fits) .few)
 
   room : slotStart count ≤ length words
   room = omega (arith, h .count-is, fit-long words (h .fits))
 
-  passed-here : Passed message words at
-  passed-here = passed message words at (omega (arith, room, h .inside))
+  passed-here : Passed status window words at
+  passed-here = passed status window words at (omega (arith, room, h .inside))
 
   pub same-long : length words′ ≡ length words
   same-long = rw (h .heard) (passed-here .long)
@@ -127,29 +129,29 @@ module _ (words : List ℕ) (message : Control) (count : ℕ) (words′ : List �
     unfolding channelIn
     id-here id e = rw (e, id-same, same-slot) (fitting-here .unreserved)
 
-    module _ (id : ℕ) (read : id ≡ getD words′ (from + ID) 0) (part : List ℕ) (is : part ≡ heardPart (statusIn message id) (windowIn message id) (take (from + SLOT - from) (drop from words′))) where
-      part-is : part ≡ heardSlot message (slot words′ at)
+    module _ (id : ℕ) (read : id ≡ getD words′ (from + ID) 0) (part : List ℕ) (is : part ≡ heardPart (status id) (window id) (take (from + SLOT - from) (drop from words′))) where
+      part-is : part ≡ toldSlot status window (slot words′ at)
       part-is = is ∙ rw (lent-slot, read, id-same)
 
-      turn-words : putMid from (from + SLOT - from) words′ part ≡ heardSlots message words (suc at)
-      unfolding heardSlots putSlot
+      turn-words : putMid from (from + SLOT - from) words′ part ≡ toldSlots status window words (suc at)
+      unfolding toldSlots putSlot
       turn-words = let n : from + SLOT - from ≡ SLOT = omega arith in rw (n, part-is, drop-drop, h .from-is, h .heard)
 
-      pub hears-turn : Hears words message count (putMid from (from + SLOT - from) words′ part) (at + 1) (from + SLOT)
+      pub hears-turn : Hears words status window count (putMid from (from + SLOT - from) words′ part) (at + 1) (from + SLOT)
       hears-turn = record {
         fits = h .fits;
         count-is = h .count-is;
         inside = omega arith;
         from-is = omega (arith, h .from-is);
-        heard = turn-words ∙ ap (heardSlots message words) (sym (add-one at));
+        heard = turn-words ∙ ap (toldSlots status window words) (sym (add-one at));
       }
 
-  pub hears-end : count ≤ at → words′ ≡ heardSlots message words (word words COUNT-WORD)
-  hears-end over = let all : at ≡ word words COUNT-WORD = omega (arith, h .inside, h .count-is) in h .heard ∙ ap (heardSlots message words) all
+  pub hears-end : count ≤ at → words′ ≡ toldSlots status window words (word words COUNT-WORD)
+  hears-end over = let all : at ≡ word words COUNT-WORD = omega (arith, h .inside, h .count-is) in h .heard ∙ ap (toldSlots status window words) all
 
 -- ---- the head has room after each of the three writes
 pub slots-room : (message : Control) (words w : List ℕ) → stateFits (stateIn words) ≡ true → w ≡ heardSlots message words (word words COUNT-WORD) → HEAD ≤ length w
-slots-room message words w t e = rw e (omega (arith, all-passed message words t .long, head-there words t))
+slots-room message words w t e = rw e (omega (arith, all-passed (statusIn message) (windowIn message) words t .long, head-there words t))
 
 pub instance-room : (given : Instance) (w w′ : List ℕ) → HEAD ≤ length w → w′ ≡ instanceHeard given w → HEAD ≤ length w′
 instance-room given w w′ h e = rw e (omega (arith, instance-length w given))

@@ -6,7 +6,7 @@ use mathlib.Core.Path.{_≡_, refl, ap, _∙_}
 use native.Mathlib.Omega.{arith}
 use lib.Dec.{eqb, ltb}
 use lib.ListN.{length, set, length-set}
-use lib.Seq.{drop-set-lt, getD-set-same, getD-set-other}
+use lib.Seq.{getD-set-same, getD-set-other}
 use Rattle.facts.specs.Tables.{tabulate}
 use Rattle.quantity.specs.Limits.{MOST-WAITING}
 use Rattle.meaning.specs.declared.message.Status.{Status}
@@ -18,8 +18,9 @@ use Rattle.flow.specs.declared.Flow.{Flow}
 use Rattle.flow.specs.Counting.{flowAfter}
 use Rattle.ips_channel.specs.Channel.{heardOf}
 use Rattle.ips_radio.specs.Heard.{keptInstance}
-use Rattle.ips_words.specs.Words.{HEAD, FIXED, ENTRY, EXPIRY, SLOT, ID, KIND, CONTROLLED, SIZE, STATUS-TAG, STATUS-VALUE, FLOW-TAG, FLOW-WINDOW, IN-FORCE, SEQUENCE, LATEST, WAITING, GIVEN, INSTANCE-TAG, INSTANCE-VALUE, INSTANCE-LENGTH, CONTEXT-TAG, CONTEXT-VALUE, CONTEXT-LENGTH, word, slot, slotStart, entryAt, entriesIn, queueIn, flowOf, instanceOf, contextOf, channelIn, spelled, statusTag, statusValue, flowTag, flowWindow}
+use Rattle.ips_words.specs.Words.{HEAD, FIXED, ENTRY, EXPIRY, SLOT, ID, KIND, CONTROLLED, SIZE, STATUS-TAG, STATUS-VALUE, FLOW-TAG, FLOW-WINDOW, IN-FORCE, SEQUENCE, LATEST, WAITING, GIVEN, INSTANCE-TAG, INSTANCE-VALUE, INSTANCE-LENGTH, CONTEXT-TAG, CONTEXT-VALUE, CONTEXT-LENGTH, word, slot, entryAt, entriesIn, queueIn, flowOf, instanceOf, contextOf, channelIn, spelled, statusTag, statusValue, flowTag, flowWindow}
 use Rattle.ips_words.proofs.Slots.{status-back, flow-back, status-few, flow-few, spelled-facts, spelled-by}
+use Rattle.ips_words.proofs.Pacers.{three-other, three-slot, three-first, three-second, three-third}
 use Rattle.ips_words_radio.specs.HeardWords.{statusHeard, flowHeard, heardPart, instanceHeard, contextTag, contextValue, contextSize, contextHeard}
 
 -- ---- one channel's words
@@ -146,32 +147,6 @@ pub flow-set : (w : List ℕ) (window : Window) (flow : Flow) (tag limit : ℕ) 
     → set (set w FLOW-TAG tag) FLOW-WINDOW limit ≡ flowHeard window w
 flow-set w window flow tag limit one e t l = rw (one, t, l, e)
 
--- ---- three of the endpoint's own words, one behind another
-module _ (w : List ℕ) (at a b d : ℕ) where
-  abbrev three : List ℕ
-  three = set (set (set w at a) (at + 1) b) (at + 2) d
-
-  three-other : (k : ℕ) → (k ≡ at → ⊥) → (k ≡ at + 1 → ⊥) → (k ≡ at + 2 → ⊥) → word three k ≡ word w k
-  three-other k e f g = getD-set-other (set (set w at a) (at + 1) b) (at + 2) k d 0 g ∙ getD-set-other (set w at a) (at + 1) k b 0 f ∙ getD-set-other w at k a 0 e
-
-  three-slot : at + 2 < HEAD → (i : ℕ) → slot three i ≡ slot w i
-  unfolding slot
-  three-slot h i =
-      rw (drop-set-lt (slotStart i) (set (set w at a) (at + 1) b) (at + 2) d (omega arith), drop-set-lt (slotStart i) (set w at a) (at + 1) b (omega arith), drop-set-lt (slotStart i) w at a (omega arith))
-
-  module _ (room : at + 3 ≤ length w) where
-    three-first : word three at ≡ a
-    three-first =
-        getD-set-other (set (set w at a) (at + 1) b) (at + 2) at d 0 (λ e. omega arith)
-        ∙ getD-set-other (set w at a) (at + 1) at b 0 (λ e. omega arith)
-        ∙ getD-set-same w at a 0 (omega arith)
-
-    three-second : word three (at + 1) ≡ b
-    three-second = getD-set-other (set (set w at a) (at + 1) b) (at + 2) (at + 1) d 0 (λ e. omega arith) ∙ getD-set-same (set w at a) (at + 1) b 0 (simp length-set (omega arith))
-
-    three-third : word three (at + 2) ≡ d
-    three-third = getD-set-same (set (set w at a) (at + 1) b) (at + 2) d 0 (simp length-set (omega arith))
-
 -- ---- the Link Instance
 module _ (w : List ℕ) where
   pub instance-length : (given : Instance) → length (instanceHeard given w) ≡ length w
@@ -185,6 +160,10 @@ module _ (w : List ℕ) where
   pub instance-before : (given : Instance) (k : ℕ) → k < INSTANCE-TAG → word (instanceHeard given w) k ≡ word w k
   instance-before Instance.Absent k h = refl
   instance-before (Instance.Given id size) k h = three-other w INSTANCE-TAG GIVEN (id .0) size k (λ e. omega arith) (λ e. omega arith) (λ e. omega arith)
+
+  pub instance-behind : (given : Instance) (k : ℕ) → INSTANCE-LENGTH < k → word (instanceHeard given w) k ≡ word w k
+  instance-behind Instance.Absent k h = refl
+  instance-behind (Instance.Given id size) k h = three-other w INSTANCE-TAG GIVEN (id .0) size k (λ e. omega arith) (λ e. omega arith) (λ e. omega arith)
 
   module _ (room : HEAD ≤ length w) where
     pub instance-said : (given : Instance)
@@ -221,6 +200,10 @@ module _ (w : List ℕ) (given : Context) where
   pub context-before : (k : ℕ) → k < CONTEXT-TAG → word (contextHeard given w) k ≡ word w k
   unfolding contextHeard
   context-before k h = three-other w CONTEXT-TAG _ _ _ k (λ e. omega arith) (λ e. omega arith) (λ e. omega arith)
+
+  pub context-behind : (k : ℕ) → CONTEXT-LENGTH < k → word (contextHeard given w) k ≡ word w k
+  unfolding contextHeard
+  context-behind k h = three-other w CONTEXT-TAG _ _ _ k (λ e. omega arith) (λ e. omega arith) (λ e. omega arith)
 
   module _ (room : HEAD ≤ length w) where
     pub tag-written : word (contextHeard given w) CONTEXT-TAG ≡ contextTag given

@@ -1,7 +1,8 @@
--- Document 01, "A channel's life": "Radio control message accepted", in the lent words: which of them are written, and that every other one stands.
+-- Document 01, "A channel's life": "Radio control message accepted", and document 02, §1, a silence, in the lent words: which of them are written, and that every other
+-- one stands.
 use Prim.Native.Nat.{ℕ, zero, suc, _^_, _<_}
 use mathlib.Core.Bool.{cond}
-use mathlib.Core.List.{List, [], _∷_}
+use mathlib.Core.List.{List}
 use lib.ListN.{set}
 use lib.Dec.{eqb}
 use Rattle.meaning.specs.declared.message.Status.{Status}
@@ -10,8 +11,10 @@ use Rattle.meaning.specs.declared.message.Instance.{Instance}
 use Rattle.meaning.specs.declared.message.Context.{Context}
 use Rattle.meaning.specs.declared.message.Control.{Control}
 use Rattle.flow.specs.Counting.{flowAfter}
+use Rattle.pacer.specs.Pacing.{isSilent, asked, heardAt, movedTo}
 use Rattle.ips_radio.specs.Heard.{statusIn, windowIn}
-use Rattle.ips_words.specs.Words.{ID, KIND, CONTROLLED, STATUS-TAG, STATUS-VALUE, FLOW-TAG, FLOW-WINDOW, COUNT-WORD, ABSENT, GIVEN, INSTANCE-TAG, INSTANCE-VALUE, INSTANCE-LENGTH, CONTEXT-TAG, CONTEXT-VALUE, CONTEXT-LENGTH, word, slot, putSlot, statusTag, statusValue, flowTag, flowWindow}
+use Rattle.ips_run.specs.Run.{Received, dropped, carried, stated}
+use Rattle.ips_words.specs.Words.{ID, KIND, CONTROLLED, STATUS-TAG, STATUS-VALUE, FLOW-TAG, FLOW-WINDOW, COUNT-WORD, ABSENT, GIVEN, INSTANCE-TAG, INSTANCE-VALUE, INSTANCE-LENGTH, CONTEXT-TAG, CONTEXT-VALUE, CONTEXT-LENGTH, word, slot, pacerIn, putSlot, putPacer, statusTag, statusValue, flowTag, flowWindow}
 
 -- ---- one channel's words: "a configured channel that it names takes its Status; one that it doesn't name is not reported"
 abbrev pub statusHeard : Status → List ℕ → List ℕ
@@ -25,14 +28,31 @@ flowHeard window w =
 unfoldable pub heardPart : Status → Window → List ℕ → List ℕ
 heardPart status window w = flowHeard window (statusHeard status w)
 
--- what the message states of the channel's own Channel ID
-abbrev pub heardSlot : Control → List ℕ → List ℕ
-heardSlot message w = heardPart (statusIn message (word w ID)) (windowIn message (word w ID)) w
+-- a channel is told something by its own Channel ID
+abbrev pub toldSlot : (status : ℕ → Status) (window : ℕ → Window) → List ℕ → List ℕ
+toldSlot status window w = heardPart (status (word w ID)) (window (word w ID)) w
 
 -- the first channels, so many: "Unconfigured channels are skipped."
-unfoldable pub heardSlots : Control → List ℕ → ℕ → List ℕ
-heardSlots message words zero = words
-heardSlots message words (suc n) = let before = heardSlots message words n in putSlot before n (heardSlot message (slot before n))
+unfoldable pub toldSlots : (status : ℕ → Status) (window : ℕ → Window) → List ℕ → ℕ → List ℕ
+toldSlots status window words zero = words
+toldSlots status window words (suc n) = let before = toldSlots status window words n in putSlot before n (toldSlot status window (slot before n))
+
+-- what a message states of each Channel ID
+abbrev pub heardSlot : Control → List ℕ → List ℕ
+heardSlot message w = toldSlot (statusIn message) (windowIn message) w
+
+abbrev pub heardSlots : Control → List ℕ → ℕ → List ℕ
+heardSlots message words n = toldSlots (statusIn message) (windowIn message) words n
+
+-- THE WORDS AFTER A SILENCE, document 02, §1: "every channel becomes not reported and every flow-controlled one has no window"
+abbrev pub silencedSlot : List ℕ → List ℕ
+silencedSlot w = heardPart Status.Absent Window.Empty w
+
+abbrev pub silencedSlots : List ℕ → ℕ → List ℕ
+silencedSlots words n = toldSlots (λ id. Status.Absent) (λ id. Window.Empty) words n
+
+unfoldable pub silencedWords : List ℕ → List ℕ
+silencedWords words = silencedSlots words (word words COUNT-WORD)
 
 -- ---- the endpoint's own words: "Link Instance is kept when given."
 abbrev pub instanceHeard : Instance → List ℕ → List ℕ
@@ -59,10 +79,15 @@ contextHeard given words = set (set (set words CONTEXT-TAG (contextTag given)) C
 unfoldable pub heardWords : Control → List ℕ → List ℕ
 heardWords message words = contextHeard (message .context) (instanceHeard (message .instance) (heardSlots message words (word words COUNT-WORD)))
 
--- the messages that a datagram brings: none, or one
-abbrev pub hearEachIn : List Control → List ℕ → List ℕ
-hearEachIn [] words = words
-hearEachIn (message ∷ messages) words = hearEachIn messages (heardWords message words)
+-- ---- with the pacer's times: a datagram from the radio, as `received` has it of the state
+abbrev pub receivedWords : (time : ℕ) → Received → List ℕ → List ℕ
+receivedWords time dropped words = words
+receivedWords time carried words = putPacer words (movedTo time (pacerIn words))
+receivedWords time (stated message) words = putPacer (heardWords message words) (heardAt time (pacerIn words))
+
+-- and the pacer asked, as `pacedBy` has it
+unfoldable pub pacedWords : (time : ℕ) → List ℕ → List ℕ
+pacedWords time words = putPacer (cond (isSilent time (pacerIn words)) (silencedWords words) words) (asked time (pacerIn words))
 
 -- ---- a message whose numbers are no wider than their words are read
 pub record Slender (message : Control) : Type 0 where

@@ -1,11 +1,12 @@
-// An accepted radio control message in the lent words: only a configured channel's status and flow state are written, and the endpoint's Link Instance and Context.
+// An accepted radio control message in the lent words, and a silence: only a configured channel's status and flow state are written, and by a message the endpoint's
+// Link Instance and Context.
 ghost use mathlib.Core.Path.{_≡_};
 ghost use mathlib.Core.Bool.{true};
 ghost use Prim.Native.Nat.{_≤_};
 ghost use lib.ListN.{length};
 ghost use Rattle.ips_state.specs.Limits.{stateFits};
 ghost use Rattle.ips_words.specs.Words.{HEAD, SLOT, COUNT-WORD, word, stateIn};
-ghost use Rattle.ips_words_radio.specs.HeardWords.{statusHeard, flowHeard, heardPart, heardSlots, instanceHeard, contextHeard, heardWords};
+ghost use Rattle.ips_words_radio.specs.HeardWords.{statusHeard, flowHeard, heardPart, heardSlots, silencedSlot, silencedWords, instanceHeard, contextHeard, heardWords};
 use flow::Flow;
 use ips_words::layout::ABSENT;
 use ips_words::layout::CONTEXT_LENGTH;
@@ -30,7 +31,9 @@ use ips_words::waiting;
 use meaning::message::Context;
 use meaning::message::Control;
 use meaning::message::Instance;
+use meaning::message::Status;
 use meaning::message::StatusCell;
+use meaning::message::Window;
 use meaning::message::WindowCell;
 
 // A channel that the message doesn't name is not reported.
@@ -124,4 +127,36 @@ pub fn hear(words: &mut [u64], message: Control)
     hear_slots(words, message);
     hear_instance(words, instance);
     hear_context(words, context);
+}
+
+// A silence reports nothing of a channel, and gives it no window.
+fn silence_slot(part: &mut [u64])
+    requires { ⌜ length (now part) ≡ SLOT ⌝ }
+    ensures { λ _. ⌜ now (part .exit) ≡ silencedSlot (now (part .entry)) ⌝ }
+{
+    hear_slot(
+        part,
+        StatusCell {
+            status: Status::Absent,
+        },
+        WindowCell {
+            window: Window::Empty,
+        },
+    );
+}
+
+// The words after a silence: every configured channel's, and none of the endpoint's own.
+pub fn silence(words: &mut [u64])
+    requires { ⌜ stateFits (stateIn (now words)) ≡ true ⌝ }
+    ensures { λ _. ⌜ now (words .exit) ≡ silencedWords (now (words .entry)) ⌝ }
+{
+    let count = waiting::narrow(words[COUNT_WORD]);
+    let mut at = 0;
+    let mut from = HEAD;
+    while at < count {
+        let end = from + SLOT;
+        silence_slot(&mut words[from..end]);
+        at += 1;
+        from = end;
+    }
 }

@@ -9,13 +9,15 @@ use lib.Dec.{eqb, leb, ltb}
 use lib.ListN.{length, replicate}
 use Rattle.facts.proofs.Tests.{clash}
 use Rattle.quantity.specs.Limits.{FEWEST-CHANNELS, MOST-CHANNELS, RESERVED-CHANNEL}
+use Rattle.quantity.specs.Refusals.{OUTSIDE-LIMITS, NO-WAIT}
+use Rattle.pacer.specs.Pacing.{freshPacer, pacerFits}
 use Rattle.ips_state.specs.declared.StartAnswer.{StartAnswer}
 use Rattle.ips_state.specs.State.{freshOf, freshState}
-use Rattle.ips_state.specs.Limits.{startsFit, sizes, countFits, configurationFitsUnder, configurationFits}
+use Rattle.ips_state.specs.Limits.{startsFit, sizes, countFits, configurationFitsUnder, configurationFits, waitsFit}
 use Rattle.ips_state.specs.Memory.{memoryFits}
 use Rattle.ips_words.specs.Words.{word, wordsFor}
 use Rattle.ips_words_start.specs.declared.judge.Judged.{Judged}
-use Rattle.ips_words_start.specs.Start.{CONFIGURED-DATALINK, CONFIGURED-COUNT, START-ID, configurationLength, startWord, startIn, startsOf, startsSpelled, configurationOf, configurationReadable, configurationIn, headWords, slotsOf, freshWords, startsInUnder, startsIn, notStarted, StartedIn, judgedBy, judgedOf, Startable}
+use Rattle.ips_words_start.specs.Start.{CONFIGURED-DATALINK, CONFIGURED-COUNT, CONFIGURED-HELLO, CONFIGURED-LIMIT, START-ID, configurationLength, startWord, startIn, startsOf, startsSpelled, configurationOf, configurationReadable, configurationIn, headWords, slotsOf, freshWords, startsInUnder, startsIn, notStarted, StartedIn, judgedBy, judgedOf, Startable}
 use Rattle.ips_words_start.proofs.Starts.{starts-length, starts-at, setting-fit, starts-fit-at, first-at}
 use Rattle.ips_words_start.proofs.Judging.{says, unreadable}
 
@@ -92,10 +94,10 @@ module _ (w : List ℕ) where
 
     -- ---- the ways out
     module _ (words memory : List ℕ) where
-      refused-start : startsIn w words memory ≡ false → (r : StartAnswer) → r ≡ notStarted → StartedIn w words memory r words memory
+      refused-start : startsIn w words memory ≡ false → (r : StartAnswer) → r ≡ notStarted OUTSIDE-LIMITS → StartedIn w words memory r words memory
       refused-start e r not-started = record { answer-is = not-started ∙ rw e; words-are = rw e; memory-is = rw e }
 
-      pub begin-unfit : judged .fits ≡ false → (r : StartAnswer) → r ≡ notStarted → StartedIn w words memory r words memory
+      pub begin-unfit : judged .fits ≡ false → (r : StartAnswer) → r ≡ notStarted OUTSIDE-LIMITS → StartedIn w words memory r words memory
       unfolding startsInUnder
       begin-unfit e = refused-start (rw (sym fits-is ∙ e))
 
@@ -103,13 +105,13 @@ module _ (w : List ℕ) where
         fits : configurationFits (configurationIn w) ≡ true
         fits = judged-fits good
 
-        pub begin-memory : (judged .total .0 ≡ length memory → ⊥) → (r : StartAnswer) → r ≡ notStarted → StartedIn w words memory r words memory
+        pub begin-memory : (judged .total .0 ≡ length memory → ⊥) → (r : StartAnswer) → r ≡ notStarted OUTSIDE-LIMITS → StartedIn w words memory r words memory
         unfolding startsInUnder memoryFits
         begin-memory f =
             refused-start (rw (ne-eqb (length memory) (sizes (freshState (configurationIn w) .channels)) (λ e. f (stores-are good ∙ sym e)), and-false))
 
         module _ (held : judged .total .0 ≡ length memory) (counted : ℕ) (counted-is : counted ≡ count) where
-          pub begin-words : (length words ≡ wordsFor counted → ⊥) → (r : StartAnswer) → r ≡ notStarted → StartedIn w words memory r words memory
+          pub begin-words : (length words ≡ wordsFor counted → ⊥) → (r : StartAnswer) → r ≡ notStarted OUTSIDE-LIMITS → StartedIn w words memory r words memory
           unfolding startsInUnder
           begin-words f =
               refused-start (rw (count-is fits, ne-eqb (length words) (wordsFor count) (λ e. f (e ∙ ap wordsFor (sym counted-is))), and-false, and-false))
@@ -120,14 +122,27 @@ module _ (w : List ℕ) where
             starts =
                 rw (fits, count-is fits, eq-eqb (length memory) (sizes (freshState (configurationIn w) .channels)) (sym held ∙ stores-are good), eq-eqb (length words) (wordsFor count) (room ∙ ap wordsFor counted-is))
 
-            words-fresh : headWords (word w CONFIGURED-DATALINK) count ++ slotsOf (map freshOf (startsOf w count)) ≡ freshWords (configurationIn w)
+            words-fresh : headWords (word w CONFIGURED-DATALINK) count (word w CONFIGURED-HELLO) (word w CONFIGURED-LIMIT) ++ slotsOf (map freshOf (startsOf w count)) ≡ freshWords (configurationIn w)
             unfolding freshWords configurationOf
             words-fresh = rw (count-is fits, says w (fits-readable fits))
 
-            pub begun : (words′ memory′ : List ℕ) → words′ ≡ headWords (word w CONFIGURED-DATALINK) counted ++ slotsOf (map freshOf (startsOf w counted))
-                → memory′ ≡ replicate (length memory) 0 → StartedIn w words memory StartAnswer.Started words′ memory′
-            begun words′ memory′ written zeros = record {
-              answer-is = rw starts;
-              words-are = rw starts (written ∙ rw counted-is words-fresh);
-              memory-is = rw starts zeros;
-            }
+            module _ (waits : Bool) (tested : waits ≡ pacerFits (freshPacer (word w CONFIGURED-HELLO) (word w CONFIGURED-LIMIT))) where
+              waits-are : waitsFit (configurationIn w) ≡ waits
+              unfolding configurationOf
+              waits-are = rw (says w (fits-readable fits)) (sym tested)
+
+              pub begin-waits : waits ≡ false → (r : StartAnswer) → r ≡ notStarted NO-WAIT → StartedIn w words memory r words memory
+              begin-waits e r not-started =
+                  let none : waitsFit (configurationIn w) ≡ false = waits-are ∙ e in
+                  record { answer-is = not-started ∙ rw (starts, none); words-are = rw (starts, none); memory-is = rw (starts, none) }
+
+              pub begun : waits ≡ true → (words′ memory′ : List ℕ)
+                  → words′ ≡ headWords (word w CONFIGURED-DATALINK) counted (word w CONFIGURED-HELLO) (word w CONFIGURED-LIMIT) ++ slotsOf (map freshOf (startsOf w counted))
+                  → memory′ ≡ replicate (length memory) 0 → StartedIn w words memory StartAnswer.Started words′ memory′
+              begun e words′ memory′ written zeros =
+                  let both : waitsFit (configurationIn w) ≡ true = waits-are ∙ e in
+                  record {
+                    answer-is = rw (starts, both);
+                    words-are = rw (starts, both) (written ∙ rw counted-is words-fresh);
+                    memory-is = rw (starts, both) zeros;
+                  }

@@ -1,29 +1,30 @@
 -- A start is not refused exactly where `StartsExactly` says so, fact by fact; and what it leaves. Assumes nothing.
 use Prim.Native.Nat.{ℕ, zero, suc, _+_, _*_, _^_, _≤_, _<_}
-use mathlib.Core.Bool.{Bool, true, false, _&&_, and-eq-true-iff}
+use mathlib.Core.Bool.{Bool, true, false, _&&_, and-false, and-eq-true-iff}
 use mathlib.Core.List.{List, [], _∷_, map}
+use mathlib.Core.Logic.{_⊎_, inl, inr, ⊎-elim}
 use mathlib.Core.Path.{_≡_, refl, sym, ap, _∙_}
 use native.Mathlib.Numerals.{add-one}
 use native.Mathlib.Omega.{arith}
-use borrow.Author.Tests.{leb-true, eqb-true, le-leb, lt-ltb, eq-eqb}
-use lib.Dec.{eqb, leb}
+use borrow.Author.Tests.{leb-true, ltb-true, eqb-true, le-leb, lt-ltb, eq-eqb}
+use lib.Dec.{eqb, leb, ltb}
 use lib.ListN.{length, getD, take, replicate, length-map, List·getD-map}
 use lib.Seq.{take-all}
-use Rattle.facts.proofs.Tests.{clash}
+use Rattle.facts.proofs.Tests.{clash, by-le}
 use Rattle.quantity.specs.Limits.{FEWEST-CHANNELS, MOST-CHANNELS}
-use Rattle.quantity.specs.Refusals.{OUTSIDE-LIMITS}
+use Rattle.quantity.specs.Refusals.{OUTSIDE-LIMITS, NO-WAIT}
 use Rattle.quantity.specs.declared.refusal.Refusal.{Refusal}
 use Rattle.meaning.specs.Kinds.{among}
 use Rattle.ips_state.specs.declared.StartAnswer.{StartAnswer}
 use Rattle.ips_state.specs.State.{ChannelStart, noStart, freshOf, freshState}
-use Rattle.ips_state.specs.Limits.{settingFits, startsFit, startIds, distinct, sizes, indexOf, configurationFits}
+use Rattle.ips_state.specs.Limits.{settingFits, startsFit, startIds, distinct, sizes, indexOf, configurationFits, waitsFit}
 use Rattle.ips_state.specs.Memory.{memoryFits}
 use Rattle.ips_state.proofs.Channels.{StandsAt, stands-among, index-stands, distinct-index, distinct-by}
 use Rattle.ips_words.specs.Words.{CONTROLLED, word, wordsFor, stateIn}
-use Rattle.ips_words_start.specs.Start.{CONFIGURED-DATALINK, CONFIGURED-COUNT, START-KIND, START-FIRST, configurationLength, startWord, startIn, startsOf, startsSpelled, configurationReadable, configurationIn, freshWords, startsInUnder, startsIn, notStarted, StartedIn, togetherFit}
-use Rattle.ips_words_start.specs.Exactly.{storesIn, StartsExactly}
+use Rattle.ips_words_start.specs.Start.{CONFIGURED-DATALINK, CONFIGURED-COUNT, START-KIND, START-FIRST, configurationLength, startWord, startIn, startsOf, startsSpelled, configurationOf, configurationReadable, configurationIn, freshWords, startsInUnder, startsIn, notStarted, StartedIn, togetherFit}
+use Rattle.ips_words_start.specs.Exactly.{storesIn, StartsExactly, WaitsExactly}
 use Rattle.ips_words_start.proofs.Starts.{starts-length, starts-at, one-more, stores-more, setting-fit, starts-fit-at, spelled-at, first-at}
-use Rattle.ips_words_start.proofs.Judging.{counted}
+use Rattle.ips_words_start.proofs.Judging.{says, counted}
 use Rattle.ips_words_start.proofs.Beginning.{said, fits-readable, starts-are, count-is}
 use Rattle.ips_words_start.proofs.FreshWords.{fresh-in-words}
 
@@ -33,10 +34,10 @@ module _ (w : List ℕ) (count : ℕ) where
   unfolding startIds
   ids-long = length-map (startsOf w count) _ ∙ starts-length w count
 
-  id-at : (i : ℕ) → i < count → getD (startIds (startsOf w count)) i 0 ≡ getD w (2 + 4 * i) 0
+  id-at : (i : ℕ) → i < count → getD (startIds (startsOf w count)) i 0 ≡ getD w (4 + 4 * i) 0
   unfolding startIds startIn
   id-at i h =
-      let none : 2 + 4 * i + 0 ≡ 2 + 4 * i = omega arith in
+      let none : 4 + 4 * i + 0 ≡ 4 + 4 * i = omega arith in
       List·getD-map (λ (k : ChannelStart). k .setting .id) (startsOf w count) i noStart ∙ rw (starts-at w count i h, none)
 
   stores-to : (n : ℕ) → n ≤ count → sizes (map freshOf (take n (startsOf w count))) ≡ storesIn w n
@@ -56,18 +57,18 @@ module _ (w : List ℕ) (count : ℕ) where
     setting-at : (i : ℕ) → i < count → settingFits (startIn w i .setting) ≡ true
     setting-at i h = rw (starts-at w count i h) at (starts-fit-at (startsOf w count) i (omega (arith, starts-length w count)) (parts .0))
 
-    id-below : (i : ℕ) → i < count → getD w (2 + 4 * i) 0 < 255
+    id-below : (i : ℕ) → i < count → getD w (4 + 4 * i) 0 < 255
     unfolding startIn
-    id-below i h = let none : 2 + 4 * i + 0 ≡ 2 + 4 * i = omega arith in rw none at (setting-fit (startIn w i .setting) (setting-at i h) .unreserved)
+    id-below i h = let none : 4 + 4 * i + 0 ≡ 4 + 4 * i = omega arith in rw none at (setting-fit (startIn w i .setting) (setting-at i h) .unreserved)
 
-    size-within : (i : ℕ) → i < count → (1500 ≤ getD w (2 + 4 * i + 3) 0) × (getD w (2 + 4 * i + 3) 0 ≤ 65536)
+    size-within : (i : ℕ) → i < count → (1500 ≤ getD w (4 + 4 * i + 3) 0) × (getD w (4 + 4 * i + 3) 0 ≤ 65536)
     unfolding startIn
     size-within i h = let f = setting-fit (startIn w i .setting) (setting-at i h) in (f .smallest, f .largest)
 
-    ids-apart : (i j : ℕ) → i < count → j < count → getD w (2 + 4 * i) 0 ≡ getD w (2 + 4 * j) 0 → i ≡ j
+    ids-apart : (i j : ℕ) → i < count → j < count → getD w (4 + 4 * i) 0 ≡ getD w (4 + 4 * j) 0 → i ≡ j
     ids-apart i j h l e =
-        sym (distinct-index (startIds (startsOf w count)) (getD w (2 + 4 * i) 0) i (parts .1) (record { inside = omega (arith, ids-long); is = id-at i h }))
-        ∙ distinct-index (startIds (startsOf w count)) (getD w (2 + 4 * i) 0) j (parts .1) (record { inside = omega (arith, ids-long); is = id-at j l ∙ sym e })
+        sym (distinct-index (startIds (startsOf w count)) (getD w (4 + 4 * i) 0) i (parts .1) (record { inside = omega (arith, ids-long); is = id-at i h }))
+        ∙ distinct-index (startIds (startsOf w count)) (getD w (4 + 4 * i) 0) j (parts .1) (record { inside = omega (arith, ids-long); is = id-at j l ∙ sym e })
 
     primary-stands : StandsAt 0 (startIds (startsOf w count)) (indexOf 0 (startIds (startsOf w count)))
     primary-stands = index-stands 0 (startIds (startsOf w count)) (parts .2)
@@ -84,9 +85,14 @@ unfolding startsFit
 starts-fit-by [] h = refl
 starts-fit-by (k ∷ ks) h = rw (h 0 (omega arith), starts-fit-by ks (λ i l. h (suc i) (omega arith)))
 
+abbrev numbered : StartAnswer → ℕ
+numbered StartAnswer.Started = 0
+numbered (StartAnswer.Refused refusal) = refusal .number
+
 -- what a start that is not refused leaves
 pub record StartLeaves (w memory words′ memory′ : List ℕ) : Type 0 where
   pub configuration-fits : configurationFits (configurationIn w) ≡ true
+  pub waits-fit : waitsFit (configurationIn w) ≡ true
   pub memory-long : length memory ≡ sizes (freshState (configurationIn w) .channels)
   pub words-are : words′ ≡ freshWords (configurationIn w)
   pub state-is : stateIn words′ ≡ freshState (configurationIn w)
@@ -133,7 +139,7 @@ module _ (w words memory : List ℕ) where
     unfolding startIn
     setting-by i h =
         let inside : i < number = omega (arith, starts-length w number) in
-        let none : 2 + 4 * i + 0 ≡ 2 + 4 * i = omega arith in
+        let none : 4 + 4 * i + 0 ≡ 4 + 4 * i = omega arith in
         rw (starts-at w number i inside, none, lt-ltb _ _ (x .ids i inside), le-leb _ _ (x .smallest i inside), le-leb _ _ (x .largest i inside))
 
     together-by : togetherFit (startsOf w number) ≡ true
@@ -157,37 +163,89 @@ module _ (w words memory : List ℕ) where
     exactly-starts =
         rw (fits-by, starts-are w fits-by, starts-length w number, stores-all w number, eq-eqb (length memory) (storesIn w number) (x .stores), eq-eqb (length words) (wordsFor number) (x .room))
 
-  -- ---- of the call: started exactly when
+  starts-parts : startsIn w words memory ≡ true → (configurationFits (configurationIn w) ≡ true) × (length memory ≡ sizes (freshState (configurationIn w) .channels))
+  unfolding startsInUnder memoryFits
+  starts-parts e =
+      let a = and-eq-true-iff (configurationFits (configurationIn w)) _ .0 e in
+      let b = and-eq-true-iff (eqb (length memory) (sizes (freshState (configurationIn w) .channels))) _ .0 (a .1) in
+      (a .0, eqb-true _ _ (b .0))
+
+  -- ---- the two waits, of words that say a configuration
+  module _ (starts : startsIn w words memory ≡ true) where
+    waits-are : waitsFit (configurationIn w) ≡ (ltb 0 (getD w 2 0) && ltb 0 (getD w 3 0))
+    unfolding configurationOf
+    waits-are = rw (says w (fits-readable w (starts-parts starts .0)))
+
+    waits-exactly : waitsFit (configurationIn w) ≡ true → WaitsExactly w
+    waits-exactly e =
+        let a = and-eq-true-iff (ltb 0 (getD w 2 0)) (ltb 0 (getD w 3 0)) .0 (sym waits-are ∙ e) in
+        record { hello = ltb-true 0 (getD w 2 0) (a .0); limit = ltb-true 0 (getD w 3 0) (a .1) }
+
+    exactly-waits : WaitsExactly w → waitsFit (configurationIn w) ≡ true
+    exactly-waits x = waits-are ∙ rw (lt-ltb 0 (getD w 2 0) (x .hello), lt-ltb 0 (getD w 3 0) (x .limit))
+
+    wait-missing : waitsFit (configurationIn w) ≡ false → (getD w 2 0 ≡ 0) ⊎ (getD w 3 0 ≡ 0)
+    wait-missing e = by-le (getD w 2 0) 0 (λ (h : getD w 2 0 ≤ 0). inl (omega arith)) (λ (h : 0 < getD w 2 0).
+        by-le (getD w 3 0) 0 (λ (l : getD w 3 0 ≤ 0). inr (omega arith)) (λ (l : 0 < getD w 3 0). clash (sym e ∙ exactly-waits (record { hello = h; limit = l }))))
+
+    missing-wait : (getD w 2 0 ≡ 0) ⊎ (getD w 3 0 ≡ 0) → waitsFit (configurationIn w) ≡ false
+    missing-wait =
+        ⊎-elim (λ (e : getD w 2 0 ≡ 0). waits-are ∙ rw e) (λ (e : getD w 3 0 ≡ 0). waits-are ∙ rw (e, and-false))
+
+  -- ---- of the call: started, 22 and 19, each exactly when
   module _ {answer : StartAnswer} {words′ memory′ : List ℕ} (started : StartedIn w words memory answer words′ memory′) where
-    started-fits : answer ≡ StartAnswer.Started → startsIn w words memory ≡ true
-    started-fits e = go (startsIn w words memory) refl
+    by-way : {X : Type 0} → (startsIn w words memory ≡ true → waitsFit (configurationIn w) ≡ true → answer ≡ StartAnswer.Started → X)
+        → (startsIn w words memory ≡ true → waitsFit (configurationIn w) ≡ false → answer ≡ notStarted NO-WAIT → X)
+        → (startsIn w words memory ≡ false → answer ≡ notStarted OUTSIDE-LIMITS → X) → X
+    by-way {X = X} begins no-wait outside = go (startsIn w words memory) (waitsFit (configurationIn w)) refl refl
       where
-        go : (b : Bool) → startsIn w words memory ≡ b → b ≡ true
-        go true f = refl
-        go false f = let not : answer ≡ notStarted = rw f at (started .answer-is) in clash (cc)
+        go : (a b : Bool) → startsIn w words memory ≡ a → waitsFit (configurationIn w) ≡ b → X
+        go true true e f = begins e f (started .answer-is ∙ rw (e, f))
+        go true false e f = no-wait e f (started .answer-is ∙ rw (e, f))
+        go false b e f = outside e (started .answer-is ∙ rw e)
 
-    pub started-exactly : (answer ≡ StartAnswer.Started → StartsExactly w words memory) × (StartsExactly w words memory → answer ≡ StartAnswer.Started)
-    started-exactly = (λ e. starts-exactly (started-fits e), λ x. started .answer-is ∙ rw (exactly-starts x))
+    -- two answers with other numbers
+    apart-answers : {X : Type 0} (a b : StartAnswer) → answer ≡ a → answer ≡ b → (numbered a ≡ numbered b → ⊥) → X
+    apart-answers a b e f g = absurd (g (ap numbered (sym e ∙ f)))
 
-    -- what a start leaves, and that a refusal is 19 and leaves every word and byte
+    pub started-exactly : (answer ≡ StartAnswer.Started → StartsExactly w words memory × WaitsExactly w) × (StartsExactly w words memory → WaitsExactly w → answer ≡ StartAnswer.Started)
+    started-exactly = (
+      λ e. by-way (λ s t a. (starts-exactly s, waits-exactly s t)) (λ s t a. apart-answers _ _ e a (λ n. omega arith)) (λ s a. apart-answers _ _ e a (λ n. omega arith)),
+      λ x y. started .answer-is ∙ rw (exactly-starts x, exactly-waits (exactly-starts x) y),
+    )
+
+    pub no-wait-exactly : (answer ≡ StartAnswer.Refused (record { number = 22; place = 0 }) → StartsExactly w words memory × ((getD w 2 0 ≡ 0) ⊎ (getD w 3 0 ≡ 0)))
+        × (StartsExactly w words memory → (getD w 2 0 ≡ 0) ⊎ (getD w 3 0 ≡ 0) → answer ≡ StartAnswer.Refused (record { number = 22; place = 0 }))
+    no-wait-exactly = (
+      λ e. by-way (λ s t a. apart-answers _ _ e a (λ n. omega arith)) (λ s t a. (starts-exactly s, wait-missing s t)) (λ s a. apart-answers _ _ e a (λ n. omega arith)),
+      λ x y. started .answer-is ∙ rw (exactly-starts x, missing-wait (exactly-starts x) y),
+    )
+
+    pub outside-exactly : (answer ≡ StartAnswer.Refused (record { number = 19; place = 0 }) → StartsExactly w words memory → ⊥)
+        × ((StartsExactly w words memory → ⊥) → answer ≡ StartAnswer.Refused (record { number = 19; place = 0 }))
+    outside-exactly = (
+      λ e x. by-way (λ s t a. apart-answers _ _ e a (λ n. omega arith)) (λ s t a. apart-answers _ _ e a (λ n. omega arith)) (λ s a. clash (sym s ∙ exactly-starts x)),
+      λ f. by-way (λ s t a. absurd (f (starts-exactly s))) (λ s t a. absurd (f (starts-exactly s))) (λ s a. a),
+    )
+
+    -- what a start leaves, and that a refusal is 19 or 22 and leaves every word and byte
     pub started-leaves : answer ≡ StartAnswer.Started → StartLeaves w memory words′ memory′
-    unfolding startsInUnder memoryFits
-    started-leaves e =
-        let fits = started-fits e in
-        let a = and-eq-true-iff (configurationFits (configurationIn w)) _ .0 fits in
-        let b = and-eq-true-iff (eqb (length memory) (sizes (freshState (configurationIn w) .channels))) _ .0 (a .1) in
-        let words-are : words′ ≡ freshWords (configurationIn w) = rw fits at (started .words-are) in
-        record {
-          configuration-fits = a .0;
-          memory-long = eqb-true _ _ (b .0);
-          words-are = words-are;
-          state-is = rw words-are (fresh-in-words w);
-          zeros = rw fits at (started .memory-is);
-        }
-
-    pub refused-leaves : (refusal : Refusal) → answer ≡ StartAnswer.Refused refusal → (refusal ≡ record { number = OUTSIDE-LIMITS; place = 0 }) × (words′ ≡ words) × (memory′ ≡ memory)
-    refused-leaves refusal e = go (startsIn w words memory) refl
+    started-leaves e = by-way left (λ s t a. apart-answers _ _ e a (λ n. omega arith)) (λ s a. apart-answers _ _ e a (λ n. omega arith))
       where
-        go : (b : Bool) → startsIn w words memory ≡ b → (refusal ≡ record { number = OUTSIDE-LIMITS; place = 0 }) × (words′ ≡ words) × (memory′ ≡ memory)
-        go true f = let yes : answer ≡ StartAnswer.Started = rw f at (started .answer-is) in clash (cc)
-        go false f = let not : answer ≡ notStarted = rw f at (started .answer-is) in (cc, rw f at (started .words-are), rw f at (started .memory-is))
+        left : startsIn w words memory ≡ true → waitsFit (configurationIn w) ≡ true → answer ≡ StartAnswer.Started → StartLeaves w memory words′ memory′
+        left s t a =
+            let fits = starts-parts s in
+            let words-are : words′ ≡ freshWords (configurationIn w) = rw (s, t) at (started .words-are) in
+            record {
+              configuration-fits = fits .0;
+              waits-fit = t;
+              memory-long = fits .1;
+              words-are = words-are;
+              state-is = rw words-are (fresh-in-words w);
+              zeros = rw (s, t) at (started .memory-is);
+            }
+
+    pub refused-leaves : (refusal : Refusal) → answer ≡ StartAnswer.Refused refusal
+        → ((refusal ≡ record { number = OUTSIDE-LIMITS; place = 0 }) ⊎ (refusal ≡ record { number = NO-WAIT; place = 0 })) × (words′ ≡ words) × (memory′ ≡ memory)
+    refused-leaves refusal e =
+        by-way (λ s t a. let yes : StartAnswer.Started ≡ StartAnswer.Refused refusal = sym a ∙ e in clash (cc)) (λ s t a. (inr (cc), started .words-are ∙ rw (s, t), started .memory-is ∙ rw (s, t))) (λ s a. (inl (cc), started .words-are ∙ rw s, started .memory-is ∙ rw s))

@@ -11,9 +11,10 @@ use Rattle.facts.specs.Tables.{tabulate}
 use Rattle.facts.proofs.Tables.{length-tabulate, getD-tabulate}
 use Rattle.flow.specs.Counting.{firstFlow}
 use Rattle.ips_channel.specs.Channel.{freshChannel}
+use Rattle.pacer.specs.Pacing.{freshPacer}
 use Rattle.ips_state.specs.State.{ChannelStart, Configuration, noStart, noChannel, freshOf, freshState, blankConfiguration}
 use Rattle.ips_state.proofs.Channels.{getD-mapped}
-use Rattle.ips_words.specs.Words.{SLOT, DATALINK-WORD, COUNT-WORD, INSTANCE-TAG, CONTEXT-TAG, word, wordsFor, slot, channelIn, channelWords, instanceOf, contextOf, stateOf, stateIn, spelled, allSpelled, headSpelled, readable, flowWindow, Narrow}
+use Rattle.ips_words.specs.Words.{SLOT, DATALINK-WORD, COUNT-WORD, INSTANCE-TAG, CONTEXT-TAG, word, wordsFor, slot, channelIn, channelWords, instanceOf, contextOf, pacerIn, stateOf, stateIn, spelled, allSpelled, headSpelled, readable, flowWindow, Narrow}
 use Rattle.ips_words.proofs.Entries.{tidy-of}
 use Rattle.ips_words.proofs.Slots.{channel-back, words-spelled}
 use Rattle.ips_words_start.specs.Start.{CONFIGURED-COUNT, startIn, startsOf, configurationOf, configurationReadable, configurationIn, headWords, slotsOf, freshWords}
@@ -55,7 +56,7 @@ module _ (k : Configuration) where
 
   slot-fresh : (i : ℕ) → i < count → slot (freshWords k) i ≡ channelWords (freshOf (getD (k .starts) i noStart))
   unfolding slot freshWords
-  slot-fresh i h = rw (drop-append-add (headWords (k .datalink .0) count) (slotsOf (map freshOf (k .starts))) (SLOT * i)) (slots-at (k .starts) i h)
+  slot-fresh i h = rw (drop-append-add (headWords (k .datalink .0) count (k .hello) (k .limit)) (slotsOf (map freshOf (k .starts))) (SLOT * i)) (slots-at (k .starts) i h)
 
   pub fresh-words-length : length (freshWords k) ≡ wordsFor count
   unfolding freshWords
@@ -77,6 +78,10 @@ module _ (k : Configuration) where
   context-tag : word (freshWords k) CONTEXT-TAG ≡ 0
   unfolding freshWords
   context-tag = refl
+
+  pacer-words : pacerIn (freshWords k) ≡ freshPacer (k .hello) (k .limit)
+  unfolding freshWords
+  pacer-words = refl
 
   module _ (small : Small k) where
     spelled-fresh : (n : ℕ) → n ≤ count → allSpelled (freshWords k) n ≡ true
@@ -104,7 +109,7 @@ module _ (k : Configuration) where
 
     pub fresh-said : stateOf (freshWords k) ≡ freshState k
     unfolding stateOf freshState instanceOf contextOf
-    fresh-said = rw (datalink-word, count-word, instance-tag, context-tag, channels-fresh)
+    fresh-said = rw (datalink-word, count-word, instance-tag, context-tag, pacer-words, channels-fresh)
 
 -- ---- what words stand for has its numbers in range, also where they say nothing
 blank-small : Small blankConfiguration

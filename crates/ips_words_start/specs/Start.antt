@@ -8,19 +8,20 @@ use lib.ListN.{length, replicate}
 use lib.Dec.{eqb, leb, ltb}
 use Rattle.facts.specs.Tables.{tabulate}
 use Rattle.quantity.specs.Limits.{MOST-CHANNELS, RESERVED-CHANNEL}
-use Rattle.quantity.specs.Refusals.{OUTSIDE-LIMITS}
+use Rattle.quantity.specs.Refusals.{OUTSIDE-LIMITS, NO-WAIT}
 use Rattle.meaning.specs.Kinds.{among}
 use Rattle.ips_channel.specs.declared.state.Channel.{Channel}
 use Rattle.ips_state.specs.declared.StartAnswer.{StartAnswer}
 use Rattle.ips_state.specs.State.{ChannelStart, Configuration, freshOf, freshState, blankConfiguration}
-use Rattle.ips_state.specs.Limits.{settingFits, startsFit, startIds, distinct, sizes, configurationFitsUnder, configurationFits}
+use Rattle.ips_state.specs.Limits.{settingFits, startsFit, startIds, distinct, sizes, configurationFitsUnder, configurationFits, waitsFit}
 use Rattle.ips_state.specs.Memory.{memoryFits}
 use Rattle.ips_words.specs.Words.{CONTROLLED, ABSENT, word, wordsFor, channelWords}
 use Rattle.ips_words_start.specs.declared.judge.Judged.{Judged}
 
--- ---- a configuration in words: the Datalink ID, the count of channels, then for each channel its ID, its kind, its first sequence and the length of its store
+-- ---- a configuration in words: the Datalink ID, the count of channels, HelloTime, silence limit, then for each channel its ID, its kind, its first sequence and the
+-- length of its store
 abbrev pub CONFIGURATION-HEAD : ℕ
-CONFIGURATION-HEAD = 2
+CONFIGURATION-HEAD = 4
 
 abbrev pub CONFIGURATION-SLOT : ℕ
 CONFIGURATION-SLOT = 4
@@ -30,6 +31,12 @@ CONFIGURED-DATALINK = 0
 
 abbrev pub CONFIGURED-COUNT : ℕ
 CONFIGURED-COUNT = 1
+
+abbrev pub CONFIGURED-HELLO : ℕ
+CONFIGURED-HELLO = 2
+
+abbrev pub CONFIGURED-LIMIT : ℕ
+CONFIGURED-LIMIT = 3
 
 abbrev pub START-ID : ℕ
 START-ID = 0
@@ -61,7 +68,12 @@ unfoldable pub startsOf : List ℕ → ℕ → List ChannelStart
 startsOf w count = tabulate count (startIn w)
 
 unfoldable pub configurationOf : List ℕ → Configuration
-configurationOf w = record { datalink = record { 0 = word w CONFIGURED-DATALINK }; starts = startsOf w (word w CONFIGURED-COUNT) }
+configurationOf w = record {
+  datalink = record { 0 = word w CONFIGURED-DATALINK };
+  hello = word w CONFIGURED-HELLO;
+  limit = word w CONFIGURED-LIMIT;
+  starts = startsOf w (word w CONFIGURED-COUNT);
+}
 
 -- ---- words that say something: kinds that there are, and numbers no wider than what they are numbers of
 abbrev pub startSpelled : (kind first : ℕ) → Bool
@@ -79,18 +91,18 @@ configurationReadable w =
 unfoldable pub configurationIn : List ℕ → Configuration
 configurationIn w = cond (configurationReadable w) (configurationOf w) blankConfiguration
 
--- ---- the words of a fresh start: "A channel has a status (fresh: not reported)", no Link Instance and no Context
-abbrev pub headWords : (datalink count : ℕ) → List ℕ
-headWords datalink count = datalink ∷ count ∷ ABSENT ∷ 0 ∷ 0 ∷ ABSENT ∷ 0 ∷ 0 ∷ []
+-- ---- the words of a fresh start: "A channel has a status (fresh: not reported)", no Link Instance and no Context; of the pacer "both waits first run from 0"
+abbrev pub headWords : (datalink count hello limit : ℕ) → List ℕ
+headWords datalink count hello limit = datalink ∷ count ∷ ABSENT ∷ 0 ∷ 0 ∷ ABSENT ∷ 0 ∷ 0 ∷ hello ∷ limit ∷ 0 ∷ 0 ∷ 0 ∷ []
 
 unfoldable pub slotsOf : List Channel → List ℕ
 slotsOf [] = []
 slotsOf (c ∷ cs) = channelWords c ++ slotsOf cs
 
 unfoldable pub freshWords : Configuration → List ℕ
-freshWords k = headWords (k .datalink .0) (length (k .starts)) ++ slotsOf (map freshOf (k .starts))
+freshWords k = headWords (k .datalink .0) (length (k .starts)) (k .hello) (k .limit) ++ slotsOf (map freshOf (k .starts))
 
--- ---- the call: 19 alone, "a lent memory whose length isn't the sum of the stores" and words that are not as many as the state's too
+-- ---- the call: 19, "a lent memory whose length isn't the sum of the stores" and words that are not as many as the state's too
 unfoldable pub startsInUnder : (most : ℕ) (configuration words memory : List ℕ) → Bool
 startsInUnder most configuration words memory =
     configurationFitsUnder most (configurationIn configuration)
@@ -99,14 +111,18 @@ startsInUnder most configuration words memory =
 abbrev pub startsIn : (configuration words memory : List ℕ) → Bool
 startsIn configuration words memory = startsInUnder MOST-CHANNELS configuration words memory
 
-abbrev pub notStarted : StartAnswer
-notStarted = StartAnswer.Refused (record { number = OUTSIDE-LIMITS; place = 0 })
+-- and document 02, §1: "22, HelloTime or silence limit of 0, tested last in configuration"
+abbrev pub beginsIn : (configuration words memory : List ℕ) → Bool
+beginsIn configuration words memory = startsIn configuration words memory && waitsFit (configurationIn configuration)
+
+abbrev pub notStarted : (number : ℕ) → StartAnswer
+notStarted number = StartAnswer.Refused (record { number = number; place = 0 })
 
 -- THE CONTRACT OF A START ON WORDS: "A fresh start fills each store with zeros"; a refusal "changes no state and no lent byte"
 pub record StartedIn (configuration words memory : List ℕ) (answer : StartAnswer) (words′ memory′ : List ℕ) : Type 0 where
-  pub answer-is : answer ≡ cond (startsIn configuration words memory) StartAnswer.Started notStarted
-  pub words-are : words′ ≡ cond (startsIn configuration words memory) (freshWords (configurationIn configuration)) words
-  pub memory-is : memory′ ≡ cond (startsIn configuration words memory) (replicate (length memory) 0) memory
+  pub answer-is : answer ≡ cond (startsIn configuration words memory) (cond (waitsFit (configurationIn configuration)) StartAnswer.Started (notStarted NO-WAIT)) (notStarted OUTSIDE-LIMITS)
+  pub words-are : words′ ≡ cond (beginsIn configuration words memory) (freshWords (configurationIn configuration)) words
+  pub memory-is : memory′ ≡ cond (beginsIn configuration words memory) (replicate (length memory) 0) memory
 
 -- ---- what the pass over a configuration gives: whether it is within the limits, and "the sum of the stores"
 abbrev pub unfit : Judged

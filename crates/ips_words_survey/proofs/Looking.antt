@@ -7,12 +7,12 @@ use native.Mathlib.Omega.{arith}
 use borrow.Author.Tests.{eq-eqb, ne-eqb}
 use lib.ListN.{length}
 use Rattle.quantity.specs.Limits.{FEWEST-CHANNELS, MOST-CHANNELS}
-use Rattle.ips_state.specs.Limits.{namesFit}
+use Rattle.ips_state.specs.Limits.{headFits}
 use Rattle.ips_state.proofs.Places.{blank-unfit}
 use Rattle.ips_words.specs.Words.{HEAD, COUNT-WORD, wordsFor, word, stateOf, stateIn, headSpelled, allSpelled, readable}
 use Rattle.ips_words.proofs.Whole.{channels-length, says, says-nothing}
 use Rattle.ips_words_survey.specs.Survey.{unfit, walked, surveyOf, walkedIn}
-use Rattle.ips_words_survey.proofs.Walking.{survey-few, survey-many, survey-names, survey-walk}
+use Rattle.ips_words_survey.proofs.Walking.{survey-few, survey-many, survey-head, survey-walk}
 
 module _ (words : List ℕ) (id : ℕ) where
   unreadable : readable words ≡ false → unfit ≡ surveyOf (stateIn words) id
@@ -30,12 +30,12 @@ module _ (words : List ℕ) (id : ℕ) where
   unfolding readable
   in-short h = unreadable (rw (ne-eqb (length words) (wordsFor (word words COUNT-WORD)) (λ e. omega arith)))
 
-  pub in-head : headSpelled words ≡ false → unfit ≡ surveyOf (stateIn words) id
+  pub in-tags : headSpelled words ≡ false → unfit ≡ surveyOf (stateIn words) id
   unfolding readable
-  in-head e = unreadable (rw (e, and-false))
+  in-tags e = unreadable (rw (e, and-false))
 
-  pub in-names : namesFit (stateOf words) ≡ false → unfit ≡ surveyOf (stateIn words) id
-  in-names e = outside-limits (survey-names (stateOf words) id e)
+  pub in-head : headFits (stateOf words) ≡ false → unfit ≡ surveyOf (stateIn words) id
+  in-head e = outside-limits (survey-head (stateOf words) id e)
 
   module _ (count : ℕ) (is : count ≡ word words COUNT-WORD) where
     channels-are : length (stateOf words .channels) ≡ count
@@ -51,7 +51,7 @@ module _ (words : List ℕ) (id : ℕ) where
     unfolding readable
     in-long f = unreadable (rw (ne-eqb (length words) (wordsFor (word words COUNT-WORD)) (λ e. f (e ∙ ap wordsFor (sym is)))))
 
-    module _ (long : length words ≡ wordsFor count) (some : FEWEST-CHANNELS ≤ count) (few : count ≤ MOST-CHANNELS) (head : headSpelled words ≡ true) (names : namesFit (stateOf words) ≡ true) where
+    module _ (long : length words ≡ wordsFor count) (some : FEWEST-CHANNELS ≤ count) (few : count ≤ MOST-CHANNELS) (head : headSpelled words ≡ true) (within : headFits (stateOf words) ≡ true) where
       said : readable words ≡ allSpelled words count
       unfolding readable
       said = rw (← is, eq-eqb (length words) (wordsFor count) long, head)
@@ -61,5 +61,5 @@ module _ (words : List ℕ) (id : ℕ) where
       in-walk = go (allSpelled words count) refl
         where
           go : (b : Bool) → allSpelled words count ≡ b → cond b (walked (stateOf words .channels) id) unfit ≡ surveyOf (stateIn words) id
-          go true e = rw (says words (said ∙ e)) (survey-walk (stateOf words) id (omega (arith, channels-are)) (omega (arith, channels-are)) names)
+          go true e = rw (says words (said ∙ e)) (survey-walk (stateOf words) id (omega (arith, channels-are)) (omega (arith, channels-are)) within)
           go false e = unreadable (said ∙ e)

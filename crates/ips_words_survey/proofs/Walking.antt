@@ -14,7 +14,7 @@ use Rattle.quantity.specs.Limits.{FEWEST-CHANNELS, MOST-CHANNELS, LARGEST-STORE
 use Rattle.meaning.specs.Kinds.{among}
 use Rattle.ips_channel.specs.declared.state.Channel.{Channel}
 use Rattle.ips_state.specs.State.{State, noChannel, channelAt}
-use Rattle.ips_state.specs.Limits.{channelFits, allFitUnder, allFit, ids, distinct, channelsFitUnder, sizes, indexOf, namesFit, stateFitsUnder}
+use Rattle.ips_state.specs.Limits.{channelFits, allFitUnder, allFit, ids, distinct, channelsFitUnder, sizes, indexOf, headFits, stateFitsUnder}
 use Rattle.ips_words_survey.specs.Survey.{unfit, surveyed, walked, surveyOf}
 use Rattle.ips_state.proofs.Channels.{among-first, among-later, among-join, index-first, index-here, index-past, index-none, index-stands, distinct-more, distinct-twice, all-join, ids-join, ids-length, sizes-join, sizes-most, same-or-not}
 
@@ -169,10 +169,10 @@ module _ (s : State) (id : ℕ) where
   unfolding surveyOf stateFitsUnder
   survey-many h = rw (lt-leb (length (s .channels)) MOST-CHANNELS h, and-false)
 
-  pub survey-names : namesFit s ≡ false → unfit ≡ surveyOf s id
+  pub survey-head : headFits s ≡ false → unfit ≡ surveyOf s id
   unfolding surveyOf stateFitsUnder
-  survey-names e = rw (e, and-false)
+  survey-head e = rw (e, and-false)
 
-  pub survey-walk : FEWEST-CHANNELS ≤ length (s .channels) → length (s .channels) ≤ MOST-CHANNELS → namesFit s ≡ true → walked (s .channels) id ≡ surveyOf s id
+  pub survey-walk : FEWEST-CHANNELS ≤ length (s .channels) → length (s .channels) ≤ MOST-CHANNELS → headFits s ≡ true → walked (s .channels) id ≡ surveyOf s id
   unfolding surveyOf stateFitsUnder walked
   survey-walk some few e = rw (le-leb FEWEST-CHANNELS (length (s .channels)) some, le-leb (length (s .channels)) MOST-CHANNELS few, e)

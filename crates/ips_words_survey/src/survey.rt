@@ -2,7 +2,7 @@
 ghost use mathlib.Core.Path.{_≡_};
 ghost use Prim.Native.Nat.{_≤_};
 ghost use lib.ListN.{length};
-ghost use Rattle.ips_state.specs.Limits.{namesFit};
+ghost use Rattle.ips_state.specs.Limits.{namesFit, headFits};
 ghost use Rattle.ips_words.specs.Words.{HEAD, stateOf, stateIn, headSpelled};
 ghost use Rattle.ips_words_survey.specs.Survey.{unfit, Counted, walkedIn, surveyOf};
 use crate::limits;
@@ -97,6 +97,15 @@ fn names_fit(words: &[u64]) -> bool
     part::instance(End::Radio, instance) && part::context(End::Radio, context)
 }
 
+// The two waits too.
+fn head_fits(words: &[u64]) -> bool
+    requires { ⌜ HEAD ≤ length (now words) ⌝ }
+    ensures { λ r. ⌜ r ≡ headFits (stateOf (now (words .entry))) ⌝ }
+{
+    let kept = head::pacer(words);
+    names_fit(words) && pacer::fits(kept.hello, kept.limit)
+}
+
 fn head_spelled(words: &[u64]) -> bool
     requires { ⌜ HEAD ≤ length (now words) ⌝ }
     ensures { λ r. ⌜ r ≡ headSpelled (now (words .entry)) ⌝ }
@@ -125,7 +134,7 @@ pub fn survey_words(words: &[u64], id: u8) -> Survey
     if !head_spelled(words) {
         return outside();
     }
-    if !names_fit(words) {
+    if !head_fits(words) {
         return outside();
     }
     walk(words, count, id)

@@ -8,7 +8,7 @@ use Rattle.ips_state.specs.State.{State}
 use Rattle.ips_run.specs.Run.{Call}
 use Rattle.endpoint.specs.Lent.{Lent}
 use Rattle.nespovarda.specs.Exports.{Exported, StartExported}
-use Rattle.nespovarda.specs.Shown.{Shows, ShowsKept}
+use Rattle.nespovarda.specs.Shown.{Shows, ShowsOwn}
 
 pub exports-coincide : {c : Call} {l l′ l″ : Lent} {r r′ : Answer} {out′ out″ : List ℕ} → Exported c l r out′ l′ → Exported c l r′ out″ l″ → (r ≡ r′) × (out′ ≡ out″) × (l′ ≡ l″)
 exports-coincide h k = (h .answer-is ∙ sym (k .answer-is), h .output-is ∙ sym (k .output-is), h .lent-is ∙ sym (k .lent-is))
@@ -17,10 +17,11 @@ pub exported-starts-coincide : {configuration words memory words′ words″ mem
     → StartExported configuration words memory r′ words″ memory″ → (r ≡ r′) × (words′ ≡ words″) × (memory′ ≡ memory″)
 exported-starts-coincide h k = (h .answer-is ∙ sym (k .answer-is), h .words-are ∙ sym (k .words-are), h .memory-is ∙ sym (k .memory-is))
 
--- what is shown of a channel and of a waiting packet, and what is kept
+-- what is shown of a channel and of a waiting packet, what is kept, and the pacer
 pub shown-coincide : {s : State} {id : ℕ} {outcome : Outcome} {numbers before after after′ : List ℕ} {r r′ : Answer} → Shows s id outcome numbers before r after
     → Shows s id outcome numbers before r′ after′ → (r ≡ r′) × (after ≡ after′)
 shown-coincide h k = (h .answer-is ∙ sym (k .answer-is), h .numbers-are ∙ sym (k .numbers-are))
 
-pub kept-coincide : {s : State} {before after after′ : List ℕ} {r r′ : Answer} → ShowsKept s before r after → ShowsKept s before r′ after′ → (r ≡ r′) × (after ≡ after′)
-kept-coincide h k = (h .answer-is ∙ sym (k .answer-is), h .numbers-are ∙ sym (k .numbers-are))
+pub own-coincide : {s : State} {outcome : Outcome} {numbers before after after′ : List ℕ} {r r′ : Answer} → ShowsOwn s outcome numbers before r after
+    → ShowsOwn s outcome numbers before r′ after′ → (r ≡ r′) × (after ≡ after′)
+own-coincide h k = (h .answer-is ∙ sym (k .answer-is), h .numbers-are ∙ sym (k .numbers-are))

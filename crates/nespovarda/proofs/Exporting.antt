@@ -9,7 +9,8 @@ use borrow.Author.Tests.{ne-eqb}
 use Rattle.quantity.specs.declared.refusal.Refusal.{Refusal}
 use Rattle.writer.specs.declared.answer.WriteAnswer.{WriteAnswer}
 use Rattle.answer_codes.specs.declared.Answer.{Answer}
-use Rattle.answer_codes.specs.Codes.{codeOf, refusedAs, writtenAs, STARTED, TAKEN, SENT, NOTHING-WAITING, NOT-OPERATIONAL, WINDOW-SHUT, WITHDRAWN, ACCEPTED, DUE, WROTE, REFUSED}
+use Rattle.answer_codes.specs.Codes.{codeOf, refusedAs, writtenAs, STARTED, TAKEN, SENT, NOTHING-WAITING, NOT-OPERATIONAL, WINDOW-SHUT, WITHDRAWN, ACCEPTED, DUE, QUIET, QUERY-DUE, SILENT, QUERY-DUE-SILENT, WROTE, REFUSED}
+use Rattle.pacer.specs.declared.PaceAnswer.{PaceAnswer}
 use Rattle.ips_channel_rules.specs.Rules as rules
 use Rattle.ips_channel_calls.specs.declared.offering.OfferAnswer.{OfferAnswer}
 use Rattle.ips_channel_calls.specs.declared.offering.WithdrawAnswer.{WithdrawAnswer}
@@ -19,16 +20,17 @@ use Rattle.ips_state.specs.declared.StartAnswer.{StartAnswer}
 use Rattle.ips_state.specs.Memory.{World, indexIn}
 use Rattle.ips_radio.specs.declared.RadioAnswer.{RadioAnswer}
 use Rattle.ips_run.specs.Calling.{termsIn, calling}
-use Rattle.ips_run.specs.Run.{Call, on, radio, query}
+use Rattle.ips_run.specs.Run.{Call, on, radio, pace, query}
 use Rattle.ips_calls.specs.Radio.{handedIn}
+use Rattle.ips_calls.specs.Pace.{paceAnswer}
 use Rattle.ips_calls.specs.Query.{queryAnswer, queryOut}
-use Rattle.ips_calls.specs.Replies.{EndpointReply, ofChannel, ofRadio, ofQuery, replyOf}
+use Rattle.ips_calls.specs.Replies.{EndpointReply, ofChannel, ofRadio, ofPace, ofQuery, replyOf}
 use Rattle.ips_words_start.specs.Start.{StartedIn}
 use Rattle.endpoint.specs.Lent.{Lent, worldIn}
 use Rattle.endpoint.specs.Calls.{PerformedIn}
 use Rattle.endpoint.specs.Ran.{RanIn}
-use Rattle.nespovarda.specs.Outcomes.{startedAs, offeredAs, askedAs, withdrawnAs, heardAs, outcomeOf, outputOf}
-use Rattle.nespovarda.specs.Exports.{Exported, StartExported, isKind, startSaid, offerSaid, nextSaid, withdrawSaid, radioSaid, writeSaid, replySaid, Told, RanExported, repliesSaid}
+use Rattle.nespovarda.specs.Outcomes.{startedAs, offeredAs, askedAs, withdrawnAs, heardAs, pacedAs, outcomeOf, outputOf}
+use Rattle.nespovarda.specs.Exports.{Exported, StartExported, isKind, startSaid, offerSaid, nextSaid, withdrawSaid, radioSaid, paceSaid, writeSaid, replySaid, Told, RanExported, repliesSaid}
 
 -- ---- from a call to its export
 pub exports : {c : Call} {l : Lent} {x : EndpointReply} {l′ : Lent} → PerformedIn c l x l′ → (r : Answer) → r ≡ codeOf (outcomeOf x) → Exported c l r (outputOf x) l′
@@ -78,6 +80,14 @@ radio-back RadioAnswer.Accepted = refl
 radio-back RadioAnswer.Due = refl
 radio-back (RadioAnswer.Refused refusal) = rw (no-kind refusal ACCEPTED (omega arith), no-kind refusal DUE (omega arith), number-back (refusal .number))
 
+pace-back : (a : PaceAnswer) → paceSaid (codeOf (pacedAs a)) ≡ a
+pace-back PaceAnswer.Quiet = refl
+pace-back PaceAnswer.Due = refl
+pace-back PaceAnswer.Silent = refl
+pace-back PaceAnswer.DueSilent = refl
+pace-back (PaceAnswer.Refused refusal) =
+    rw (no-kind refusal QUIET (omega arith), no-kind refusal QUERY-DUE (omega arith), no-kind refusal SILENT (omega arith), no-kind refusal QUERY-DUE-SILENT (omega arith), number-back (refusal .number))
+
 write-back : (a : WriteAnswer) → writeSaid (codeOf (writtenAs a)) ≡ a
 write-back (WriteAnswer.Wrote bytes) = refl
 write-back (WriteAnswer.Refused refusal) = rw (no-kind refusal WROTE (omega arith), number-back (refusal .number))
@@ -90,7 +100,8 @@ reply-back (on id (rules.next time out)) w =
     let k = termsIn w (indexIn w id) in
     ap (λ (a : NextAnswer). ofChannel (asked a (outputAfter k answer out))) (next-back (nextAnswer k answer))
 reply-back (on id rules.withdraw) w = ap (λ (a : WithdrawAnswer). ofChannel (withdrawn a)) (withdraw-back (withdrawAnswer (calling id rules.withdraw w .answer)))
-reply-back (radio datagram) w = ap ofRadio (radio-back (handedIn (w .state) datagram .answer))
+reply-back (radio time datagram) w = ap ofRadio (radio-back (handedIn time (w .state) datagram .answer))
+reply-back (pace time) w = ap ofPace (pace-back (paceAnswer time (w .state)))
 reply-back (query out) w = ap (λ (a : WriteAnswer). ofQuery a (queryOut (w .state) out)) (write-back (queryAnswer (w .state) out))
 
 pub exports-say : {c : Call} {l : Lent} {r : Answer} {out′ : List ℕ} {l′ : Lent} → Exported c l r out′ l′ → PerformedIn c l (replySaid c r out′) l′

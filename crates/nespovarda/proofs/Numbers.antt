@@ -18,8 +18,8 @@ use Rattle.ips_state.specs.State.{State}
 use Rattle.ips_state.specs.Limits.{sizes, stateFits}
 use Rattle.ips_state.specs.Memory.{startOf}
 use Rattle.endpoint.specs.Shown.{wordsNeeded}
-use Rattle.nespovarda.specs.Shown.{isHad, placeFor, channelFor, outside, outcomeFor, numbersFor, channelNumbers, ShowsChannel, waitingOutcome, waitingNumbers, ShowsWaiting, keptNumbers, ShowsKept}
-use Rattle.nespovarda.specs.Numbers.{Numbers, numbers, wordsNumber, reportedNumbers, flowNumbers, countedNumbers, nineNumbers, answerFor, shownFor, ShownExactly, WaitingExactly, linkNumbers, contextNumbers, KeptExactly}
+use Rattle.nespovarda.specs.Shown.{isHad, placeFor, channelFor, outside, outcomeFor, numbersFor, channelNumbers, ShowsChannel, waitingOutcome, waitingNumbers, ShowsWaiting, keptNumbers, ShowsKept, ShowsPacer}
+use Rattle.nespovarda.specs.Numbers.{Numbers, numbers, wordsNumber, reportedNumbers, flowNumbers, countedNumbers, nineNumbers, answerFor, shownFor, ShownExactly, WaitingExactly, linkNumbers, contextNumbers, KeptExactly, PacerExactly}
 
 pub numbers-exactly : Numbers
 numbers-exactly = record {
@@ -37,6 +37,11 @@ numbers-exactly = record {
   accepted = refl;
   due = refl;
   radio-refused = λ number place. refl;
+  quiet = refl;
+  query-due = refl;
+  silent = refl;
+  query-due-silent = refl;
+  pace-refused = λ number place. refl;
   query-wrote = λ bytes out. refl;
   query-refused = λ number place out. refl;
   read-accepted = refl;
@@ -47,6 +52,7 @@ numbers-exactly = record {
   shown = refl;
   kept = refl;
   none-there = refl;
+  pacer-shown = refl;
 }
 
 pub words-exactly : (channels : ℕ) → wordsNeeded channels ≡ wordsNumber channels
@@ -100,12 +106,15 @@ kept-numbers Instance.Absent (Context.Given bytes length) = refl
 kept-numbers (Instance.Given id size) Context.Absent = refl
 kept-numbers (Instance.Given id size) (Context.Given bytes length) = refl
 
-keeps : (fits : Bool) → codeOf (cond fits Outcome.kept outside) ≡ cond fits (numbers 13 0) (numbers 275 0)
-keeps true = refl
-keeps false = refl
+fitting : (fits : Bool) (outcome : Outcome) → codeOf (cond fits outcome outside) ≡ cond fits (codeOf outcome) (numbers 275 0)
+fitting true outcome = refl
+fitting false outcome = refl
 
 pub kept-exactly : {s : State} {before : List ℕ} {r : Answer} {after : List ℕ} → ShowsKept s before r after → KeptExactly s before r after
 kept-exactly {s} {before} h = record {
-  answers = h .answer-is ∙ keeps (stateFits s);
+  answers = h .answer-is ∙ fitting (stateFits s) Outcome.kept;
   shows = h .numbers-are ∙ ap (λ (shown : List ℕ). cond (stateFits s) shown before) (kept-numbers (s .instance) (s .context));
 }
+
+pub pacer-exactly : {s : State} {before : List ℕ} {r : Answer} {after : List ℕ} → ShowsPacer s before r after → PacerExactly s before r after
+pacer-exactly {s} h = record { answers = h .answer-is ∙ fitting (stateFits s) Outcome.pacer-shown; shows = h .numbers-are }

@@ -1,4 +1,4 @@
--- What is shown of a channel, of a waiting packet and of what is kept: each way out of the functions. Assumes nothing.
+-- What is shown of a channel, of a waiting packet, of what is kept and of the pacer: each way out of the functions. Assumes nothing.
 use Prim.Native.Nat.{ℕ, _≤_, _<_}
 use mathlib.Core.Bool.{Bool, true, false}
 use mathlib.Core.List.{List, [], _∷_}
@@ -14,6 +14,7 @@ use Rattle.meaning.specs.declared.message.Instance.{Instance}
 use Rattle.meaning.specs.declared.message.Context.{Context}
 use Rattle.store.specs.Waiting.{noEntry}
 use Rattle.store.proofs.Held.{well-sound}
+use Rattle.pacer.specs.declared.Pacer.{Pacer}
 use Rattle.answer_codes.specs.declared.Answer.{Answer}
 use Rattle.answer_codes.specs.Codes.{Outcome, codeOf, refusedAs}
 use Rattle.ips_channel.specs.declared.state.Channel.{Channel}
@@ -27,9 +28,10 @@ use Rattle.ips_words_survey.specs.declared.place.Place.{Place}
 use Rattle.ips_words_survey.specs.Places.{foundAt}
 use Rattle.endpoint.specs.declared.shown.ChannelShown.{ChannelShown}
 use Rattle.endpoint.specs.declared.shown.KeptAnswer.{KeptAnswer}
-use Rattle.endpoint.specs.Shown.{shownOf, keptOf}
+use Rattle.endpoint.specs.declared.shown.PacerAnswer.{PacerAnswer}
+use Rattle.endpoint.specs.Shown.{shownOf, keptOf, pacerOf}
 use Rattle.endpoint.proofs.Showing.{shown-nineteen, shown-twelve, shown-channel}
-use Rattle.nespovarda.specs.Shown.{isHad, placeFor, channelFor, outcomeFor, numbersFor, Shows, channelNumbers, ShowsChannel, waitingOutcome, waitingNumbers, WaitingAt, ShowsWaiting, keptNumbers, ShowsKept}
+use Rattle.nespovarda.specs.Shown.{isHad, placeFor, channelFor, outcomeFor, numbersFor, Shows, channelNumbers, ShowsChannel, waitingOutcome, waitingNumbers, WaitingAt, ShowsWaiting, ShowsOwn, keptNumbers, ShowsKept, pacerNumbers, ShowsPacer}
 
 place-in : {a b : ChannelShown} → a ≡ b → a .place ≡ b .place
 place-in e = ap (λ (x : ChannelShown). x .place) e
@@ -103,31 +105,63 @@ module _ (c : Channel) (position : ℕ) (before : List ℕ) (a : Answer) where
     one-waits size expiry e f =
         record { answer-is = rw (lt-ltb position (c .queue .count) within) said; numbers-are = rw (lt-ltb position (c .queue .count) within, e, f) }
 
--- ---- what is kept
-module _ (s : State) (r : KeptAnswer) (is : r ≡ keptOf s) (before : List ℕ) (a : Answer) where
-  when-fits : stateFits s ≡ true → r ≡ KeptAnswer.Kept (s .instance) (s .context)
-  unfolding keptOf
-  when-fits f = rw f at is
+-- ---- of the endpoint itself, within the limits and outside them
+module _ (s : State) (outcome : Outcome) (numbers before : List ℕ) (a : Answer) where
+  own-shown : stateFits s ≡ true → a ≡ codeOf outcome → (after : List ℕ) → after ≡ numbers → ShowsOwn s outcome numbers before a after
+  own-shown f said after are = record { answer-is = rw f said; numbers-are = rw f are }
 
-  when-unfit : stateFits s ≡ false → r ≡ KeptAnswer.Refused (record { number = OUTSIDE-LIMITS; place = 0 })
+  own-refused : stateFits s ≡ false → (refusal : Refusal) → refusal ≡ record { number = OUTSIDE-LIMITS; place = 0 } → a ≡ codeOf (refusedAs refusal) → ShowsOwn s outcome numbers before a before
+  own-refused f refusal same said = record { answer-is = rw f (said ∙ ap (λ (x : Refusal). codeOf (refusedAs x)) same); numbers-are = rw f }
+
+-- what is kept
+module _ (s : State) (r : KeptAnswer) (is : r ≡ keptOf s) (before : List ℕ) (a : Answer) where
+  kept-fits : stateFits s ≡ true → r ≡ KeptAnswer.Kept (s .instance) (s .context)
   unfolding keptOf
-  when-unfit f = rw f at is
+  kept-fits f = rw f at is
+
+  kept-unfit : stateFits s ≡ false → r ≡ KeptAnswer.Refused (record { number = OUTSIDE-LIMITS; place = 0 })
+  unfolding keptOf
+  kept-unfit f = rw f at is
 
   pub shows-kept : (link : Instance) (last : Context) → r ≡ KeptAnswer.Kept link last → a ≡ codeOf Outcome.kept → (after : List ℕ) → after ≡ keptNumbers link last → ShowsKept s before a after
   shows-kept link last e said after are = go (stateFits s) refl
     where
       go : (fits : Bool) → stateFits s ≡ fits → ShowsKept s before a after
       go true f =
-          let one : link ≡ s .instance = cc (sym e ∙ when-fits f) in
-          let other : last ≡ s .context = cc (sym e ∙ when-fits f) in
-          record { answer-is = rw f said; numbers-are = rw f (are ∙ ap₂ {C = List ℕ} (λ (x : Instance) (y : Context). keptNumbers x y) one other) }
-      go false f = clash (cc (sym e ∙ when-unfit f))
+          let one : link ≡ s .instance = cc (sym e ∙ kept-fits f) in
+          let other : last ≡ s .context = cc (sym e ∙ kept-fits f) in
+          own-shown s _ _ before a f said after (are ∙ ap₂ {C = List ℕ} (λ (x : Instance) (y : Context). keptNumbers x y) one other)
+      go false f = clash (cc (sym e ∙ kept-unfit f))
 
   pub kept-refused : (refusal : Refusal) → r ≡ KeptAnswer.Refused refusal → a ≡ codeOf (refusedAs refusal) → ShowsKept s before a before
   kept-refused refusal e said = go (stateFits s) refl
     where
       go : (fits : Bool) → stateFits s ≡ fits → ShowsKept s before a before
-      go true f = clash (cc (sym e ∙ when-fits f))
-      go false f =
-          let same : refusal ≡ record { number = OUTSIDE-LIMITS; place = 0 } = cc (sym e ∙ when-unfit f) in
-          record { answer-is = rw f (said ∙ ap (λ (x : Refusal). codeOf (refusedAs x)) same); numbers-are = rw f }
+      go true f = clash (cc (sym e ∙ kept-fits f))
+      go false f = own-refused s _ _ before a f refusal (cc (sym e ∙ kept-unfit f)) said
+
+-- the pacer
+module _ (s : State) (r : PacerAnswer) (is : r ≡ pacerOf s) (before : List ℕ) (a : Answer) where
+  pacer-fits : stateFits s ≡ true → r ≡ PacerAnswer.Shown (s .pacer)
+  unfolding pacerOf
+  pacer-fits f = rw f at is
+
+  pacer-unfit : stateFits s ≡ false → r ≡ PacerAnswer.Refused (record { number = OUTSIDE-LIMITS; place = 0 })
+  unfolding pacerOf
+  pacer-unfit f = rw f at is
+
+  pub shows-pacer : (pacer : Pacer) → r ≡ PacerAnswer.Shown pacer → a ≡ codeOf Outcome.pacer-shown → (after : List ℕ) → after ≡ pacerNumbers pacer → ShowsPacer s before a after
+  shows-pacer pacer e said after are = go (stateFits s) refl
+    where
+      go : (fits : Bool) → stateFits s ≡ fits → ShowsPacer s before a after
+      go true f =
+          let same : pacer ≡ s .pacer = cc (sym e ∙ pacer-fits f) in
+          own-shown s _ _ before a f said after (are ∙ ap (λ (p : Pacer). pacerNumbers p) same)
+      go false f = clash (cc (sym e ∙ pacer-unfit f))
+
+  pub pacer-refused : (refusal : Refusal) → r ≡ PacerAnswer.Refused refusal → a ≡ codeOf (refusedAs refusal) → ShowsPacer s before a before
+  pacer-refused refusal e said = go (stateFits s) refl
+    where
+      go : (fits : Bool) → stateFits s ≡ fits → ShowsPacer s before a before
+      go true f = clash (cc (sym e ∙ pacer-fits f))
+      go false f = own-refused s _ _ before a f refusal (cc (sym e ∙ pacer-unfit f)) said

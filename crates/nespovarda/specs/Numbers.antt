@@ -12,6 +12,7 @@ use Rattle.meaning.specs.declared.message.Context.{Context}
 use Rattle.reader.specs.Readings.{Verdict}
 use Rattle.writer.specs.declared.answer.WriteAnswer.{WriteAnswer}
 use Rattle.flow.specs.declared.Flow.{Flow}
+use Rattle.pacer.specs.declared.PaceAnswer.{PaceAnswer}
 use Rattle.store.specs.Waiting.{noEntry}
 use Rattle.answer_codes.specs.declared.Answer.{Answer}
 use Rattle.answer_codes.specs.Codes.{Outcome, codeOf, writtenAs}
@@ -24,7 +25,7 @@ use Rattle.ips_state.specs.declared.StartAnswer.{StartAnswer}
 use Rattle.ips_state.specs.State.{State}
 use Rattle.ips_state.specs.Limits.{sizes, stateFits}
 use Rattle.ips_radio.specs.declared.RadioAnswer.{RadioAnswer}
-use Rattle.ips_calls.specs.Replies.{EndpointReply, ofChannel, ofRadio, ofQuery}
+use Rattle.ips_calls.specs.Replies.{EndpointReply, ofChannel, ofRadio, ofPace, ofQuery}
 use Rattle.message_calls.specs.Calls.{verdictAs}
 use Rattle.nespovarda.specs.Outcomes.{startedAs, outcomeOf}
 use Rattle.nespovarda.specs.Shown.{isHad, placeFor, channelFor}
@@ -54,6 +55,11 @@ pub record Numbers : Type 0 where
   pub accepted : numbersOf (ofRadio RadioAnswer.Accepted) ≡ numbers 8 0
   pub due : numbersOf (ofRadio RadioAnswer.Due) ≡ numbers 9 0
   pub radio-refused : (number place : ℕ) → numbersOf (ofRadio (RadioAnswer.Refused (refusal number place))) ≡ numbers (256 + number) place
+  pub quiet : numbersOf (ofPace PaceAnswer.Quiet) ≡ numbers 15 0
+  pub query-due : numbersOf (ofPace PaceAnswer.Due) ≡ numbers 16 0
+  pub silent : numbersOf (ofPace PaceAnswer.Silent) ≡ numbers 17 0
+  pub query-due-silent : numbersOf (ofPace PaceAnswer.DueSilent) ≡ numbers 18 0
+  pub pace-refused : (number place : ℕ) → numbersOf (ofPace (PaceAnswer.Refused (refusal number place))) ≡ numbers (256 + number) place
   pub query-wrote : (bytes : ℕ) (out : List ℕ) → numbersOf (ofQuery (WriteAnswer.Wrote (record { 0 = bytes })) out) ≡ numbers 11 bytes
   pub query-refused : (number place : ℕ) (out : List ℕ) → numbersOf (ofQuery (WriteAnswer.Refused (refusal number place)) out) ≡ numbers (256 + number) place
   pub read-accepted : codeOf (verdictAs Verdict.Accepted) ≡ numbers 8 0
@@ -64,10 +70,11 @@ pub record Numbers : Type 0 where
   pub shown : codeOf Outcome.shown ≡ numbers 12 0
   pub kept : codeOf Outcome.kept ≡ numbers 13 0
   pub none-there : codeOf Outcome.none-there ≡ numbers 14 0
+  pub pacer-shown : codeOf Outcome.pacer-shown ≡ numbers 19 0
 
 -- ---- how many words a state of so many channels asks for (`words-exactly`)
 abbrev pub wordsNumber : (channels : ℕ) → ℕ
-wordsNumber channels = cond (leb 1 channels && leb channels 64) (8 + 74 * channels) 0
+wordsNumber channels = cond (leb 1 channels && leb channels 64) (13 + 74 * channels) 0
 
 -- ---- what is shown of a channel (`shown-exactly`): reported (0 or 1) with the status, flow (0 free, 1 no window, 2 a window in force) with the window, sequence,
 -- latest, waiting; store_start, the sum of the stores before it; and store_length
@@ -118,3 +125,8 @@ contextNumbers (Context.Given bytes length) = length ∷ bytes .0 ∷ []
 pub record KeptExactly (s : State) (before : List ℕ) (r : Answer) (after : List ℕ) : Type 0 where
   pub answers : r ≡ cond (stateFits s) (numbers 13 0) (numbers 275 0)
   pub shows : after ≡ cond (stateFits s) (linkNumbers (s .instance) ++ contextNumbers (s .context)) before
+
+-- the pacer (`pacer-exactly`): hello, limit, clock, due, heard
+pub record PacerExactly (s : State) (before : List ℕ) (r : Answer) (after : List ℕ) : Type 0 where
+  pub answers : r ≡ cond (stateFits s) (numbers 19 0) (numbers 275 0)
+  pub shows : after ≡ cond (stateFits s) (s .pacer .hello ∷ s .pacer .limit ∷ s .pacer .clock ∷ s .pacer .due ∷ s .pacer .heard ∷ []) before

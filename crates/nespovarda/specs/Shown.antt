@@ -1,4 +1,4 @@
--- What stands in the state, as numbers: of the channel of an ID, of a packet that waits on it, and what is kept.
+-- What stands in the state, as numbers: of the channel of an ID, of a packet that waits on it, what is kept, and the pacer.
 use Prim.Native.Nat.{ℕ}
 use mathlib.Core.Bool.{Bool, cond}
 use mathlib.Core.List.{List, [], _∷_}
@@ -14,6 +14,7 @@ use Rattle.store.specs.Waiting.{noEntry}
 use Rattle.answer_codes.specs.declared.Answer.{Answer}
 use Rattle.answer_codes.specs.Codes.{Outcome, codeOf}
 use Rattle.lent_messages.specs.Stated.{instanceStated, contextStated}
+use Rattle.pacer.specs.declared.Pacer.{Pacer}
 use Rattle.ips_channel.specs.declared.state.Channel.{Channel}
 use Rattle.ips_state.specs.State.{State, channelAt}
 use Rattle.ips_state.specs.Limits.{ids, indexOf, stateFits}
@@ -73,10 +74,21 @@ abbrev pub ShowsWaiting : State → (id position : ℕ) → (before : List ℕ) 
 ShowsWaiting s id position before r after =
     Shows s id (waitingOutcome (channelFor s id) position) (waitingNumbers (channelFor s id) position before) before r after
 
--- ---- what is kept: of the Link Instance and of the Context the length, 0 where there is none, and the number that the bytes spell
+-- ---- of the endpoint itself: 19; else an outcome, and the numbers that come with it
+pub record ShowsOwn (s : State) (outcome : Outcome) (numbers before : List ℕ) (r : Answer) (after : List ℕ) : Type 0 where
+  pub answer-is : r ≡ codeOf (cond (stateFits s) outcome outside)
+  pub numbers-are : after ≡ cond (stateFits s) numbers before
+
+-- what is kept: of the Link Instance and of the Context the length, 0 where there is none, and the number that the bytes spell
 abbrev pub keptNumbers : Instance → Context → List ℕ
 keptNumbers link last = instanceStated link .second ∷ instanceStated link .first ∷ contextStated last .second ∷ contextStated last .first ∷ []
 
-pub record ShowsKept (s : State) (before : List ℕ) (r : Answer) (after : List ℕ) : Type 0 where
-  pub answer-is : r ≡ codeOf (cond (stateFits s) Outcome.kept outside)
-  pub numbers-are : after ≡ cond (stateFits s) (keptNumbers (s .instance) (s .context)) before
+abbrev pub ShowsKept : State → (before : List ℕ) → Answer → (after : List ℕ) → Type 0
+ShowsKept s before r after = ShowsOwn s Outcome.kept (keptNumbers (s .instance) (s .context)) before r after
+
+-- the pacer: HelloTime and silence limit as configured, its clock, the last query due and the last accepted radio control message
+abbrev pub pacerNumbers : Pacer → List ℕ
+pacerNumbers p = p .hello ∷ p .limit ∷ p .clock ∷ p .due ∷ p .heard ∷ []
+
+abbrev pub ShowsPacer : State → (before : List ℕ) → Answer → (after : List ℕ) → Type 0
+ShowsPacer s before r after = ShowsOwn s Outcome.pacer-shown (pacerNumbers (s .pacer)) before r after

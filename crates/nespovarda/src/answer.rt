@@ -1,13 +1,17 @@
 // The answer of each call as two numbers.
 ghost use mathlib.Core.Path.{_≡_};
 ghost use Rattle.answer_codes.specs.Codes.{codeOf};
-ghost use Rattle.nespovarda.specs.Outcomes.{startedAs, offeredAs, askedAs, withdrawnAs, heardAs};
+ghost use Rattle.nespovarda.specs.Outcomes.{startedAs, offeredAs, askedAs, withdrawnAs, heardAs, pacedAs};
 use answer_codes::ACCEPTED;
 use answer_codes::Answer;
 use answer_codes::DUE;
 use answer_codes::NOT_OPERATIONAL;
 use answer_codes::NOTHING_WAITING;
+use answer_codes::QUERY_DUE;
+use answer_codes::QUERY_DUE_SILENT;
+use answer_codes::QUIET;
 use answer_codes::SENT;
+use answer_codes::SILENT;
 use answer_codes::STARTED;
 use answer_codes::TAKEN;
 use answer_codes::WINDOW_SHUT;
@@ -17,6 +21,7 @@ use answer_codes::plain;
 use answer_codes::refused;
 use endpoint::NextAnswer;
 use endpoint::OfferAnswer;
+use endpoint::PaceAnswer;
 use endpoint::RadioAnswer;
 use endpoint::StartAnswer;
 use endpoint::WithdrawAnswer;
@@ -67,5 +72,17 @@ pub(crate) fn of_radio(answer: RadioAnswer) -> Answer
         RadioAnswer::Accepted => plain(ACCEPTED),
         RadioAnswer::Due => plain(DUE),
         RadioAnswer::Refused(refusal) => refused(refusal),
+    }
+}
+
+pub(crate) fn of_pace(answer: PaceAnswer) -> Answer
+    ensures { λ r. ⌜ r ≡ codeOf (pacedAs answer) ⌝ }
+{
+    match answer {
+        PaceAnswer::Quiet => plain(QUIET),
+        PaceAnswer::Due => plain(QUERY_DUE),
+        PaceAnswer::Silent => plain(SILENT),
+        PaceAnswer::DueSilent => plain(QUERY_DUE_SILENT),
+        PaceAnswer::Refused(refusal) => refused(refusal),
     }
 }

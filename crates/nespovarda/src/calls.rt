@@ -67,10 +67,17 @@ pub extern "C" fn nespovarda_withdraw(words: &mut [u64], memory: &mut [u8], chan
 }
 
 #[no_mangle]
-pub extern "C" fn nespovarda_radio(words: &mut [u64], datagram: &[u8]) -> Answer
-    ensures { λ r. ⌜ ExportedWithAny (run.radio (now (datagram .entry))) (now (words .entry)) r [] (now (words .exit)) ⌝ }
+pub extern "C" fn nespovarda_radio(words: &mut [u64], time: u64, datagram: &[u8]) -> Answer
+    ensures { λ r. ⌜ ExportedWithAny (run.radio time (now (datagram .entry))) (now (words .entry)) r [] (now (words .exit)) ⌝ }
 {
-    answer::of_radio(endpoint::hand_in(words, datagram))
+    answer::of_radio(endpoint::hand_in(words, time, datagram))
+}
+
+#[no_mangle]
+pub extern "C" fn nespovarda_pace(words: &mut [u64], time: u64) -> Answer
+    ensures { λ r. ⌜ ExportedWithAny (run.pace time) (now (words .entry)) r [] (now (words .exit)) ⌝ }
+{
+    answer::of_pace(endpoint::pace(words, time))
 }
 
 #[no_mangle]

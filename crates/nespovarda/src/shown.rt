@@ -3,15 +3,18 @@ ghost use mathlib.Core.Path.{_≡_};
 ghost use Prim.Native.Nat.{_≤_};
 ghost use Rattle.quantity.specs.Limits.{MOST-WAITING};
 ghost use Rattle.ips_words.specs.Words.{stateIn};
-ghost use Rattle.nespovarda.specs.Shown.{channelNumbers, keptNumbers, WaitingAt, ShowsChannel, ShowsWaiting, ShowsKept};
+ghost use Rattle.nespovarda.specs.Shown.{channelNumbers, keptNumbers, pacerNumbers, WaitingAt, ShowsChannel, ShowsWaiting, ShowsKept, ShowsPacer};
 use answer_codes::Answer;
 use answer_codes::KEPT;
 use answer_codes::NONE_THERE;
+use answer_codes::PACER_SHOWN;
 use answer_codes::SHOWN;
 use answer_codes::plain;
 use answer_codes::refused;
 use endpoint::Channel;
 use endpoint::KeptAnswer;
+use endpoint::Pacer;
+use endpoint::PacerAnswer;
 use endpoint::Place;
 use endpoint::Refusal;
 use ips_words::slot;
@@ -20,12 +23,14 @@ use lent_messages::stated;
 use meaning::message::Context;
 use meaning::message::Instance;
 
-// How many numbers are shown of a channel, of a waiting packet, and of what is kept.
+// How many numbers are shown of a channel, of a waiting packet, of what is kept, and of the pacer.
 pub const CHANNEL_NUMBERS: usize = 9;
 
 pub const WAITING_NUMBERS: usize = 2;
 
 pub const KEPT_NUMBERS: usize = 4;
+
+pub const PACER_NUMBERS: usize = 5;
 
 // Reported or not, status, flow state, window, sequence, latest time, how many packets wait, and where the store starts and how long it is.
 fn show(channel: Channel, start: usize, shown: &mut [u64; CHANNEL_NUMBERS])
@@ -120,5 +125,32 @@ pub extern "C" fn nespovarda_kept(words: &[u64], shown: &mut [u64; KEPT_NUMBERS]
             plain(KEPT)
         }
         KeptAnswer::Refused(refusal) => refused(refusal),
+    }
+}
+
+// HelloTime and silence limit, the clock, and when a query was last due and a control message last accepted.
+fn show_pacer(pacer: Pacer, shown: &mut [u64; PACER_NUMBERS])
+    ensures { λ _. ⌜ now (shown .exit) ≡ pacerNumbers pacer ⌝ }
+{
+    *shown = [
+        pacer.hello,
+        pacer.limit,
+        pacer.clock,
+        pacer.due,
+        pacer.heard,
+    ];
+}
+
+// `PACER_SHOWN` and the pacer's numbers; or 19.
+#[no_mangle]
+pub extern "C" fn nespovarda_pacer(words: &[u64], shown: &mut [u64; PACER_NUMBERS]) -> Answer
+    ensures { λ r. ⌜ ShowsPacer (stateIn (now (words .entry))) (now (shown .entry)) r (now (shown .exit)) ⌝ }
+{
+    match endpoint::pacer(words) {
+        PacerAnswer::Shown(pacer) => {
+            show_pacer(pacer, shown);
+            plain(PACER_SHOWN)
+        }
+        PacerAnswer::Refused(refusal) => refused(refusal),
     }
 }

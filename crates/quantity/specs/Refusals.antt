@@ -81,6 +81,14 @@ OUTSIDE-LIMITS = 19
 abbrev pub NOT-WRITABLE : ℕ
 NOT-WRITABLE = 20
 
+-- document 02, §1: pacer time earlier than its latest
+abbrev pub EARLIER-PACE : ℕ
+EARLIER-PACE = 21
+
+-- document 02, §1: HelloTime or silence limit of 0
+abbrev pub NO-WAIT : ℕ
+NO-WAIT = 22
+
 -- document 02, §9: bad file header or another link type
 abbrev pub FILE-HEAD : ℕ
 FILE-HEAD = 25

@@ -39,6 +39,10 @@ pub const OUTSIDE_LIMITS: u8 = 19;
 
 pub const NOT_WRITABLE: u8 = 20;
 
+pub const EARLIER_PACE: u8 = 21;
+
+pub const NO_WAIT: u8 = 22;
+
 pub const FILE_HEAD: u8 = 25;
 
 pub const RECORD: u8 = 26;

@@ -1,10 +1,10 @@
 -- Promise: each answer to an accepted radio control message, and what the endpoint keeps of it: of a call as it should be on a state. Assumes nothing.
-use Prim.Native.Nat.{ℕ}
+use Prim.Native.Nat.{ℕ, _≤_}
 use mathlib.Core.Bool.{Bool, true, false, cond, not, _&&_}
 use mathlib.Core.List.{List, []}
 use mathlib.Core.Option.{some}
 use mathlib.Core.Path.{_≡_, refl, sym, ap, _∙_}
-use borrow.Author.Tests.{eq-eqb, eqb-true}
+use borrow.Author.Tests.{eq-eqb, eqb-true, le-ltb}
 use lib.Dec.{eqb}
 use lib.ListN.{length}
 use Rattle.wire.specs.Numbers.{Octets, bigEndian}
@@ -14,12 +14,12 @@ use Rattle.meaning.specs.declared.message.Plane.the-variants as planes
 use Rattle.meaning.specs.declared.message.ContextBytes.{ContextBytes}
 use Rattle.read_option.specs.Stated.{Table, instanceFrom, contextFrom, controlStated}
 use Rattle.acceptance.specs.Account.{tableOf, Accepts, controlMeaning}
-use Rattle.ips_state.specs.State.{State}
+use Rattle.ips_state.specs.State.{State, withPacer}
 use Rattle.ips_state.specs.Limits.{stateFits}
 use Rattle.ips_state.specs.Memory.{World}
 use Rattle.ips_radio.specs.declared.RadioAnswer.{RadioAnswer}
 use Rattle.ips_radio.specs.Heard.{keptInstance, heardBy, dueOf}
-use Rattle.ips_run.specs.Run.{radio, acceptedUnder, afterUnder, after}
+use Rattle.ips_run.specs.Run.{radio, receivedIn, inTime, received, withState, afterUnder}
 use Rattle.ips_run.proofs.Kept.{no-gap}
 use Rattle.ips_calls.specs.Radio.{AfterRadio, handedIn}
 use Rattle.ips_calls.specs.Replies.{EndpointReply, ofRadio}
@@ -50,25 +50,25 @@ differs last size content other = go (eqb (bigEndian content) (last .0)) refl (e
     go true p false q = refl
     go false p b q = refl
 
-module _ (s : State) (fits : stateFits s ≡ true) (datagram : List ℕ) (octets : Octets datagram)
+module _ (s : State) (fits : stateFits s ≡ true) (time : ℕ) (timely : s .pacer .clock ≤ time) (datagram : List ℕ) (octets : Octets datagram)
     (f : Options) (a : Accepts planes.Control ends.Radio (s .datalink) datagram f)
-    {answer : RadioAnswer} {s′ : State} (h : PerformedWithAny (radio datagram) s (ofRadio answer) s′) where
+    {answer : RadioAnswer} {s′ : State} (h : PerformedWithAny (radio time datagram) s (ofRadio answer) s′) where
   abbrev table : Table
   table = tableOf planes.Control ends.Radio f
 
   given : answer ≡ told (dueOf (s .context) (contextFrom (table 4 0)))
   unfolding controlStated
   given =
-      let is : answer ≡ handedIn s datagram .answer = cc (h [] .reply-is) in
-      is ∙ ap (λ (r : AfterRadio). r .answer) (radio-heard s datagram fits (controlMeaning ends.Radio f) (brings (s .datalink) datagram f a octets))
+      let is : answer ≡ handedIn time s datagram .answer = cc (h [] .reply-is) in
+      is ∙ ap (λ (r : AfterRadio). r .answer) (radio-heard s time datagram (rw (fits, le-ltb time (s .pacer .clock) timely)) (controlMeaning ends.Radio f) (brings (s .datalink) datagram f a octets))
 
   context-left : s′ .context ≡ contextFrom (table 4 0)
-  unfolding heardBy controlStated
-  context-left = ap (λ (t : State). t .context) (left s fits datagram octets f a h)
+  unfolding heardBy withPacer controlStated
+  context-left = ap (λ (t : State). t .context) (left s fits time timely datagram octets f a h)
 
   instance-left : s′ .instance ≡ keptInstance (s .instance) (instanceFrom (table 3 0))
-  unfolding heardBy controlStated
-  instance-left = ap (λ (t : State). t .instance) (left s fits datagram octets f a h)
+  unfolding heardBy withPacer controlStated
+  instance-left = ap (λ (t : State). t .instance) (left s fits time timely datagram octets f a h)
 
   context-is : (content : List ℕ) → Holds 4 content f → table 4 0 ≡ some content
   context-is = says-once 4 datalink-context (s .datalink) datagram f a
@@ -91,12 +91,17 @@ module _ (s : State) (fits : stateFits s ≡ true) (datagram : List ℕ) (octets
 
 -- ---- after a gap
 -- a message handed in leaves any memory that is lent with it
-with-any : {datagram : List ℕ} {w w′ : World} {x : EndpointReply} → Performed (radio datagram) w x w′ → PerformedWithAny (radio datagram) (w .state) x (w′ .state)
-unfolding afterUnder acceptedUnder
-with-any h memory = record { reply-is = h .reply-is; world-is = ap (λ (w : World). lending (w .state) memory) (h .world-is) }
+with-any : {time : ℕ} {datagram : List ℕ} {w w′ : World} {x : EndpointReply} → Performed (radio time datagram) w x w′ → PerformedWithAny (radio time datagram) (w .state) x (w′ .state)
+unfolding afterUnder
+with-any {time} {datagram} {w} h memory = record { reply-is = h .reply-is; world-is = ap (λ (v : World). lending (v .state) memory) (h .world-is) ∙ go (inTime time (w .state)) }
+  where
+    go : (t : Bool) → lending (cond t (withState w (received time (receivedIn (w .state .datalink) datagram) (w .state))) w .state) memory
+        ≡ cond t (withState (lending (w .state) memory) (received time (receivedIn (w .state .datalink) datagram) (w .state))) (lending (w .state) memory)
+    go true = refl
+    go false = refl
 
 answers : {f : Options} {w w′ : World} {answer : RadioAnswer} → HandedIn f w answer w′ → Answers f (w .state) answer (w′ .state)
-answers {f} {w} h = answered (w .state) (h .fits) (h .datagram) (h .octets) f (h .accepts) (with-any (h .performed))
+answers {f} {w} h = answered (w .state) (h .fits) (h .time) (h .timely) (h .datagram) (h .octets) f (h .accepts) (with-any (h .performed))
 
 kept-between : {w w′ : World} → Between w w′ → w′ .state .context ≡ w .state .context
 kept-between {w} b = ap (λ (w : World). w .state .context) (ran-world (b .performed)) ∙ no-gap (b .calls) w (b .no-control)

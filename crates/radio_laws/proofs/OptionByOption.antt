@@ -31,17 +31,18 @@ use Rattle.acceptance.proofs.Control.{control-account}
 use Rattle.flow.specs.declared.Flow.{Flow}
 use Rattle.ips_channel.specs.declared.state.Channel.{Channel}
 use Rattle.ips_channel.specs.Channel.{heardOf}
-use Rattle.ips_state.specs.State.{State, noChannel, channelAt}
+use Rattle.ips_state.specs.State.{State, noChannel, channelAt, withPacer}
+use Rattle.pacer.specs.Pacing.{heardAt}
 use Rattle.ips_state.specs.Limits.{flowFits, stateFits}
 use Rattle.ips_state.specs.Memory.{World}
 use Rattle.ips_state.proofs.Places.{channel-fitting-at}
 use Rattle.ips_radio.specs.Heard.{statusIn, windowIn, heardFrom, heardBy}
 use Rattle.ips_radio.proofs.Hearings.{heard-count, heard-at}
-use Rattle.ips_run.specs.Run.{radio, acceptedIn, afterUnder}
-use Rattle.ips_run.proofs.Exact.{heard-when, accepted-fits}
+use Rattle.ips_run.specs.Run.{radio, stated, receivedIn}
+use Rattle.ips_run.proofs.Exact.{heard-when, received-in-time}
 use Rattle.ips_calls.specs.Replies.{EndpointReply}
 use Rattle.ips_calls.specs.Calls.{lending, PerformedWithAny}
-use Rattle.radio_laws.specs.OptionByOption.{Holds, later, Hears, EachHears}
+use Rattle.radio_laws.specs.OptionByOption.{Holds, later, Hears, EachHears, PacerHears}
 use Rattle.radio_laws.proofs.Holding.{ForChannels, elsewhere, holds-listed, says, said, said-alike}
 
 -- a Channel Status has two bytes
@@ -143,26 +144,27 @@ module _ (id : DatalinkId) (datagram : List ℕ) (f : Options) (a : Accepts plan
         eq-eqb (flagOf (a .header)) 0 (a .of-plane),
       )
 
-  pub brings : Octets datagram → acceptedIn id datagram ≡ meant ∷ []
+  pub brings : Octets datagram → receivedIn id datagram ≡ stated meant
   unfolding controlAccepted
   brings octets =
       let read = control-account ends.Radio id datagram octets .1 f a in
       heard-when id datagram of-plane (ap (λ r. r .verdict) read) ∙ rw read
 
-module _ (s : State) (fits : stateFits s ≡ true) (datagram : List ℕ) (octets : Octets datagram)
+module _ (s : State) (fits : stateFits s ≡ true) (time : ℕ) (timely : s .pacer .clock ≤ time) (datagram : List ℕ) (octets : Octets datagram)
     (f : Options) (a : Accepts planes.Control ends.Radio (s .datalink) datagram f) where
-  module _ {x : EndpointReply} {s′ : State} (h : PerformedWithAny (radio datagram) s x s′) where
-    pub left : s′ ≡ heardBy (controlMeaning ends.Radio f) s
-    unfolding afterUnder
-    left = ap (λ (w : World). w .state) (h [] .world-is) ∙ rw (accepted-fits (lending s []) datagram fits, brings (s .datalink) datagram f a octets)
+  module _ {x : EndpointReply} {s′ : State} (h : PerformedWithAny (radio time datagram) s x s′) where
+    pub left : s′ ≡ withPacer (heardBy (controlMeaning ends.Radio f) s) (heardAt time (s .pacer))
+    left =
+        let there = received-in-time (lending s []) time datagram (rw (fits, le-ltb time (s .pacer .clock) timely)) in
+        ap (λ (w : World). w .state) (h [] .world-is ∙ there) ∙ rw (brings (s .datalink) datagram f a octets)
 
     after-is : (index : ℕ) → index < length (s .channels) → getD (s′ .channels) index noChannel ≡ heardFrom (controlMeaning ends.Radio f) (getD (s .channels) index noChannel)
-    unfolding channelAt
+    unfolding channelAt withPacer
     after-is index inside = rw left (heard-at (controlMeaning ends.Radio f) s index inside)
 
     -- THE PROMISE: every configured channel takes what the options of its own Channel ID state
     pub option-by-option : EachHears f s s′
-    unfolding channelAt heardBy
+    unfolding channelAt heardBy withPacer
     option-by-option = record {
       each = λ index inside.
           let within = channel-fitting-at s fits index inside in
@@ -171,12 +173,17 @@ module _ (s : State) (fits : stateFits s ≡ true) (datagram : List ℕ) (octets
       datalink-stays = rw left;
     }
 
+    -- and the pacer its time
+    pub pacer-hears : PacerHears time (s .pacer) (s′ .pacer)
+    unfolding withPacer heardAt
+    pacer-hears = rw left (record { clock-is = refl; heard-is = refl; due-stays = refl; hello-stays = refl; limit-stays = refl })
+
 -- ---- "Unconfigured channels are skipped."
 
-module _ (s : State) (fits : stateFits s ≡ true)
+module _ (s : State) (fits : stateFits s ≡ true) (time then : ℕ) (timely : s .pacer .clock ≤ time) (timely′ : s .pacer .clock ≤ then)
     (datagram other : List ℕ) (octets : Octets datagram) (octets′ : Octets other) (f g : Options)
     (a : Accepts planes.Control ends.Radio (s .datalink) datagram f) (b : Accepts planes.Control ends.Radio (s .datalink) other g)
-    {x y : EndpointReply} {s′ t′ : State} (h : PerformedWithAny (radio datagram) s x s′) (k : PerformedWithAny (radio other) s y t′)
+    {x y : EndpointReply} {s′ t′ : State} (h : PerformedWithAny (radio time datagram) s x s′) (k : PerformedWithAny (radio then other) s y t′)
     (index : ℕ) (inside : index < length (s .channels)) where
   abbrev own : ℕ
   own = getD (s .channels) index noChannel .setting .id
@@ -192,9 +199,9 @@ module _ (s : State) (fits : stateFits s ≡ true)
       let window : windowIn (controlMeaning ends.Radio f) own ≡ windowIn (controlMeaning ends.Radio g) own =
       window-in (s .datalink) datagram f a own below
       ∙ rw (said-alike 6 flow-window (s .datalink) datagram other f g a b own (same 6)) (sym (window-in (s .datalink) other g b own below)) in
-      after-is s fits datagram octets f a h index inside
+      after-is s fits time timely datagram octets f a h index inside
       ∙ ap₂ (heardOf (getD (s .channels) index noChannel)) status window
-      ∙ sym (after-is s fits other octets′ g b k index inside)
+      ∙ sym (after-is s fits then timely′ other octets′ g b k index inside)
 
   -- so an option of a channel that isn't configured changes no channel
   pub other-channel-skipped : (kind n : ℕ) (rest : List ℕ) → (n ≡ own → ⊥) → g ≡ option kind (n ∷ rest) f → getD (s′ .channels) index noChannel ≡ getD (t′ .channels) index noChannel

@@ -1,6 +1,6 @@
 -- Document 01, "A channel's life": each case of the answer to an accepted radio control message with what makes it so, and what the endpoint keeps of it, by the options
 -- that stand in it.
-use Prim.Native.Nat.{ℕ}
+use Prim.Native.Nat.{ℕ, _≤_}
 use mathlib.Core.Bool.{true}
 use mathlib.Core.List.{List, []}
 use mathlib.Core.Path.{_≡_}
@@ -40,13 +40,15 @@ pub record Answers (options : Options) (s : State) (answer : RadioAnswer) (s′ 
 -- ---- a short life
 -- a control message of these options, handed in and accepted
 pub record HandedIn (options : Options) (w : World) (answer : RadioAnswer) (w′ : World) : Type 0 where
+  pub time : ℕ
   pub datagram : List ℕ
   pub octets : Octets datagram
   pub fits : stateFits (w .state) ≡ true
+  pub timely : w .state .pacer .clock ≤ time
   pub accepts : Accepts planes.Control ends.Radio (w .state .datalink) datagram options
-  pub performed : Performed (radio datagram) w (ofRadio answer) w′
+  pub performed : Performed (radio time datagram) w (ofRadio answer) w′
 
--- any calls of which none is an accepted control message: refused ones and radio data messages among them
+-- any calls of which none is an accepted control message: refused ones, radio data messages and silences among them
 pub record Between (w w′ : World) : Type 0 where
   pub calls : List Call
   pub replies : List EndpointReply

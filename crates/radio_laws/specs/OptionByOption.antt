@@ -9,6 +9,7 @@ use Rattle.wire.specs.Options.{Options, option}
 use Rattle.meaning.specs.declared.message.Status.{Status}
 use Rattle.flow.specs.declared.Flow.{Flow}
 use Rattle.ips_channel.specs.declared.state.Channel.{Channel}
+use Rattle.pacer.specs.declared.Pacer.{Pacer}
 use Rattle.ips_state.specs.State.{State, noChannel}
 
 -- an option of this type with this content stands among the options
@@ -40,3 +41,11 @@ pub record EachHears (options : Options) (s s′ : State) : Type 0 where
   pub each : (index : ℕ) → index < length (s .channels) → Hears options (getD (s .channels) index noChannel) (getD (s′ .channels) index noChannel)
   pub count-stays : length (s′ .channels) ≡ length (s .channels)
   pub datalink-stays : s′ .datalink ≡ s .datalink
+
+-- Document 02, §1: "once accepted it moves that clock", and the silence is counted from it; nothing else of the pacer changes.
+pub record PacerHears (time : ℕ) (before after : Pacer) : Type 0 where
+  pub clock-is : after .clock ≡ time
+  pub heard-is : after .heard ≡ time
+  pub due-stays : after .due ≡ before .due
+  pub hello-stays : after .hello ≡ before .hello
+  pub limit-stays : after .limit ≡ before .limit

@@ -12,7 +12,7 @@ use Rattle.session_print.specs.Messages.{messageTexts, aboutState}
 use Rattle.session_print.proofs.Lines.{answers-line}
 use Rattle.session.specs.Answers.{Answers}
 
-module _ {lent line : List ℕ} {r : Line} {numbers′ lent′ : List ℕ} (k : Asks lent line r numbers′ lent′) (most : ℕ) {out : List ℕ} {count : ℕ} {out′ : List ℕ} where
+module _ {lent line : List ℕ} {r : Line} {words′ lent′ : List ℕ} (k : Asks lent line r words′ lent′) (most : ℕ) {out : List ℕ} {count : ℕ} {out′ : List ℕ} where
   pub answers-state : aboutState (r .asked) ≡ true → Answers (length lent) most line out count out′
   answers-state e = record { message = λ h. let other = sym e ∙ ap aboutState (k .asked) ∙ h in clash (cc) }
 

@@ -6,6 +6,7 @@ ghost use Rattle.session.specs.Answers.{Answers};
 use endpoint::Channel;
 use endpoint::KeptAnswer;
 use endpoint::MOST_WORDS;
+use endpoint::PacerAnswer;
 use endpoint::Place;
 use endpoint::Refusal;
 use endpoint::StartAnswer;
@@ -17,9 +18,9 @@ use quantity::limit::LONGEST_DATAGRAM;
 use quantity::limit::MOST_CHANNELS;
 use session_print::about_state;
 use session_read::Asked;
+use session_read::CONFIGURATION_WORDS;
 use session_read::Command;
 use session_read::Line;
-use session_read::PLACES;
 use session_read::StartWords;
 
 // The longest line of 140,000 bytes stands in the buffer with its newline.
@@ -70,10 +71,10 @@ fn still_held(held: Held, count: usize) -> Turn
     Turn { held, count }
 }
 
-// The configuration's words, which stand at the start of the line's numbers.
-fn configuration(numbers: &[u64], words: usize) -> &[u64] {
-    let count = least(words, numbers.len());
-    &numbers[0..count]
+// The words of a configuration, which stand at the start of those that were lent for it.
+fn configured(configuration: &[u64], words: usize) -> &[u64] {
+    let count = least(words, configuration.len());
+    &configuration[0..count]
 }
 
 // `start ..`: a refused one leaves words and memory as they were, so the state before it goes on.
@@ -82,7 +83,7 @@ fn start_line(
     words: &mut [u64],
     memory: &mut [u8],
     said: StartWords,
-    numbers: &[u64; PLACES],
+    configuration: &[u64; CONFIGURATION_WORDS],
     out: &mut [u8],
 ) -> Turn {
     let words_lent = least(endpoint::words_for(said.channels), words.len());
@@ -90,7 +91,7 @@ fn start_line(
     let answer = endpoint::start(
         &mut words[0..words_lent],
         &mut memory[0..memory_lent],
-        configuration(numbers, said.words),
+        configured(configuration, said.words),
     );
     let count = session_print::started(out, 0, answer);
     match answer {
@@ -141,10 +142,16 @@ fn withdraw_line(words: &mut [u64], memory: &mut [u8], id: u8, out: &mut [u8]) -
     session_print::emptied(out, 0, answer)
 }
 
-// `radio HEX`
-fn radio_line(words: &mut [u64], datagram: &[u8], out: &mut [u8]) -> usize {
-    let answer = endpoint::hand_in(words, datagram);
+// `radio NOW HEX`
+fn radio_line(words: &mut [u64], time: u64, datagram: &[u8], out: &mut [u8]) -> usize {
+    let answer = endpoint::hand_in(words, time, datagram);
     session_print::heard(out, 0, answer)
+}
+
+// `pace NOW`
+fn pace_line(words: &mut [u64], time: u64, out: &mut [u8]) -> usize {
+    let answer = endpoint::pace(words, time);
+    session_print::paced(out, 0, answer)
 }
 
 // `query ROOM`
@@ -190,6 +197,14 @@ fn kept_line(words: &[u64], out: &mut [u8]) -> usize {
     }
 }
 
+// `pacer`
+fn pacer_line(words: &[u64], out: &mut [u8]) -> usize {
+    match endpoint::pacer(words) {
+        PacerAnswer::Shown(pacer) => session_print::pacer(out, 0, pacer),
+        PacerAnswer::Refused(refusal) => refused(out, 0, refusal),
+    }
+}
+
 // A line about a state that was started, on the words and the memory that are lent with it.
 fn command_line(
     words: &mut [u64],
@@ -203,11 +218,13 @@ fn command_line(
         Command::Offer(id, time, expiry) => offer_line(words, memory, id, time, expiry, bytes, out),
         Command::Next(id, time, room) => next_line(words, memory, id, time, room, output, out),
         Command::Withdraw(id) => withdraw_line(words, memory, id, out),
-        Command::Radio => radio_line(words, bytes, out),
+        Command::Radio(time) => radio_line(words, time, bytes, out),
+        Command::Pace(time) => pace_line(words, time, out),
         Command::Query(room) => query_line(words, room, output, out),
         Command::Show(id) => show_line(words, id, out),
         Command::Store(id) => store_line(words, memory, id, out),
         Command::Kept => kept_line(words, out),
+        Command::Pacer => pacer_line(words, out),
     }
 }
 
@@ -217,14 +234,14 @@ fn state_line(
     words: &mut [u64],
     memory: &mut [u8],
     said: Line,
-    numbers: &[u64; PLACES],
+    configuration: &[u64; CONFIGURATION_WORDS],
     bytes: &[u8],
     output: &mut [u8],
     out: &mut [u8],
 ) -> Turn {
     let asked = said.asked;
     let Asked::State(command) = asked else {
-        return start_line(held, words, memory, said.start, numbers, out);
+        return start_line(held, words, memory, said.start, configuration, out);
     };
     if !held.started {
         return still_held(held, session_print::bad_line(out));
@@ -262,8 +279,8 @@ fn answer_line(
 ) -> Turn
     ensures { λ r. ⌜ Answers (length (now (bytes .entry))) (length (now (output .entry))) (now (line .entry)) (now (out .entry)) (r .count) (now (out .exit)) ⌝ }
 {
-    let mut numbers = [0u64; PLACES];
-    let said = session_read::read(line, &mut numbers, bytes);
+    let mut configuration = [0u64; CONFIGURATION_WORDS];
+    let said = session_read::read(line, &mut configuration, bytes);
     let asked = said.asked;
     if about_state(asked) {
         return state_line(
@@ -271,7 +288,7 @@ fn answer_line(
             words,
             memory,
             said,
-            &numbers,
+            &configuration,
             first(bytes, said.bytes),
             output,
             out,

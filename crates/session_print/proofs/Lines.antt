@@ -10,7 +10,7 @@ use Rattle.session_read.specs.declared.line.Line.{Line}
 use Rattle.session_read.specs.Lines.{saidBy, askedOf, Asks}
 use Rattle.session_print.specs.Messages.{messageTexts, answerTexts}
 
-module _ {lent line : List ℕ} {r : Line} {numbers′ lent′ : List ℕ} (k : Asks lent line r numbers′ lent′) where
+module _ {lent line : List ℕ} {r : Line} {words′ lent′ : List ℕ} (k : Asks lent line r words′ lent′) where
   abbrev said : List ℕ
   said = saidBy (length lent) line .bytes
 

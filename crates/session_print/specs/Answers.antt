@@ -9,6 +9,7 @@ use Rattle.ips_channel_calls.specs.declared.asking.NextAnswer.{NextAnswer}
 use Rattle.ips_state.specs.declared.StartAnswer.{StartAnswer}
 use Rattle.ips_channel_calls.specs.declared.offering.WithdrawAnswer.{WithdrawAnswer}
 use Rattle.ips_radio.specs.declared.RadioAnswer.{RadioAnswer}
+use Rattle.pacer.specs.declared.PaceAnswer.{PaceAnswer}
 use Rattle.message_words.specs.Phrases.{refusedTexts}
 
 -- `started`
@@ -47,6 +48,22 @@ ACCEPTED = 97 ∷ 99 ∷ 99 ∷ 101 ∷ 112 ∷ 116 ∷ 101 ∷ 100 ∷ []
 abbrev pub ACCEPTED-DUE : List ℕ
 ACCEPTED-DUE = 97 ∷ 99 ∷ 99 ∷ 101 ∷ 112 ∷ 116 ∷ 101 ∷ 100 ∷ 32 ∷ 100 ∷ 117 ∷ 101 ∷ []
 
+-- `quiet`
+abbrev pub QUIET : List ℕ
+QUIET = 113 ∷ 117 ∷ 105 ∷ 101 ∷ 116 ∷ []
+
+-- `due`
+abbrev pub DUE : List ℕ
+DUE = 100 ∷ 117 ∷ 101 ∷ []
+
+-- `silent`
+abbrev pub SILENT : List ℕ
+SILENT = 115 ∷ 105 ∷ 108 ∷ 101 ∷ 110 ∷ 116 ∷ []
+
+-- `due silent`
+abbrev pub DUE-SILENT : List ℕ
+DUE-SILENT = 100 ∷ 117 ∷ 101 ∷ 32 ∷ 115 ∷ 105 ∷ 108 ∷ 101 ∷ 110 ∷ 116 ∷ []
+
 -- `query `
 abbrev pub QUERY : List ℕ
 QUERY = 113 ∷ 117 ∷ 101 ∷ 114 ∷ 121 ∷ 32 ∷ []
@@ -76,6 +93,14 @@ abbrev pub radioTexts : RadioAnswer → List (List ℕ)
 radioTexts RadioAnswer.Accepted = ACCEPTED ∷ []
 radioTexts RadioAnswer.Due = ACCEPTED-DUE ∷ []
 radioTexts (RadioAnswer.Refused refusal) = refusedTexts refusal
+
+-- "`quiet`, `due` (a query is), `silent` (the radio is), `due silent`"
+abbrev pub paceTexts : PaceAnswer → List (List ℕ)
+paceTexts PaceAnswer.Quiet = QUIET ∷ []
+paceTexts PaceAnswer.Due = DUE ∷ []
+paceTexts PaceAnswer.Silent = SILENT ∷ []
+paceTexts PaceAnswer.DueSilent = DUE-SILENT ∷ []
+paceTexts (PaceAnswer.Refused refusal) = refusedTexts refusal
 
 abbrev pub queryTexts : WriteAnswer → List ℕ → List (List ℕ)
 queryTexts (WriteAnswer.Wrote count) out = QUERY ∷ (bytesText (take (count .0) out) ∷ [])

@@ -1,6 +1,6 @@
 -- docs/SESSION.md: "`show CHANNEL`: `channel CHANNEL STATUS FLOW SEQUENCE LATEST WAITING` and then `LEN EXPIRY` for each waiting packet. `STATUS` is `-` while not
 -- reported; `FLOW` is `free`, `none` or the window's number." "`store CHANNEL`: `store HEX`, every byte of that channel's store".
--- "`kept`: `kept`, and `link LEN VALUE` and `context HEX`, each where there is one".
+-- "`kept`: `kept`, and `link LEN VALUE` and `context HEX`, each where there is one". "`pacer`: `pacer CLOCK DUE HEARD`".
 use Prim.Native.Nat.{ℕ}
 use mathlib.Core.List.{List, [], _∷_, _++_}
 use Rattle.text.specs.Strings.{bytesText}
@@ -12,6 +12,7 @@ use Rattle.store.specs.declared.queue.Queue.{Queue}
 use Rattle.store.specs.Waiting.{waiting}
 use Rattle.flow.specs.declared.Flow.{Flow}
 use Rattle.ips_channel.specs.declared.state.Channel.{Channel}
+use Rattle.pacer.specs.declared.Pacer.{Pacer}
 use Rattle.message_words.specs.Phrases.{SPACE, oneNumber, twoNumbers, instanceTexts, contextTexts}
 
 -- ` -`
@@ -37,6 +38,10 @@ STORE = 115 ∷ 116 ∷ 111 ∷ 114 ∷ 101 ∷ 32 ∷ []
 -- `kept`
 abbrev pub KEPT : List ℕ
 KEPT = 107 ∷ 101 ∷ 112 ∷ 116 ∷ []
+
+-- `pacer `
+abbrev pub PACER : List ℕ
+PACER = 112 ∷ 97 ∷ 99 ∷ 101 ∷ 114 ∷ 32 ∷ []
 
 abbrev pub statusTexts : Status → List (List ℕ)
 statusTexts Status.Absent = NOT-REPORTED ∷ []
@@ -64,3 +69,7 @@ storeTexts store = STORE ∷ (bytesText store ∷ [])
 -- the Link Instance and the Context of a state, as `read` says those of a message
 unfoldable pub keptTexts : Instance → Context → List (List ℕ)
 keptTexts link context = KEPT ∷ (instanceTexts link ++ contextTexts context)
+
+-- "shows the pacer's clock, the time of the last query that was due, and that of the last accepted control message"
+unfoldable pub pacerTexts : Pacer → List (List ℕ)
+pacerTexts pacer = oneNumber PACER (pacer .clock) ++ twoNumbers SPACE (pacer .due) (pacer .heard)

@@ -3,13 +3,14 @@ ghost use mathlib.Core.List.{[], _∷_};
 ghost use lib.ListN.{take};
 ghost use Rattle.text.specs.Strings.{bytesText};
 ghost use Rattle.message_words.specs.Saying.{Says};
-ghost use Rattle.session_print.specs.Answers.{startTexts, offerTexts, nextTexts, withdrawTexts, radioTexts, queryTexts};
+ghost use Rattle.session_print.specs.Answers.{startTexts, offerTexts, nextTexts, withdrawTexts, radioTexts, paceTexts, queryTexts};
 use ips_channel_calls::asking::NextAnswer;
 use ips_channel_calls::offering::OfferAnswer;
 use ips_channel_calls::offering::WithdrawAnswer;
 use ips_radio::RadioAnswer;
 use ips_state::StartAnswer;
 use message_words::whole;
+use pacer::PaceAnswer;
 use text::put;
 use text::put_bytes;
 use writer::answer::WriteAnswer;
@@ -76,6 +77,19 @@ pub fn heard(out: &mut [u8], at: usize, answer: RadioAnswer) -> usize
         RadioAnswer::Accepted => put(out, at, b"accepted"),
         RadioAnswer::Due => put(out, at, b"accepted due"),
         RadioAnswer::Refused(refusal) => whole::refused(out, at, refusal),
+    }
+}
+
+// The answer to `pace`.
+pub fn paced(out: &mut [u8], at: usize, answer: PaceAnswer) -> usize
+    ensures { λ r. ⌜ Says (now (out .entry)) at (paceTexts answer) r (now (out .exit)) ⌝ }
+{
+    match answer {
+        PaceAnswer::Quiet => put(out, at, b"quiet"),
+        PaceAnswer::Due => put(out, at, b"due"),
+        PaceAnswer::Silent => put(out, at, b"silent"),
+        PaceAnswer::DueSilent => put(out, at, b"due silent"),
+        PaceAnswer::Refused(refusal) => whole::refused(out, at, refusal),
     }
 }
 

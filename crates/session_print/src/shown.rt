@@ -1,6 +1,6 @@
 // What a channel is, what its store holds, and what a state keeps beside its channels.
 ghost use Rattle.message_words.specs.Saying.{Says};
-ghost use Rattle.session_print.specs.Shown.{statusTexts, flowTexts, waitingTexts, channelTexts, storeTexts, keptTexts};
+ghost use Rattle.session_print.specs.Shown.{statusTexts, flowTexts, waitingTexts, channelTexts, storeTexts, keptTexts, pacerTexts};
 use flow::Flow;
 use ips_channel::state::Channel;
 use meaning::message::Context;
@@ -10,6 +10,7 @@ use message_words::part::context;
 use message_words::part::instance;
 use message_words::part::labelled;
 use message_words::part::paired;
+use pacer::Pacer;
 use quantity::limit::MOST_WAITING;
 use store::queue::Queue;
 use text::put;
@@ -81,4 +82,12 @@ pub fn kept(out: &mut [u8], at: usize, link: Instance, place: Context) -> usize
     let label = put(out, at, b"kept");
     let linked = instance(out, label, link);
     context(out, linked, place)
+}
+
+// The answer to `pacer`: its three times.
+pub fn pacer(out: &mut [u8], at: usize, pacer: Pacer) -> usize
+    ensures { λ r. ⌜ Says (now (out .entry)) at (pacerTexts pacer) r (now (out .exit)) ⌝ }
+{
+    let clock = labelled(out, at, b"pacer ", pacer.clock);
+    paired(out, clock, b" ", pacer.due, pacer.heard)
 }

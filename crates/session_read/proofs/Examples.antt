@@ -2,6 +2,7 @@
 use mathlib.Core.Path.{_≡_, refl}
 use mathlib.Core.List.{List, [], _∷_, _++_}
 use Prim.Native.Nat.{ℕ}
+use Rattle.facts.specs.Tables.{tabulate}
 use Rattle.bytes.specs.Bytes.{indexOf}
 use Rattle.text.specs.Words.{headOf, tailOf}
 use Rattle.text.specs.Numbers.{digitOf, stepOf, followOf, bySize, plainOf, parseOf}
@@ -12,57 +13,82 @@ use Rattle.meaning.specs.declared.message.End.{End}
 use Rattle.session_read.specs.declared.asked.Asked.{Asked}
 use Rattle.session_read.specs.declared.asked.Command.{Command}
 use Rattle.session_read.specs.declared.start.StartWords.{StartWords}
-use Rattle.session_read.specs.Lines.{shortened, endOf, askedBy, startBy, askedOf, startOf}
-use Rattle.session_read.specs.Start.{storesOf, memoryOf, startFrom}
+use Rattle.session_read.specs.Lines.{shortened, endOf, askedBy, startBy, configurationBy, askedOf, startOf, configurationSaid}
+use Rattle.session_read.specs.Start.{storesOf, perhaps, memoryOf, pacePlace, helloOf, limitOf, channelsSaid, configurationFrom, startFrom}
 
 -- `read radio 7 0102`
 read : askedOf 2 (114 ∷ 101 ∷ 97 ∷ 100 ∷ 32 ∷ 114 ∷ 97 ∷ 100 ∷ 105 ∷ 111 ∷ 32 ∷ 55 ∷ 32 ∷ 48 ∷ 49 ∷ 48 ∷ 50 ∷ []) ≡ Asked.Read End.Radio 7
-unfolding indexOf headOf tailOf digitOf stepOf followOf bySize plainOf parseOf pairsOf readableOf hexedOf spellsOf choiceOf valueOf bytesOf behindOf itemOf itemsOf listOf lastNumber itemOrListOf leftOutOf rowOf readBy goodBy namedOf itemsLeft commandOf keyOf itemsBehind saidIn keyIn shortened endOf askedBy startBy askedOf startOf storesOf memoryOf startFrom
+unfolding indexOf headOf tailOf digitOf stepOf followOf bySize plainOf parseOf pairsOf readableOf hexedOf spellsOf choiceOf valueOf bytesOf behindOf itemOf itemsOf listOf lastNumber itemOrListOf leftOutOf rowOf readBy goodBy namedOf itemsLeft commandOf keyOf itemsBehind saidIn keyIn shortened endOf askedBy startBy askedOf startOf storesOf perhaps memoryOf startFrom
 read = refl
 
 -- `echo ips 7 - radio 40`
 echo : askedOf 2 (101 ∷ 99 ∷ 104 ∷ 111 ∷ 32 ∷ 105 ∷ 112 ∷ 115 ∷ 32 ∷ 55 ∷ 32 ∷ 45 ∷ 32 ∷ 114 ∷ 97 ∷ 100 ∷ 105 ∷ 111 ∷ 32 ∷ 52 ∷ 48 ∷ []) ≡ Asked.Echo End.Ips 7 End.Radio 40
-unfolding indexOf headOf tailOf digitOf stepOf followOf bySize plainOf parseOf pairsOf readableOf hexedOf spellsOf choiceOf valueOf bytesOf behindOf itemOf itemsOf listOf lastNumber itemOrListOf leftOutOf rowOf readBy goodBy namedOf itemsLeft commandOf keyOf itemsBehind saidIn keyIn shortened endOf askedBy startBy askedOf startOf storesOf memoryOf startFrom
+unfolding indexOf headOf tailOf digitOf stepOf followOf bySize plainOf parseOf pairsOf readableOf hexedOf spellsOf choiceOf valueOf bytesOf behindOf itemOf itemsOf listOf lastNumber itemOrListOf leftOutOf rowOf readBy goodBy namedOf itemsLeft commandOf keyOf itemsBehind saidIn keyIn shortened endOf askedBy startBy askedOf startOf storesOf perhaps memoryOf startFrom
 echo = refl
 
 -- `offer 3 100 200 0aff`
 offer : askedOf 2 (111 ∷ 102 ∷ 102 ∷ 101 ∷ 114 ∷ 32 ∷ 51 ∷ 32 ∷ 49 ∷ 48 ∷ 48 ∷ 32 ∷ 50 ∷ 48 ∷ 48 ∷ 32 ∷ 48 ∷ 97 ∷ 102 ∷ 102 ∷ []) ≡ Asked.State (Command.Offer 3 100 200)
-unfolding indexOf headOf tailOf digitOf stepOf followOf bySize plainOf parseOf pairsOf readableOf hexedOf spellsOf choiceOf valueOf bytesOf behindOf itemOf itemsOf listOf lastNumber itemOrListOf leftOutOf rowOf readBy goodBy namedOf itemsLeft commandOf keyOf itemsBehind saidIn keyIn shortened endOf askedBy startBy askedOf startOf storesOf memoryOf startFrom
+unfolding indexOf headOf tailOf digitOf stepOf followOf bySize plainOf parseOf pairsOf readableOf hexedOf spellsOf choiceOf valueOf bytesOf behindOf itemOf itemsOf listOf lastNumber itemOrListOf leftOutOf rowOf readBy goodBy namedOf itemsLeft commandOf keyOf itemsBehind saidIn keyIn shortened endOf askedBy startBy askedOf startOf storesOf perhaps memoryOf startFrom
 offer = refl
 
 -- `offer 3 100 200 0aff`, with room for one byte only
 offer-long : askedOf 1 (111 ∷ 102 ∷ 102 ∷ 101 ∷ 114 ∷ 32 ∷ 51 ∷ 32 ∷ 49 ∷ 48 ∷ 48 ∷ 32 ∷ 50 ∷ 48 ∷ 48 ∷ 32 ∷ 48 ∷ 97 ∷ 102 ∷ 102 ∷ []) ≡ Asked.Bad
-unfolding indexOf headOf tailOf digitOf stepOf followOf bySize plainOf parseOf pairsOf readableOf hexedOf spellsOf choiceOf valueOf bytesOf behindOf itemOf itemsOf listOf lastNumber itemOrListOf leftOutOf rowOf readBy goodBy namedOf itemsLeft commandOf keyOf itemsBehind saidIn keyIn shortened endOf askedBy startBy askedOf startOf storesOf memoryOf startFrom
+unfolding indexOf headOf tailOf digitOf stepOf followOf bySize plainOf parseOf pairsOf readableOf hexedOf spellsOf choiceOf valueOf bytesOf behindOf itemOf itemsOf listOf lastNumber itemOrListOf leftOutOf rowOf readBy goodBy namedOf itemsLeft commandOf keyOf itemsBehind saidIn keyIn shortened endOf askedBy startBy askedOf startOf storesOf perhaps memoryOf startFrom
 offer-long = refl
 
 -- `next 3 100 1500`
 next : askedOf 0 (110 ∷ 101 ∷ 120 ∷ 116 ∷ 32 ∷ 51 ∷ 32 ∷ 49 ∷ 48 ∷ 48 ∷ 32 ∷ 49 ∷ 53 ∷ 48 ∷ 48 ∷ []) ≡ Asked.State (Command.Next 3 100 1500)
-unfolding indexOf headOf tailOf digitOf stepOf followOf bySize plainOf parseOf pairsOf readableOf hexedOf spellsOf choiceOf valueOf bytesOf behindOf itemOf itemsOf listOf lastNumber itemOrListOf leftOutOf rowOf readBy goodBy namedOf itemsLeft commandOf keyOf itemsBehind saidIn keyIn shortened endOf askedBy startBy askedOf startOf storesOf memoryOf startFrom
+unfolding indexOf headOf tailOf digitOf stepOf followOf bySize plainOf parseOf pairsOf readableOf hexedOf spellsOf choiceOf valueOf bytesOf behindOf itemOf itemsOf listOf lastNumber itemOrListOf leftOutOf rowOf readBy goodBy namedOf itemsLeft commandOf keyOf itemsBehind saidIn keyIn shortened endOf askedBy startBy askedOf startOf storesOf perhaps memoryOf startFrom
 next = refl
 
 -- `next 256 100 1500`
 next-high : askedOf 0 (110 ∷ 101 ∷ 120 ∷ 116 ∷ 32 ∷ 50 ∷ 53 ∷ 54 ∷ 32 ∷ 49 ∷ 48 ∷ 48 ∷ 32 ∷ 49 ∷ 53 ∷ 48 ∷ 48 ∷ []) ≡ Asked.Bad
-unfolding indexOf headOf tailOf digitOf stepOf followOf bySize plainOf parseOf pairsOf readableOf hexedOf spellsOf choiceOf valueOf bytesOf behindOf itemOf itemsOf listOf lastNumber itemOrListOf leftOutOf rowOf readBy goodBy namedOf itemsLeft commandOf keyOf itemsBehind saidIn keyIn shortened endOf askedBy startBy askedOf startOf storesOf memoryOf startFrom
+unfolding indexOf headOf tailOf digitOf stepOf followOf bySize plainOf parseOf pairsOf readableOf hexedOf spellsOf choiceOf valueOf bytesOf behindOf itemOf itemsOf listOf lastNumber itemOrListOf leftOutOf rowOf readBy goodBy namedOf itemsLeft commandOf keyOf itemsBehind saidIn keyIn shortened endOf askedBy startBy askedOf startOf storesOf perhaps memoryOf startFrom
 next-high = refl
 
 -- `next 3 100 1500 `, with a space behind it
 next-more : askedOf 0 (110 ∷ 101 ∷ 120 ∷ 116 ∷ 32 ∷ 51 ∷ 32 ∷ 49 ∷ 48 ∷ 48 ∷ 32 ∷ 49 ∷ 53 ∷ 48 ∷ 48 ∷ 32 ∷ []) ≡ Asked.Bad
-unfolding indexOf headOf tailOf digitOf stepOf followOf bySize plainOf parseOf pairsOf readableOf hexedOf spellsOf choiceOf valueOf bytesOf behindOf itemOf itemsOf listOf lastNumber itemOrListOf leftOutOf rowOf readBy goodBy namedOf itemsLeft commandOf keyOf itemsBehind saidIn keyIn shortened endOf askedBy startBy askedOf startOf storesOf memoryOf startFrom
+unfolding indexOf headOf tailOf digitOf stepOf followOf bySize plainOf parseOf pairsOf readableOf hexedOf spellsOf choiceOf valueOf bytesOf behindOf itemOf itemsOf listOf lastNumber itemOrListOf leftOutOf rowOf readBy goodBy namedOf itemsLeft commandOf keyOf itemsBehind saidIn keyIn shortened endOf askedBy startBy askedOf startOf storesOf perhaps memoryOf startFrom
 next-more = refl
 
 -- `nexta 3 100 1500`
 nexta : askedOf 0 (110 ∷ 101 ∷ 120 ∷ 116 ∷ 97 ∷ 32 ∷ 51 ∷ 32 ∷ 49 ∷ 48 ∷ 48 ∷ 32 ∷ 49 ∷ 53 ∷ 48 ∷ 48 ∷ []) ≡ Asked.Bad
-unfolding indexOf headOf tailOf digitOf stepOf followOf bySize plainOf parseOf pairsOf readableOf hexedOf spellsOf choiceOf valueOf bytesOf behindOf itemOf itemsOf listOf lastNumber itemOrListOf leftOutOf rowOf readBy goodBy namedOf itemsLeft commandOf keyOf itemsBehind saidIn keyIn shortened endOf askedBy startBy askedOf startOf storesOf memoryOf startFrom
+unfolding indexOf headOf tailOf digitOf stepOf followOf bySize plainOf parseOf pairsOf readableOf hexedOf spellsOf choiceOf valueOf bytesOf behindOf itemOf itemsOf listOf lastNumber itemOrListOf leftOutOf rowOf readBy goodBy namedOf itemsLeft commandOf keyOf itemsBehind saidIn keyIn shortened endOf askedBy startBy askedOf startOf storesOf perhaps memoryOf startFrom
 nexta = refl
+
+-- `radio 1005 0aff`
+radio : askedOf 2 (114 ∷ 97 ∷ 100 ∷ 105 ∷ 111 ∷ 32 ∷ 49 ∷ 48 ∷ 48 ∷ 53 ∷ 32 ∷ 48 ∷ 97 ∷ 102 ∷ 102 ∷ []) ≡ Asked.State (Command.Radio 1005)
+unfolding indexOf headOf tailOf digitOf stepOf followOf bySize plainOf parseOf pairsOf readableOf hexedOf spellsOf choiceOf valueOf bytesOf behindOf itemOf itemsOf listOf lastNumber itemOrListOf leftOutOf rowOf readBy goodBy namedOf itemsLeft commandOf keyOf itemsBehind saidIn keyIn shortened endOf askedBy startBy askedOf startOf storesOf perhaps memoryOf startFrom
+radio = refl
+
+-- `radio 0aff`, without a time
+radio-untimed : askedOf 2 (114 ∷ 97 ∷ 100 ∷ 105 ∷ 111 ∷ 32 ∷ 48 ∷ 97 ∷ 102 ∷ 102 ∷ []) ≡ Asked.Bad
+unfolding indexOf headOf tailOf digitOf stepOf followOf bySize plainOf parseOf pairsOf readableOf hexedOf spellsOf choiceOf valueOf bytesOf behindOf itemOf itemsOf listOf lastNumber itemOrListOf leftOutOf rowOf readBy goodBy namedOf itemsLeft commandOf keyOf itemsBehind saidIn keyIn shortened endOf askedBy startBy askedOf startOf storesOf perhaps memoryOf startFrom
+radio-untimed = refl
+
+-- `pace 18446744073709551615`, the latest time
+pace : askedOf 0 (112 ∷ 97 ∷ 99 ∷ 101 ∷ 32 ∷ 49 ∷ 56 ∷ 52 ∷ 52 ∷ 54 ∷ 55 ∷ 52 ∷ 52 ∷ 48 ∷ 55 ∷ 51 ∷ 55 ∷ 48 ∷ 57 ∷ 53 ∷ 53 ∷ 49 ∷ 54 ∷ 49 ∷ 53 ∷ []) ≡ Asked.State (Command.Pace 18446744073709551615)
+unfolding indexOf headOf tailOf digitOf stepOf followOf bySize plainOf parseOf pairsOf readableOf hexedOf spellsOf choiceOf valueOf bytesOf behindOf itemOf itemsOf listOf lastNumber itemOrListOf leftOutOf rowOf readBy goodBy namedOf itemsLeft commandOf keyOf itemsBehind saidIn keyIn shortened endOf askedBy startBy askedOf startOf storesOf perhaps memoryOf startFrom
+pace = refl
+
+-- `pace 18446744073709551616`
+pace-more : askedOf 0 (112 ∷ 97 ∷ 99 ∷ 101 ∷ 32 ∷ 49 ∷ 56 ∷ 52 ∷ 52 ∷ 54 ∷ 55 ∷ 52 ∷ 52 ∷ 48 ∷ 55 ∷ 51 ∷ 55 ∷ 48 ∷ 57 ∷ 53 ∷ 53 ∷ 49 ∷ 54 ∷ 49 ∷ 54 ∷ []) ≡ Asked.Bad
+unfolding indexOf headOf tailOf digitOf stepOf followOf bySize plainOf parseOf pairsOf readableOf hexedOf spellsOf choiceOf valueOf bytesOf behindOf itemOf itemsOf listOf lastNumber itemOrListOf leftOutOf rowOf readBy goodBy namedOf itemsLeft commandOf keyOf itemsBehind saidIn keyIn shortened endOf askedBy startBy askedOf startOf storesOf perhaps memoryOf startFrom
+pace-more = refl
+
+-- `pacer`
+pacer : askedOf 0 (112 ∷ 97 ∷ 99 ∷ 101 ∷ 114 ∷ []) ≡ Asked.State Command.Pacer
+unfolding indexOf headOf tailOf digitOf stepOf followOf bySize plainOf parseOf pairsOf readableOf hexedOf spellsOf choiceOf valueOf bytesOf behindOf itemOf itemsOf listOf lastNumber itemOrListOf leftOutOf rowOf readBy goodBy namedOf itemsLeft commandOf keyOf itemsBehind saidIn keyIn shortened endOf askedBy startBy askedOf startOf storesOf perhaps memoryOf startFrom
+pacer = refl
 
 -- `query 4194304`, the most room
 query : askedOf 0 (113 ∷ 117 ∷ 101 ∷ 114 ∷ 121 ∷ 32 ∷ 52 ∷ 49 ∷ 57 ∷ 52 ∷ 51 ∷ 48 ∷ 52 ∷ []) ≡ Asked.State (Command.Query 4194304)
-unfolding indexOf headOf tailOf digitOf stepOf followOf bySize plainOf parseOf pairsOf readableOf hexedOf spellsOf choiceOf valueOf bytesOf behindOf itemOf itemsOf listOf lastNumber itemOrListOf leftOutOf rowOf readBy goodBy namedOf itemsLeft commandOf keyOf itemsBehind saidIn keyIn shortened endOf askedBy startBy askedOf startOf storesOf memoryOf startFrom
+unfolding indexOf headOf tailOf digitOf stepOf followOf bySize plainOf parseOf pairsOf readableOf hexedOf spellsOf choiceOf valueOf bytesOf behindOf itemOf itemsOf listOf lastNumber itemOrListOf leftOutOf rowOf readBy goodBy namedOf itemsLeft commandOf keyOf itemsBehind saidIn keyIn shortened endOf askedBy startBy askedOf startOf storesOf perhaps memoryOf startFrom
 query = refl
 
 -- `query 4194305`
 query-more : askedOf 0 (113 ∷ 117 ∷ 101 ∷ 114 ∷ 121 ∷ 32 ∷ 52 ∷ 49 ∷ 57 ∷ 52 ∷ 51 ∷ 48 ∷ 53 ∷ []) ≡ Asked.Bad
-unfolding indexOf headOf tailOf digitOf stepOf followOf bySize plainOf parseOf pairsOf readableOf hexedOf spellsOf choiceOf valueOf bytesOf behindOf itemOf itemsOf listOf lastNumber itemOrListOf leftOutOf rowOf readBy goodBy namedOf itemsLeft commandOf keyOf itemsBehind saidIn keyIn shortened endOf askedBy startBy askedOf startOf storesOf memoryOf startFrom
+unfolding indexOf headOf tailOf digitOf stepOf followOf bySize plainOf parseOf pairsOf readableOf hexedOf spellsOf choiceOf valueOf bytesOf behindOf itemOf itemsOf listOf lastNumber itemOrListOf leftOutOf rowOf readBy goodBy namedOf itemsLeft commandOf keyOf itemsBehind saidIn keyIn shortened endOf askedBy startBy askedOf startOf storesOf perhaps memoryOf startFrom
 query-more = refl
 
 -- `start 7 2 0 plain 0 1500 3 flow 4294967000 3000`
@@ -70,18 +96,50 @@ abbrev line : List ℕ
 line = 115 ∷ 116 ∷ 97 ∷ 114 ∷ 116 ∷ 32 ∷ 55 ∷ 32 ∷ 50 ∷ 32 ∷ 48 ∷ 32 ∷ 112 ∷ 108 ∷ 97 ∷ 105 ∷ 110 ∷ 32 ∷ 48 ∷ 32 ∷ 49 ∷ 53 ∷ 48 ∷ 48 ∷ 32 ∷ 51 ∷ 32 ∷ 102 ∷ 108 ∷ 111 ∷ 119 ∷ 32 ∷ 52 ∷ 50 ∷ 57 ∷ 52 ∷ 57 ∷ 54 ∷ 55 ∷ 48 ∷ 48 ∷ 48 ∷ 32 ∷ 51 ∷ 48 ∷ 48 ∷ 48 ∷ []
 
 abbrev started : ℕ → StartWords
-started memory = record { words = 10; channels = 2; memory = memory }
+started memory = record { words = 12; channels = 2; memory = memory }
 
 stores : startOf 0 line ≡ started 4500
-unfolding indexOf headOf tailOf digitOf stepOf followOf bySize plainOf parseOf pairsOf readableOf hexedOf spellsOf choiceOf valueOf bytesOf behindOf itemOf itemsOf listOf lastNumber itemOrListOf leftOutOf rowOf readBy goodBy namedOf itemsLeft commandOf keyOf itemsBehind saidIn keyIn shortened endOf askedBy startBy askedOf startOf storesOf memoryOf startFrom
+unfolding indexOf headOf tailOf digitOf stepOf followOf bySize plainOf parseOf pairsOf readableOf hexedOf spellsOf choiceOf valueOf bytesOf behindOf itemOf itemsOf listOf lastNumber itemOrListOf leftOutOf rowOf readBy goodBy namedOf itemsLeft commandOf keyOf itemsBehind saidIn keyIn shortened endOf askedBy startBy askedOf startOf storesOf perhaps memoryOf startFrom
 stores = refl
 
 -- with `memory 10` behind it
 memory : startOf 0 (line ++ (32 ∷ 109 ∷ 101 ∷ 109 ∷ 111 ∷ 114 ∷ 121 ∷ 32 ∷ 49 ∷ 48 ∷ [])) ≡ started 10
-unfolding indexOf headOf tailOf digitOf stepOf followOf bySize plainOf parseOf pairsOf readableOf hexedOf spellsOf choiceOf valueOf bytesOf behindOf itemOf itemsOf listOf lastNumber itemOrListOf leftOutOf rowOf readBy goodBy namedOf itemsLeft commandOf keyOf itemsBehind saidIn keyIn shortened endOf askedBy startBy askedOf startOf storesOf memoryOf startFrom
+unfolding indexOf headOf tailOf digitOf stepOf followOf bySize plainOf parseOf pairsOf readableOf hexedOf spellsOf choiceOf valueOf bytesOf behindOf itemOf itemsOf listOf lastNumber itemOrListOf leftOutOf rowOf readBy goodBy namedOf itemsLeft commandOf keyOf itemsBehind saidIn keyIn shortened endOf askedBy startBy askedOf startOf storesOf perhaps memoryOf startFrom
 memory = refl
 
 -- with a word too many
 more : askedOf 0 (line ++ (32 ∷ 49 ∷ 48 ∷ [])) ≡ Asked.Bad
-unfolding indexOf headOf tailOf digitOf stepOf followOf bySize plainOf parseOf pairsOf readableOf hexedOf spellsOf choiceOf valueOf bytesOf behindOf itemOf itemsOf listOf lastNumber itemOrListOf leftOutOf rowOf readBy goodBy namedOf itemsLeft commandOf keyOf itemsBehind saidIn keyIn shortened endOf askedBy startBy askedOf startOf storesOf memoryOf startFrom
+unfolding indexOf headOf tailOf digitOf stepOf followOf bySize plainOf parseOf pairsOf readableOf hexedOf spellsOf choiceOf valueOf bytesOf behindOf itemOf itemsOf listOf lastNumber itemOrListOf leftOutOf rowOf readBy goodBy namedOf itemsLeft commandOf keyOf itemsBehind saidIn keyIn shortened endOf askedBy startBy askedOf startOf storesOf perhaps memoryOf startFrom
 more = refl
+
+-- the words of its configuration: HelloTime 5000 and silence limit 9000 stand before the channels
+abbrev words : (hello limit : ℕ) → List ℕ
+words hello limit = 7 ∷ 2 ∷ hello ∷ limit ∷ 0 ∷ 0 ∷ 0 ∷ 1500 ∷ 3 ∷ 1 ∷ 4294967000 ∷ 3000 ∷ []
+
+usual : configurationSaid 0 line ≡ words 5000 9000
+unfolding indexOf headOf tailOf digitOf stepOf followOf bySize plainOf parseOf pairsOf readableOf hexedOf spellsOf choiceOf valueOf bytesOf behindOf itemOf itemsOf listOf lastNumber itemOrListOf leftOutOf rowOf readBy goodBy namedOf itemsLeft commandOf keyOf itemsBehind saidIn keyIn shortened endOf askedBy startBy askedOf startOf storesOf perhaps memoryOf startFrom configurationBy configurationSaid pacePlace helloOf limitOf channelsSaid tabulate configurationFrom
+usual = refl
+
+-- with ` pace 1 2` behind it
+paced : configurationSaid 0 (line ++ (32 ∷ 112 ∷ 97 ∷ 99 ∷ 101 ∷ 32 ∷ 49 ∷ 32 ∷ 50 ∷ [])) ≡ words 1 2
+unfolding indexOf headOf tailOf digitOf stepOf followOf bySize plainOf parseOf pairsOf readableOf hexedOf spellsOf choiceOf valueOf bytesOf behindOf itemOf itemsOf listOf lastNumber itemOrListOf leftOutOf rowOf readBy goodBy namedOf itemsLeft commandOf keyOf itemsBehind saidIn keyIn shortened endOf askedBy startBy askedOf startOf storesOf perhaps memoryOf startFrom configurationBy configurationSaid pacePlace helloOf limitOf channelsSaid tabulate configurationFrom
+paced = refl
+
+-- with ` memory 10 pace 1 2`
+both : configurationSaid 0 (line ++ (32 ∷ 109 ∷ 101 ∷ 109 ∷ 111 ∷ 114 ∷ 121 ∷ 32 ∷ 49 ∷ 48 ∷ 32 ∷ 112 ∷ 97 ∷ 99 ∷ 101 ∷ 32 ∷ 49 ∷ 32 ∷ 50 ∷ [])) ≡ words 1 2
+unfolding indexOf headOf tailOf digitOf stepOf followOf bySize plainOf parseOf pairsOf readableOf hexedOf spellsOf choiceOf valueOf bytesOf behindOf itemOf itemsOf listOf lastNumber itemOrListOf leftOutOf rowOf readBy goodBy namedOf itemsLeft commandOf keyOf itemsBehind saidIn keyIn shortened endOf askedBy startBy askedOf startOf storesOf perhaps memoryOf startFrom configurationBy configurationSaid pacePlace helloOf limitOf channelsSaid tabulate configurationFrom
+both = refl
+
+both-memory : startOf 0 (line ++ (32 ∷ 109 ∷ 101 ∷ 109 ∷ 111 ∷ 114 ∷ 121 ∷ 32 ∷ 49 ∷ 48 ∷ 32 ∷ 112 ∷ 97 ∷ 99 ∷ 101 ∷ 32 ∷ 49 ∷ 32 ∷ 50 ∷ [])) ≡ started 10
+unfolding indexOf headOf tailOf digitOf stepOf followOf bySize plainOf parseOf pairsOf readableOf hexedOf spellsOf choiceOf valueOf bytesOf behindOf itemOf itemsOf listOf lastNumber itemOrListOf leftOutOf rowOf readBy goodBy namedOf itemsLeft commandOf keyOf itemsBehind saidIn keyIn shortened endOf askedBy startBy askedOf startOf storesOf perhaps memoryOf startFrom
+both-memory = refl
+
+-- with ` pace 1 2 memory 10`, the other way round
+turned : askedOf 0 (line ++ (32 ∷ 112 ∷ 97 ∷ 99 ∷ 101 ∷ 32 ∷ 49 ∷ 32 ∷ 50 ∷ 32 ∷ 109 ∷ 101 ∷ 109 ∷ 111 ∷ 114 ∷ 121 ∷ 32 ∷ 49 ∷ 48 ∷ [])) ≡ Asked.Bad
+unfolding indexOf headOf tailOf digitOf stepOf followOf bySize plainOf parseOf pairsOf readableOf hexedOf spellsOf choiceOf valueOf bytesOf behindOf itemOf itemsOf listOf lastNumber itemOrListOf leftOutOf rowOf readBy goodBy namedOf itemsLeft commandOf keyOf itemsBehind saidIn keyIn shortened endOf askedBy startBy askedOf startOf storesOf perhaps memoryOf startFrom
+turned = refl
+
+-- with ` pace 1`, which says no limit
+half : askedOf 0 (line ++ (32 ∷ 112 ∷ 97 ∷ 99 ∷ 101 ∷ 32 ∷ 49 ∷ [])) ≡ Asked.Bad
+unfolding indexOf headOf tailOf digitOf stepOf followOf bySize plainOf parseOf pairsOf readableOf hexedOf spellsOf choiceOf valueOf bytesOf behindOf itemOf itemsOf listOf lastNumber itemOrListOf leftOutOf rowOf readBy goodBy namedOf itemsLeft commandOf keyOf itemsBehind saidIn keyIn shortened endOf askedBy startBy askedOf startOf storesOf perhaps memoryOf startFrom
+half = refl

@@ -1,4 +1,5 @@
 pub mod Bounds
 pub mod Starting
+pub mod Configuring
 pub mod Lines
 pub mod Examples

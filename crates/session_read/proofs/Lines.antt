@@ -6,12 +6,13 @@ use native.Mathlib.Decide.{decLe}
 use native.Mathlib.Omega.{arith}
 use lib.ListN.{length, getD, replicate, length-replicate, getD-replicate, List·getD-eq-default}
 use Rattle.line_rows.specs.declared.table.Told.{Told}
+use Rattle.line_rows.specs.Rows.{over}
 use Rattle.line_rows.specs.Tables.{itemsBehind, saidIn, keyIn, Reads}
 use Rattle.line_rows.specs.Places.{keyedOf, rowOfKey, writtenOut, Within}
 use Rattle.line_rows.proofs.Places.{reads-within, reads-numbers}
 use Rattle.session_read.specs.declared.asked.Asked.{Asked}
 use Rattle.session_read.specs.declared.start.StartWords.{StartWords}
-use Rattle.session_read.specs.Lines.{PLACES, COMMANDS, shortened, askedBy, startBy, numbersIn, saidBy, askedOf, startOf, Asks, Bounded}
+use Rattle.session_read.specs.Lines.{PLACES, CONFIGURATION-WORDS, COMMANDS, shortened, askedBy, startBy, configurationBy, numbersIn, saidBy, keyBy, askedOf, startOf, configurationSaid, Asks, Bounded}
 
 -- numbers that are all 0 before a line is read
 abbrev blank : List ℕ
@@ -37,12 +38,16 @@ module _ (line : List ℕ) {given lent : List ℕ} {told : Told} {numbers lent�
   pub read-bounded : Bounded (told .key) numbers
   read-bounded = record { within = subst (λ (n : ℕ → ℕ). Within (writtenOut 0 0 (rowOfKey (told .key) COMMANDS) n) n) (sym said-as) (reads-within read-as refl no-command) }
 
-  pub read-asks : {asked : Asked} {start : StartWords} → asked ≡ askedBy (told .key) (numbersIn numbers) → start ≡ startBy (told .key) (numbersIn numbers) → Asks lent line (record { asked = asked; bytes = told .bytes; start = start }) numbers lent′
-  unfolding askedOf startOf
-  read-asks f g = record {
-    asked = f ∙ ap (λ (n : ℕ → ℕ). askedBy (told .key) n) said-as ∙ ap (λ (i : ℕ). askedBy i (numbersIn (saidBy (length lent) line .numbers))) (read-as .key);
-    count = read-as .count;
-    start = g ∙ ap (λ (n : ℕ → ℕ). startBy (told .key) n) said-as ∙ ap (λ (i : ℕ). startBy i (numbersIn (saidBy (length lent) line .numbers))) (read-as .key);
-    numbers = read-as .numbers;
-    bytes = read-as .bytes;
-  }
+  module _ {words′ : List ℕ} {asked : Asked} {start : StartWords} where
+    pub read-asks : asked ≡ askedBy (told .key) (numbersIn numbers) → start ≡ startBy (told .key) (numbersIn numbers) → words′ ≡ over (configurationBy (told .key) (numbersIn numbers)) (replicate CONFIGURATION-WORDS 0)
+        → Asks lent line (record { asked = asked; bytes = told .bytes; start = start }) words′ lent′
+    unfolding askedOf startOf configurationSaid
+    read-asks f g h =
+        let key : told .key ≡ keyBy (length lent) line = read-as .key in
+        record {
+          asked = rw (said-as, key) at f;
+          count = read-as .count;
+          start = rw (said-as, key) at g;
+          configuration = rw (said-as, key) at h;
+          bytes = read-as .bytes;
+        }

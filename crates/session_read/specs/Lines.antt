@@ -14,8 +14,8 @@ use Rattle.session_read.specs.declared.asked.Asked.{Asked}
 use Rattle.session_read.specs.declared.asked.Command.{Command}
 use Rattle.session_read.specs.declared.start.StartWords.{StartWords}
 use Rattle.session_read.specs.declared.line.Line.{Line}
-use Rattle.ips_words_start.specs.Start.{CONFIGURED-COUNT}
-use Rattle.session_read.specs.Start.{storeSaid, startFrom, noStart}
+use Rattle.ips_words_start.specs.Start.{configurationLength}
+use Rattle.session_read.specs.Start.{SAID-COUNT, storeSaid, startFrom, noStart, configurationFrom}
 
 -- ---- the words that a line may have
 -- `ips`
@@ -78,6 +78,14 @@ STORE = keyText (115 ∷ 116 ∷ 111 ∷ 114 ∷ 101 ∷ [])
 abbrev pub KEPT : ℕ
 KEPT = keyText (107 ∷ 101 ∷ 112 ∷ 116 ∷ [])
 
+-- `pace`
+abbrev pub PACE : ℕ
+PACE = keyText (112 ∷ 97 ∷ 99 ∷ 101 ∷ [])
+
+-- `pacer`
+abbrev pub PACER : ℕ
+PACER = keyText (112 ∷ 97 ∷ 99 ∷ 101 ∷ 114 ∷ [])
+
 -- ---- "the values"
 
 -- "`ID`, `CHANNEL`: 0 to 255"
@@ -88,7 +96,7 @@ HIGHEST-ID = 255
 abbrev pub HIGHEST-SEQUENCE : ℕ
 HIGHEST-SEQUENCE = 2 ^ 32 - 1
 
--- "`NOW`, `EXPIRY`: 0 to 18446744073709551615"
+-- "`NOW`, `EXPIRY`, `HELLO`, `LIMIT`: 0 to 18446744073709551615"
 abbrev pub LATEST-TIME : ℕ
 LATEST-TIME = 2 ^ 64 - 1
 
@@ -100,9 +108,13 @@ MOST-ROOM = MOST-CHANNELS * LARGEST-STORE
 abbrev pub MOST-SETTINGS : ℕ
 MOST-SETTINGS = 80
 
--- no line says more numbers: `ID COUNT`, four for each channel, and `memory LEN`
+-- no line says more numbers: `ID COUNT`, four for each channel, `memory LEN` and `pace HELLO LIMIT`
 abbrev pub PLACES : ℕ
-PLACES = 324
+PLACES = 327
+
+-- the words of the configuration of as many channels
+abbrev pub CONFIGURATION-WORDS : ℕ
+CONFIGURATION-WORDS = configurationLength MOST-SETTINGS
 
 -- "It may be 140,000 bytes long": a longer one is read as an empty line, which is no command
 abbrev pub LONGEST-LINE : ℕ
@@ -118,22 +130,25 @@ ABOUT-MESSAGES =
     command READ (IPS ∷ RADIO ∷ NUMBER ∷ HIGHEST-ID ∷ BYTES ∷ 0 ∷ [])
     ++ command ECHO (IPS ∷ RADIO ∷ NUMBER ∷ HIGHEST-ID ∷ BYTES ∷ 0 ∷ IPS ∷ RADIO ∷ NUMBER ∷ MOST-ROOM ∷ [])
 
--- `start ID COUNT`, `CHANNEL KIND FIRST STORE` for each channel, and perhaps `memory LEN`; `offer CHANNEL NOW EXPIRY HEX`; `next CHANNEL NOW ROOM`;
--- `withdraw CHANNEL`; `radio HEX`; `query ROOM`; `show CHANNEL`; `store CHANNEL`; `kept`
+-- `start ID COUNT`, `CHANNEL KIND FIRST STORE` for each channel, and perhaps `memory LEN`, `pace HELLO LIMIT`; `offer CHANNEL NOW EXPIRY HEX`;
+-- `next CHANNEL NOW ROOM`; `withdraw CHANNEL`; `radio NOW HEX`; `pace NOW`; `query ROOM`; `show CHANNEL`; `store CHANNEL`; `kept`; `pacer`
 abbrev pub ABOUT-A-STATE : List ℕ
 ABOUT-A-STATE =
     command START
     (NUMBER ∷ HIGHEST-ID ∷ NUMBER ∷ MOST-SETTINGS
     ∷ LIST ∷ 4 ∷ NUMBER ∷ HIGHEST-ID ∷ PLAIN ∷ FLOW ∷ NUMBER ∷ HIGHEST-SEQUENCE ∷ NUMBER ∷ MOST-ROOM
-    ∷ OPTIONAL ∷ MEMORY ∷ LIST ∷ 1 ∷ NUMBER ∷ MOST-ROOM ∷ [])
+    ∷ OPTIONAL ∷ MEMORY ∷ LIST ∷ 1 ∷ NUMBER ∷ MOST-ROOM
+    ∷ OPTIONAL ∷ PACE ∷ LIST ∷ 2 ∷ NUMBER ∷ LATEST-TIME ∷ NUMBER ∷ LATEST-TIME ∷ [])
     ++ command OFFER (NUMBER ∷ HIGHEST-ID ∷ NUMBER ∷ LATEST-TIME ∷ NUMBER ∷ LATEST-TIME ∷ BYTES ∷ 0 ∷ [])
     ++ command NEXT (NUMBER ∷ HIGHEST-ID ∷ NUMBER ∷ LATEST-TIME ∷ NUMBER ∷ MOST-ROOM ∷ [])
     ++ command WITHDRAW (NUMBER ∷ HIGHEST-ID ∷ [])
-    ++ command RADIO (BYTES ∷ 0 ∷ [])
+    ++ command RADIO (NUMBER ∷ LATEST-TIME ∷ BYTES ∷ 0 ∷ [])
+    ++ command PACE (NUMBER ∷ LATEST-TIME ∷ [])
     ++ command QUERY (NUMBER ∷ MOST-ROOM ∷ [])
     ++ command SHOW (NUMBER ∷ HIGHEST-ID ∷ [])
     ++ command STORE (NUMBER ∷ HIGHEST-ID ∷ [])
     ++ command KEPT []
+    ++ command PACER []
 
 abbrev pub COMMANDS : List ℕ
 COMMANDS = ABOUT-MESSAGES ++ ABOUT-A-STATE
@@ -152,16 +167,21 @@ askedBy key n =
     (cond (eqb key OFFER) (Asked.State (Command.Offer (n 0) (n 1) (n 2)))
     (cond (eqb key NEXT) (Asked.State (Command.Next (n 0) (n 1) (n 2)))
     (cond (eqb key WITHDRAW) (Asked.State (Command.Withdraw (n 0)))
-    (cond (eqb key RADIO) (Asked.State Command.Radio)
+    (cond (eqb key RADIO) (Asked.State (Command.Radio (n 0)))
+    (cond (eqb key PACE) (Asked.State (Command.Pace (n 0)))
     (cond (eqb key QUERY) (Asked.State (Command.Query (n 0)))
     (cond (eqb key SHOW) (Asked.State (Command.Show (n 0)))
     (cond (eqb key STORE) (Asked.State (Command.Store (n 0)))
     (cond (eqb key KEPT) (Asked.State Command.Kept)
-    Asked.Bad))))))))))
+    (cond (eqb key PACER) (Asked.State Command.Pacer)
+    Asked.Bad))))))))))))
 
--- what the numbers of a `start` are; nothing for another line
+-- what the numbers of a `start` are, and the words of its configuration; nothing for another line
 unfoldable pub startBy : ℕ → (ℕ → ℕ) → StartWords
 startBy key n = cond (eqb key START) (startFrom n) noStart
+
+unfoldable pub configurationBy : ℕ → (ℕ → ℕ) → List ℕ
+configurationBy key n = cond (eqb key START) (configurationFrom n) []
 
 abbrev pub numbersIn : List ℕ → ℕ → ℕ
 numbersIn numbers = λ i. getD numbers i 0
@@ -179,13 +199,16 @@ askedOf size line = askedBy (keyBy size line) (numbersIn (saidBy size line .numb
 unfoldable pub startOf : ℕ → List ℕ → StartWords
 startOf size line = startBy (keyBy size line) (numbersIn (saidBy size line .numbers))
 
--- what a line asks for; the numbers that it says stand at the start of the lent numbers, with zeros behind them, and the bytes at the start of the lent memory,
--- which is as it was behind them
-pub record Asks (lent line : List ℕ) (r : Line) (numbers′ lent′ : List ℕ) : Type 0 where
+unfoldable pub configurationSaid : ℕ → List ℕ → List ℕ
+configurationSaid size line = configurationBy (keyBy size line) (numbersIn (saidBy size line .numbers))
+
+-- what a line asks for; the words of the configuration that it says stand at the start of the lent words, with zeros behind them, and the bytes at the start of
+-- the lent memory, which is as it was behind them
+pub record Asks (lent line : List ℕ) (r : Line) (words′ lent′ : List ℕ) : Type 0 where
   pub asked : r .asked ≡ askedOf (length lent) line
   pub count : r .bytes ≡ length (saidBy (length lent) line .bytes)
   pub start : r .start ≡ startOf (length lent) line
-  pub numbers : numbers′ ≡ over (saidBy (length lent) line .numbers) (replicate PLACES 0)
+  pub configuration : words′ ≡ over (configurationSaid (length lent) line) (replicate CONFIGURATION-WORDS 0)
   pub bytes : lent′ ≡ over (saidBy (length lent) line .bytes) lent
 
 -- the numbers of a command are within their bounds
@@ -193,5 +216,5 @@ pub record Bounded (key : ℕ) (numbers : List ℕ) : Type 0 where
   pub within : Within (writtenOut 0 0 (rowOfKey key COMMANDS) (numbersIn numbers)) (numbersIn numbers)
 
 pub record StartFits (n : ℕ → ℕ) : Type 0 where
-  pub few : n CONFIGURED-COUNT ≤ MOST-SETTINGS
-  pub each : (index : ℕ) → index < n CONFIGURED-COUNT → storeSaid n index ≤ MOST-ROOM
+  pub few : n SAID-COUNT ≤ MOST-SETTINGS
+  pub each : (index : ℕ) → index < n SAID-COUNT → storeSaid n index ≤ MOST-ROOM

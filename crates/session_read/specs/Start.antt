@@ -1,30 +1,79 @@
--- docs/SESSION.md, `start`: "a fresh start; the memory is as long as all stores together, or `LEN`. Up to 80 channels are read, and it is for the endpoint to
--- refuse more than it takes". The numbers of the line are ID, COUNT, four for each channel, 1 or 0 for `memory`, and LEN. Those before `memory` are the words of a
--- configuration: `plain` is 0 and `flow` is 1.
+-- docs/SESSION.md, `start`: "a fresh start; the memory is as long as all stores together, or `LEN`; HelloTime and silence limit are 5000 and 9000, or `HELLO` and
+-- `LIMIT`; either may be missing, and they stand in this order only. Up to 80 channels are read, and it is for the endpoint to refuse more than it takes". The
+-- numbers of the line are ID, COUNT, four for each channel, 1 or 0 for `memory`, LEN where it is said, 1 or 0 for `pace`, HELLO and LIMIT where they are said. Those
+-- of a channel are its words of a configuration: `plain` is 0 and `flow` is 1.
 use mathlib.Core.Bool.{cond}
-use Prim.Native.Nat.{ℕ, zero, suc, _+_}
+use mathlib.Core.List.{List, [], _∷_, _++_}
+use Prim.Native.Nat.{ℕ, zero, suc, _+_, _*_}
 use lib.Dec.{eqb}
-use Rattle.ips_words_start.specs.Start.{CONFIGURED-COUNT, START-SIZE, configurationLength}
+use Rattle.facts.specs.Tables.{tabulate}
+use Rattle.ips_words_start.specs.Start.{CONFIGURATION-SLOT, START-SIZE, configurationLength}
 use Rattle.session_read.specs.declared.start.StartWords.{StartWords}
+
+abbrev pub SAID-ID : ℕ
+SAID-ID = 0
+
+abbrev pub SAID-COUNT : ℕ
+SAID-COUNT = 1
+
+abbrev pub SAID-CHANNELS : ℕ
+SAID-CHANNELS = 2
+
+-- "HelloTime and silence limit are 5000 and 9000"
+abbrev pub USUAL-HELLO : ℕ
+USUAL-HELLO = 5000
+
+abbrev pub USUAL-LIMIT : ℕ
+USUAL-LIMIT = 9000
+
+-- the place behind the numbers of the first channels
+abbrev pub behindChannels : ℕ → ℕ
+behindChannels count = SAID-CHANNELS + CONFIGURATION-SLOT * count
 
 -- the length of a channel's store
 abbrev pub storeSaid : (ℕ → ℕ) → ℕ → ℕ
-storeSaid n index = n (configurationLength index + START-SIZE)
+storeSaid n index = n (behindChannels index + START-SIZE)
 
 -- "as long as all stores together": of the first channels
 unfoldable pub storesOf : (ℕ → ℕ) → ℕ → ℕ
 storesOf n zero = 0
 storesOf n (suc count) = storesOf n count + storeSaid n count
 
+-- "either may be missing": the number so far behind a keyword where that is said, else the usual one
+unfoldable pub perhaps : (ℕ → ℕ) → (keyword behind usual : ℕ) → ℕ
+perhaps n keyword behind usual = cond (eqb (n keyword) 1) (n (keyword + behind)) usual
+
 -- "the memory is as long as all stores together, or `LEN`"
 abbrev pub memoryPlace : (ℕ → ℕ) → ℕ
-memoryPlace n = configurationLength (n CONFIGURED-COUNT)
+memoryPlace n = behindChannels (n SAID-COUNT)
 
 unfoldable pub memoryOf : (ℕ → ℕ) → ℕ
-memoryOf n = cond (eqb (n (memoryPlace n)) 1) (n (memoryPlace n + 1)) (storesOf n (n CONFIGURED-COUNT))
+memoryOf n = perhaps n (memoryPlace n) 1 (storesOf n (n SAID-COUNT))
 
+-- "they stand in this order only": `pace` behind `memory`, and behind `LEN` where that is said
+unfoldable pub pacePlace : (ℕ → ℕ) → ℕ
+pacePlace n = memoryPlace n + cond (eqb (n (memoryPlace n)) 1) 2 1
+
+-- "or `HELLO` and `LIMIT`"
+unfoldable pub helloOf : (ℕ → ℕ) → ℕ
+helloOf n = perhaps n (pacePlace n) 1 USUAL-HELLO
+
+unfoldable pub limitOf : (ℕ → ℕ) → ℕ
+limitOf n = perhaps n (pacePlace n) 2 USUAL-LIMIT
+
+-- ---- the words of the configuration: Datalink ID, count, HelloTime, silence limit, then those of the channels
+abbrev pub headSaid : (ℕ → ℕ) → List ℕ
+headSaid n = n SAID-ID ∷ n SAID-COUNT ∷ helloOf n ∷ limitOf n ∷ []
+
+unfoldable pub channelsSaid : (ℕ → ℕ) → List ℕ
+channelsSaid n = tabulate (CONFIGURATION-SLOT * n SAID-COUNT) (λ place. n (SAID-CHANNELS + place))
+
+unfoldable pub configurationFrom : (ℕ → ℕ) → List ℕ
+configurationFrom n = headSaid n ++ channelsSaid n
+
+-- how many they are, of how many channels, and how long the lent memory is
 unfoldable pub startFrom : (ℕ → ℕ) → StartWords
-startFrom n = record { words = configurationLength (n CONFIGURED-COUNT); channels = n CONFIGURED-COUNT; memory = memoryOf n }
+startFrom n = record { words = configurationLength (n SAID-COUNT); channels = n SAID-COUNT; memory = memoryOf n }
 
 -- a line that is no start
 unfoldable pub noStart : StartWords

@@ -9,6 +9,8 @@ use crate::table::ECHO;
 use crate::table::KEPT;
 use crate::table::NEXT;
 use crate::table::OFFER;
+use crate::table::PACE;
+use crate::table::PACER;
 use crate::table::PLACES;
 use crate::table::QUERY;
 use crate::table::RADIO;
@@ -33,11 +35,13 @@ pub enum Command {
     Offer(u8, u64, u64),
     Next(u8, u64, usize),
     Withdraw(u8),
-    Radio,
+    Radio(u64),
+    Pace(u64),
     Query(usize),
     Show(u8),
     Store(u8),
     Kept,
+    Pacer,
 }
 
 fn end_of(n: u64) -> End
@@ -104,11 +108,13 @@ pub(crate) fn asks(key: u64, n: &[u64; PLACES]) -> Asked
         OFFER => offer(n),
         NEXT => next(n),
         WITHDRAW => Asked::State(Command::Withdraw(channel(n))),
-        RADIO => Asked::State(Command::Radio),
+        RADIO => Asked::State(Command::Radio(n[0])),
+        PACE => Asked::State(Command::Pace(n[0])),
         QUERY => Asked::State(Command::Query(room(n))),
         SHOW => Asked::State(Command::Show(channel(n))),
         STORE => Asked::State(Command::Store(channel(n))),
         KEPT => Asked::State(Command::Kept),
+        PACER => Asked::State(Command::Pacer),
         _ => Asked::Bad,
     }
 }

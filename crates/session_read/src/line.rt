@@ -3,6 +3,7 @@ ghost use mathlib.Core.Path.{_≡_};
 ghost use Rattle.session_read.specs.Lines.{shortened, Asks};
 use crate::asked::Asked;
 use crate::asked::asks;
+use crate::configuration::CONFIGURATION_WORDS;
 use crate::start::StartWords;
 use crate::start::starts;
 use crate::table::COMMANDS;
@@ -28,14 +29,16 @@ fn short(line: &[u8]) -> &[u8]
     line
 }
 
-// Reads a line. The numbers that it says stand at the start of the lent numbers, zeros behind them; the bytes stand at the start of the lent memory.
-pub fn read(line: &[u8], numbers: &mut [u64; PLACES], lent: &mut [u8]) -> Line
-    ensures { λ r. ⌜ Asks (now (lent .entry)) (now (line .entry)) r (now (numbers .exit)) (now (lent .exit)) ⌝ }
+// Reads a line. The words of the configuration that it says stand at the start of the lent words, zeros behind them; the bytes that it says stand at the start of
+// the lent memory.
+pub fn read(line: &[u8], words: &mut [u64; CONFIGURATION_WORDS], lent: &mut [u8]) -> Line
+    ensures { λ r. ⌜ Asks (now (lent .entry)) (now (line .entry)) r (now (words .exit)) (now (lent .exit)) ⌝ }
 {
-    *numbers = [0u64; PLACES];
-    let told = line_rows::read(short(line), &COMMANDS, numbers, lent);
-    let asked = asks(told.key, numbers);
-    let start = starts(told.key, numbers);
+    *words = [0u64; CONFIGURATION_WORDS];
+    let mut numbers = [0u64; PLACES];
+    let told = line_rows::read(short(line), &COMMANDS, &mut numbers, lent);
+    let asked = asks(told.key, &numbers);
+    let start = starts(told.key, &numbers, words);
     Line {
         asked,
         bytes: told.bytes,

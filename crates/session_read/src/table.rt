@@ -51,6 +51,12 @@ pub(crate) const STORE: u64 = 0x65726f7473;
 // kept
 pub(crate) const KEPT: u64 = 0x7470656b;
 
+// pace
+pub(crate) const PACE: u64 = 0x65636170;
+
+// pacer
+pub(crate) const PACER: u64 = 0x7265636170;
+
 const HIGHEST_ID: u64 = 255;
 
 const HIGHEST_SEQUENCE: u64 = 4294967295;
@@ -58,12 +64,12 @@ const HIGHEST_SEQUENCE: u64 = 4294967295;
 // All stores that an endpoint takes.
 const MOST_ROOM: u64 = (MOST_CHANNELS * LARGEST_STORE) as u64;
 
-const MOST_SETTINGS: u64 = 80;
+pub(crate) const MOST_SETTINGS: u64 = 80;
 
 // No line says more numbers.
-pub const PLACES: usize = 324;
+pub(crate) const PLACES: usize = 327;
 
-pub(crate) const COMMANDS: [u64; 82] = [
+pub(crate) const COMMANDS: [u64; 98] = [
     // read END ID HEX
     READ,
     3,
@@ -86,9 +92,9 @@ pub(crate) const COMMANDS: [u64; 82] = [
     RADIO,
     NUMBER,
     MOST_ROOM,
-    // start ID COUNT, CHANNEL KIND FIRST STORE for each channel, and perhaps memory LEN
+    // start ID COUNT, CHANNEL KIND FIRST STORE for each channel, and perhaps memory LEN, pace HELLO LIMIT
     START,
-    10,
+    14,
     NUMBER,
     HIGHEST_ID,
     NUMBER,
@@ -109,6 +115,14 @@ pub(crate) const COMMANDS: [u64; 82] = [
     1,
     NUMBER,
     MOST_ROOM,
+    OPTIONAL,
+    PACE,
+    LIST,
+    2,
+    NUMBER,
+    u64::MAX,
+    NUMBER,
+    u64::MAX,
     // offer CHANNEL NOW EXPIRY HEX
     OFFER,
     4,
@@ -134,11 +148,18 @@ pub(crate) const COMMANDS: [u64; 82] = [
     1,
     NUMBER,
     HIGHEST_ID,
-    // radio HEX
+    // radio NOW HEX
     RADIO,
-    1,
+    2,
+    NUMBER,
+    u64::MAX,
     BYTES,
     0,
+    // pace NOW
+    PACE,
+    1,
+    NUMBER,
+    u64::MAX,
     // query ROOM
     QUERY,
     1,
@@ -156,5 +177,8 @@ pub(crate) const COMMANDS: [u64; 82] = [
     HIGHEST_ID,
     // kept
     KEPT,
+    0,
+    // pacer
+    PACER,
     0,
 ];

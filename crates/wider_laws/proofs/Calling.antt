@@ -17,8 +17,9 @@ use Rattle.ips_channel.specs.Channel.{termsUnder}
 use Rattle.ips_channel_calls.specs.Calls.{replyTo}
 use Rattle.ips_state.specs.Memory.{World, worldFitsUnder, indexIn, channelIn}
 use Rattle.ips_run.specs.Calling.{termsInUnder, conditionIn, WorldResult, callingUnder}
-use Rattle.ips_run.specs.Run.{Call, on, radio, query, acceptedUnder}
+use Rattle.ips_run.specs.Run.{Call, on, radio, pace, query}
 use Rattle.ips_calls.specs.Radio.{handedInUnder}
+use Rattle.ips_calls.specs.Pace.{paceAnswerUnder}
 use Rattle.ips_calls.specs.Replies.{EndpointReply, ofChannel, replyUnder}
 use Rattle.endpoint.specs.Lent.{Lent, worldIn, wordsCalledUnder, afterInUnder}
 use Rattle.wider_laws.specs.Earlier.{Raised, ShortOn, Short, fitsForUnder}
@@ -78,16 +79,18 @@ module _ (narrow wide : Limits) (up : Raised narrow wide) where
       rw (world-raised narrow wide up w fits, fits, call-same (narrow .packet) (wide .packet) (up .packet) (w .state .datalink) (channelIn w index .setting) c short (conditionIn w index))
 
   pub reply-same : (c : Call) → Short (narrow .packet) c → (w : World) → fitsForUnder narrow c w ≡ true → replyUnder wide c w ≡ replyUnder narrow c w
-  unfolding handedInUnder
+  unfolding handedInUnder paceAnswerUnder
   reply-same (on id c) short w fits =
       let index = indexIn w id in
       ap {B = EndpointReply} (λ (r : WorldResult (Says c)). ofChannel (replyTo (termsInUnder (wide .packet) w index) c (r .answer))) (calling-same id c short w fits)
       ∙ ap ofChannel (told-same (narrow .packet) (wide .packet) (up .packet) (w .state .datalink) (channelIn w index .setting) c (callingUnder narrow id c w .answer))
-  reply-same (radio datagram) short w fits = rw (state-raised narrow wide up (w .state) fits, fits)
+  reply-same (radio time datagram) short w fits = rw (state-raised narrow wide up (w .state) fits, fits)
+  reply-same (pace time) short w fits = rw (state-raised narrow wide up (w .state) fits, fits)
   reply-same (query out) short w fits = rw (state-raised narrow wide up (w .state) fits, fits)
 
   pub after-same : (c : Call) → Short (narrow .packet) c → (l : Lent) → fitsForUnder narrow c (worldIn l) ≡ true → afterInUnder wide c l ≡ afterInUnder narrow c l
-  unfolding afterInUnder wordsCalledUnder acceptedUnder
+  unfolding afterInUnder wordsCalledUnder
   after-same (on id c) short l fits = rw (calling-same id c short (worldIn l) fits)
-  after-same (radio datagram) short l fits = rw (state-raised narrow wide up (worldIn l .state) fits, fits)
+  after-same (radio time datagram) short l fits = rw (state-raised narrow wide up (worldIn l .state) fits, fits)
+  after-same (pace time) short l fits = rw (state-raised narrow wide up (worldIn l .state) fits, fits)
   after-same (query out) short l fits = refl

@@ -11,7 +11,7 @@ use Rattle.meaning.specs.declared.message.Status.{Status}
 use Rattle.store.specs.Packets.{packetFor}
 use Rattle.store.specs.Waiting.{waiting, total, cut, packetsOf, allWithinUnder, wellFormedUnder}
 use Rattle.ips_state.specs.State.{channelAt}
-use Rattle.ips_state.specs.Limits.{channelFitsUnder, allFitUnder, ids, distinct, channelsFitUnder, namesFit, stateFitsUnder, sizes}
+use Rattle.ips_state.specs.Limits.{channelFitsUnder, allFitUnder, ids, distinct, channelsFitUnder, namesFit, headFits, stateFitsUnder, sizes}
 use Rattle.ips_state.specs.Memory.{memoryFits, startOf, storeAt, worldFitsUnder, worldFits, channelIn, storeIn}
 use Rattle.ips_words.specs.Words.{slot, statusOf, flowOf, instanceOf, contextOf, entriesIn, queueIn, stateOf, spelled, allSpelled, headSpelled, readable, stateIn}
 use Rattle.ips_words.specs.Words as words
@@ -22,7 +22,7 @@ use Rattle.wider_laws.proofs.Widened.{widened-fits}
 -- ---- any 1,500 bytes in the store
 module _ (memory : List ℕ) (long : length memory ≡ 1500) where
   filled-fits : worldFitsUnder EARLIER-LIMITS (worldIn (lent filledWords memory)) ≡ true
-  unfolding stateFitsUnder namesFit channelsFitUnder allFitUnder channelFitsUnder ids distinct wellFormedUnder allWithinUnder waiting total memoryFits sizes stateIn readable headSpelled allSpelled spelled stateOf tabulate words.channelIn slot statusOf flowOf instanceOf contextOf queueIn entriesIn
+  unfolding stateFitsUnder headFits namesFit channelsFitUnder allFitUnder channelFitsUnder ids distinct wellFormedUnder allWithinUnder waiting total memoryFits sizes stateIn readable headSpelled allSpelled spelled stateOf tabulate words.channelIn slot statusOf flowOf instanceOf contextOf queueIn entriesIn
   filled-fits = rw long
 
   pub filled-fits-now : worldFits (worldIn (lent filledWords memory)) ≡ true

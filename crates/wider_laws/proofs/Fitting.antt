@@ -16,7 +16,7 @@ use Rattle.store.specs.declared.queue.Queue.{Queue}
 use Rattle.store.specs.Waiting.{waiting, total, withinUnder, allWithinUnder, wellFormedUnder}
 use Rattle.ips_channel.specs.declared.state.Channel.{Channel}
 use Rattle.ips_state.specs.State.{Configuration, State}
-use Rattle.ips_state.specs.Limits.{settingFits, flowFits, channelFitsUnder, allFitUnder, ids, distinct, channelsFitUnder, countFitsUnder, namesFit, stateFitsUnder, configurationFitsUnder}
+use Rattle.ips_state.specs.Limits.{settingFits, flowFits, channelFitsUnder, allFitUnder, ids, distinct, channelsFitUnder, countFitsUnder, headFits, stateFitsUnder, configurationFitsUnder}
 use Rattle.ips_state.specs.Memory.{memoryFits, World, worldFitsUnder}
 use Rattle.ips_words_start.specs.Start.{configurationIn, startsInUnder}
 use Rattle.wider_laws.specs.Earlier.{Raised, Each}
@@ -84,7 +84,7 @@ module _ (longest : ℕ) where
 record StateParts (limits : Limits) (s : State) : Type 0 where
   some : leb FEWEST-CHANNELS (length (s .channels)) ≡ true
   few : leb (length (s .channels)) (limits .channels) ≡ true
-  names : namesFit s ≡ true
+  head : headFits s ≡ true
   each : allFitUnder (limits .packet) (s .channels) ≡ true
   together : (distinct (ids (s .channels)) && among 0 (ids (s .channels))) ≡ true
 
@@ -93,9 +93,9 @@ unfolding stateFitsUnder channelsFitUnder
 state-parts limits s h =
     let a = and-eq-true-iff (countFitsUnder (limits .channels) (length (s .channels))) _ .0 h in
     let b = and-eq-true-iff (leb FEWEST-CHANNELS (length (s .channels))) _ .0 (a .0) in
-    let d = and-eq-true-iff (namesFit s) _ .0 (a .1) in
+    let d = and-eq-true-iff (headFits s) _ .0 (a .1) in
     let f = and-eq-true-iff (allFitUnder (limits .packet) (s .channels)) _ .0 (d .1) in
-    record { some = b .0; few = b .1; names = d .0; each = f .0; together = f .1 }
+    record { some = b .0; few = b .1; head = d .0; each = f .0; together = f .1 }
 
 pub state-bounded : (limits : Limits) (s : State) → stateFitsUnder limits s ≡ true → Bounded limits s
 state-bounded limits s h = let p = state-parts limits s h in record {
@@ -132,7 +132,7 @@ pub bounded-fits : (limits other : Limits) (s : State) → stateFitsUnder limits
 unfolding stateFitsUnder channelsFitUnder
 bounded-fits limits other s h b =
     let p = state-parts limits s h in
-    rw (p .some, le-leb (length (s .channels)) (other .channels) (b .few), p .names, all-again (limits .packet) (other .packet) (s .channels) (p .each) (b .short)) (p .together)
+    rw (p .some, le-leb (length (s .channels)) (other .channels) (b .few), p .head, all-again (limits .packet) (other .packet) (s .channels) (p .each) (b .short)) (p .together)
 
 -- ---- raised limits
 module _ (narrow wide : Limits) (up : Raised narrow wide) where

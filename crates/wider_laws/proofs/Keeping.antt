@@ -1,6 +1,6 @@
 -- A call leaves words that 19 lets pass; a call under narrower limits leaves words that fit under those. Assumes nothing.
 use Prim.Native.Nat.{ℕ, _≤_, _<_}
-use mathlib.Core.Bool.{Bool, true, false, and-eq-true-iff}
+use mathlib.Core.Bool.{Bool, true, false, and-eq-true-iff, cond}
 use mathlib.Core.List.{List, [], _∷_}
 use mathlib.Core.Logic.{inl}
 use mathlib.Core.Path.{_≡_, refl, sym, ap, _∙_}
@@ -27,18 +27,19 @@ use Rattle.ips_channel.specs.declared.state.Setting.{Setting}
 use Rattle.ips_channel.specs.declared.state.Channel.{Channel}
 use Rattle.ips_channel.specs.Channel.{termsUnder, termsOf, conditionOf, withCondition, heardOf}
 use Rattle.ips_channel_calls.specs.Calls.{channelAfter, storeAfter, resultOf}
-use Rattle.ips_state.specs.State.{State, noChannel, channelAt, withChannel}
+use Rattle.pacer.specs.Pacing.{pacerFits, isSilent, asked, heardAt, movedTo}
+use Rattle.ips_state.specs.State.{withPacer, State, noChannel, channelAt, withChannel}
 use Rattle.ips_state.specs.Limits.{stateFitsUnder}
 use Rattle.ips_state.specs.Memory.{memoryFits, World, worldFitsUnder, worldFits, isConfigured, indexIn, channelIn, storeIn}
-use Rattle.ips_state.proofs.Places.{found, with-count, store-back}
-use Rattle.ips_radio.specs.Heard.{heardFrom, heardBy}
-use Rattle.ips_radio.proofs.Hearings.{heard-count}
+use Rattle.ips_state.proofs.Places.{fit, found, with-count, store-back}
+use Rattle.ips_radio.specs.Heard.{heardFrom, heardBy, silenced, silencedBy}
+use Rattle.ips_radio.proofs.Hearings.{heard-count, silenced-count}
 use Rattle.ips_run.specs.Calling.{conditionIn, resultInUnder, resultIn, WorldResult, callingUnder, Judged, outside, unknown, served}
-use Rattle.ips_run.specs.Run.{Call, on, radio, query, acceptedBy, hearEach, afterUnder, after}
+use Rattle.ips_run.specs.Run.{Call, on, radio, pace, query, Received, dropped, carried, stated, receivedIn, inTime, received, pacedBy, withState, afterUnder, after}
 use Rattle.ips_run.specs.Demand.{bytesIn, InOrder}
-use Rattle.ips_run.proofs.Exact.{judged, accepted-fits}
+use Rattle.ips_run.proofs.Exact.{judged}
 use Rattle.ips_run.proofs.Ordered.{in-order, order-fits, called-order}
-use Rattle.ips_run.proofs.Hearing.{Brings, nothing, message, brings, heard-order}
+use Rattle.ips_run.proofs.Hearing.{Brings, nothing, packet, message, brings, heard-order, silenced-order, paced-order}
 use Rattle.endpoint.specs.Lent.{Lent, worldIn, wordsCalledUnder, afterInUnder, afterIn}
 use Rattle.endpoint.proofs.Simulating.{step-in}
 use Rattle.wider_laws.specs.Earlier.{Raised, Each, ShortOn, Short, fitsForUnder}
@@ -101,6 +102,10 @@ module _ (longest : ℕ) where
   unfolding heardFrom heardOf
   heard-short m c all = all
 
+  silenced-short : (c : Channel) → ShortQueue longest c → ShortQueue longest (silenced c)
+  unfolding silenced heardOf
+  silenced-short c all = all
+
 -- ---- a packet longer than the longest is refused: 13 if it isn't IPv6, else 14
 module _ (longest : ℕ) (datalink : DatalinkId) (setting : Setting) (p : Packet) (time : ℕ) (over : longest < length (p .bytes)) (st : Condition machine) where
   long-refused : {A : Type 0} → ((number : ℕ) → offerAt machine (termsUnder longest datalink setting) p time st ≡ refusal machine number st → A) → A
@@ -115,14 +120,34 @@ module _ (longest : ℕ) (datalink : DatalinkId) (setting : Setting) (p : Packet
 
 -- ---- a world that 19 lets pass, after a call
 module _ (count : ℕ) (w : World) (o : InOrder count w) where
-  heard-each : {ms : List Control} → Brings ms → InOrder count (record { state = hearEach ms (w .state); memory = w .memory })
-  heard-each nothing = o
-  heard-each (message m allowed) = heard-order count w o m allowed
+  waits-here : pacerFits (w .state .pacer) ≡ true
+  waits-here = fit (w .state) (o .state-fits) .waits
+
+  received-order : (time : ℕ) {r : Received} → Brings r → InOrder count (withState w (received time r (w .state)))
+  unfolding movedTo heardAt
+  received-order time nothing = o
+  received-order time packet = paced-order count w o (movedTo time (w .state .pacer)) waits-here
+  received-order time (message m allowed) =
+      paced-order count (withState w (heardBy m (w .state))) (heard-order count w o m allowed) (heardAt time (w .state .pacer)) waits-here
+
+  asked-order : (time : ℕ) (silent : Bool) → InOrder count (withState w (withPacer (cond silent (silencedBy (w .state)) (w .state)) (asked time (w .state .pacer))))
+  unfolding asked
+  asked-order time true = paced-order count (withState w (silencedBy (w .state))) (silenced-order count w o) (asked time (w .state .pacer)) waits-here
+  asked-order time false = paced-order count w o (asked time (w .state .pacer)) waits-here
 
   order-kept : (c : Call) → bytesIn c → InOrder count (after c w)
-  unfolding afterUnder
+  unfolding afterUnder pacedBy
   order-kept (on id c) bytes = called-order count w o id c (judged id c w)
-  order-kept (radio datagram) bytes = rw (accepted-fits w datagram (o .state-fits)) (heard-each (brings (w .state .datalink) datagram bytes))
+  order-kept (radio time datagram) bytes = go (inTime time (w .state))
+    where
+      go : (t : Bool) → InOrder count (cond t (withState w (received time (receivedIn (w .state .datalink) datagram) (w .state))) w)
+      go true = received-order time (brings (w .state .datalink) datagram bytes)
+      go false = o
+  order-kept (pace time) bytes = go (inTime time (w .state))
+    where
+      go : (t : Bool) → InOrder count (cond t (withState w (pacedBy time (w .state))) w)
+      go true = asked-order time (isSilent time (w .state .pacer))
+      go false = o
   order-kept (query out) bytes = o
 
 -- no call on words that 19 lets pass leaves words that it refuses, whatever the length of the packet that was taken
@@ -147,18 +172,36 @@ module _ (narrow : Limits) where
           short = each-set (ShortQueue (narrow .packet)) (w .state .channels) index new (after-short (narrow .packet) (w .state .datalink) c short (channelIn w index) (storeIn w index) old) (b .short);
         }
 
-  heard-bounded : (ms : List Control) (s : State) → Bounded narrow s → Bounded narrow (hearEach ms s)
-  unfolding heardBy
-  heard-bounded [] s b = b
-  heard-bounded (m ∷ ms) s b = heard-bounded ms (heardBy m s) (record {
+  received-bounded : (time : ℕ) (r : Received) (s : State) → Bounded narrow s → Bounded narrow (received time r s)
+  unfolding heardBy withPacer
+  received-bounded time dropped s b = b
+  received-bounded time carried s b = record { few = b .few; short = b .short }
+  received-bounded time (stated m) s b = record {
     few = rw (heard-count m s) (b .few);
     short = each-map (ShortQueue (narrow .packet)) (heardFrom m) (s .channels) (each-all (heard-short (narrow .packet) m) (s .channels) (b .short));
-  })
+  }
+
+  asked-bounded : (time : ℕ) (silent : Bool) (s : State) → Bounded narrow s → Bounded narrow (withPacer (cond silent (silencedBy s) s) (asked time (s .pacer)))
+  unfolding silencedBy withPacer
+  asked-bounded time true s b = record {
+    few = rw (silenced-count s) (b .few);
+    short = each-map (ShortQueue (narrow .packet)) silenced (s .channels) (each-all (silenced-short (narrow .packet)) (s .channels) (b .short));
+  }
+  asked-bounded time false s b = record { few = b .few; short = b .short }
 
   bounded-kept : (c : Call) → Short (narrow .packet) c → (w : World) → Bounded narrow (w .state) → Bounded narrow (after c w .state)
-  unfolding afterUnder
+  unfolding afterUnder pacedBy
   bounded-kept (on id c) short w b = called-bounded w b id c short (judged id c w)
-  bounded-kept (radio datagram) short w b = heard-bounded (acceptedBy (radio datagram) w) (w .state) b
+  bounded-kept (radio time datagram) short w b = go (inTime time (w .state))
+    where
+      go : (t : Bool) → Bounded narrow (cond t (withState w (received time (receivedIn (w .state .datalink) datagram) (w .state))) w .state)
+      go true = received-bounded time (receivedIn (w .state .datalink) datagram) (w .state) b
+      go false = b
+  bounded-kept (pace time) short w b = go (inTime time (w .state))
+    where
+      go : (t : Bool) → Bounded narrow (cond t (withState w (pacedBy time (w .state))) w .state)
+      go true = asked-bounded time (isSilent time (w .state .pacer)) (w .state) b
+      go false = b
   bounded-kept (query out) short w b = b
 
   pub ordered-fits : {count : ℕ} (w : World) → InOrder count w → Bounded narrow (w .state) → worldFitsUnder narrow w ≡ true
@@ -166,7 +209,8 @@ module _ (narrow : Limits) where
 
   pub fits-for : (c : Call) (w : World) → worldFitsUnder narrow w ≡ true → fitsForUnder narrow c w ≡ true
   fits-for (on id c) w fits = fits
-  fits-for (radio datagram) w fits = and-eq-true-iff (stateFitsUnder narrow (w .state)) (memoryFits (w .state) (w .memory)) .0 fits .0
+  fits-for (radio time datagram) w fits = and-eq-true-iff (stateFitsUnder narrow (w .state)) (memoryFits (w .state) (w .memory)) .0 fits .0
+  fits-for (pace time) w fits = and-eq-true-iff (stateFitsUnder narrow (w .state)) (memoryFits (w .state) (w .memory)) .0 fits .0
   fits-for (query out) w fits = and-eq-true-iff (stateFitsUnder narrow (w .state)) (memoryFits (w .state) (w .memory)) .0 fits .0
 
   -- ---- words that fit under narrower limits than those in force: so do those that are left
@@ -205,5 +249,6 @@ module _ (narrow : Limits) where
         (λ over. ap (λ (x : Lent). worldFitsUnder narrow (worldIn x)) (left-by-long id p time over) ∙ fits)
     fits-left (on id (next time out)) bytes = left-by-short (on id (next time out)) bytes tt
     fits-left (on id withdraw) bytes = left-by-short (on id withdraw) bytes tt
-    fits-left (radio datagram) bytes = left-by-short (radio datagram) bytes tt
+    fits-left (radio time datagram) bytes = left-by-short (radio time datagram) bytes tt
+    fits-left (pace time) bytes = left-by-short (pace time) bytes tt
     fits-left (query out) bytes = left-by-short (query out) bytes tt

@@ -21,7 +21,7 @@ use Rattle.ips_channel_rules.proofs.CallCases.{offer-fourteen, offer-where-none
 use Rattle.ips_channel.specs.declared.state.Setting.{Setting}
 use Rattle.ips_channel.specs.Channel.{termsUnder, termsOf, freshChannel}
 use Rattle.ips_state.specs.State.{ChannelStart, Configuration, State, channelAt, freshOf, freshState}
-use Rattle.ips_state.specs.Limits.{stateFitsUnder, stateFits, countFitsUnder, configurationFitsUnder}
+use Rattle.ips_state.specs.Limits.{waitsFit, stateFitsUnder, stateFits, countFitsUnder, configurationFitsUnder}
 use Rattle.ips_state.specs.Memory.{worldFitsUnder, worldFits}
 use Rattle.ips_state.specs.declared.StartAnswer.{StartAnswer}
 use Rattle.ips_state.proofs.Places.{channel-fitting-at, fresh-count}
@@ -138,8 +138,8 @@ bounded-world : (k : Configuration) → configurationFitsUnder 16 k ≡ true →
 unfolding freshWorld
 bounded-world k fits = fresh-bounded EARLIER-LIMITS raised k fits
 
--- a configuration that started starts, and leaves what it left: words that fit under the old limits, so that any calls may follow
-module _ (configuration words memory : List ℕ) (starts : startsInUnder 16 configuration words memory ≡ true) where
+-- a configuration that started starts, where 22 doesn't refuse it, and leaves what it left: words that fit under the old limits, so that any calls may follow
+module _ (configuration words memory : List ℕ) (starts : startsInUnder 16 configuration words memory ≡ true) (waits : waitsFit (configurationIn configuration) ≡ true) where
   now-starts : startsIn configuration words memory ≡ true
   now-starts = starts-raised EARLIER-LIMITS CURRENT-LIMITS raised configuration words memory starts
 
@@ -147,15 +147,15 @@ module _ (configuration words memory : List ℕ) (starts : startsInUnder 16 conf
   unfolding startsInUnder
   widened-start {answer} {words′} {memory′} h =
       let k = configurationIn configuration in
-      let started : answer ≡ StartAnswer.Started = rw now-starts at (h .answer-is) in
+      let started : answer ≡ StartAnswer.Started = rw (now-starts, waits) at (h .answer-is) in
       let fits = and-eq-true-iff (configurationFitsUnder 16 k) _ .0 starts .0 in
       let now-fits = and-eq-true-iff (configurationFitsUnder (CURRENT-LIMITS .channels) k) _ .0 now-starts .0 in
       let begun : StartedIn configuration words memory StartAnswer.Started words′ memory′ = rw started at h in
       record {
         answer-is = started;
-        words-are = rw now-starts at (h .words-are);
-        memory-is = rw now-starts at (h .memory-is);
-        fits = ap (worldFitsUnder EARLIER-LIMITS) (started-in begun) ∙ ordered-fits EARLIER-LIMITS (freshWorld k) (fresh-order k now-fits) (bounded-world k fits);
+        words-are = rw (now-starts, waits) at (h .words-are);
+        memory-is = rw (now-starts, waits) at (h .memory-is);
+        fits = ap (worldFitsUnder EARLIER-LIMITS) (started-in begun) ∙ ordered-fits EARLIER-LIMITS (freshWorld k) (fresh-order k (rw (now-fits, waits))) (bounded-world k fits);
       }
 
 -- ---- the border in numbers: on a store with room for it, a packet of 1,501 bytes was 14, and is taken where nothing waits

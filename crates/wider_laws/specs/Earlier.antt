@@ -14,7 +14,7 @@ use Rattle.ips_state.specs.State.{State}
 use Rattle.ips_state.specs.Limits.{stateFitsUnder, stateFits}
 use Rattle.ips_state.specs.Memory.{World, worldFitsUnder}
 use Rattle.ips_state.specs.declared.StartAnswer.{StartAnswer}
-use Rattle.ips_run.specs.Run.{Call, on, radio, query}
+use Rattle.ips_run.specs.Run.{Call, on, radio, pace, query}
 use Rattle.ips_calls.specs.Replies.{EndpointReply, replyUnder}
 use Rattle.ips_words_start.specs.Start.{configurationIn, freshWords}
 use Rattle.endpoint.specs.Lent.{Lent, lent, worldIn, afterInUnder}
@@ -36,7 +36,8 @@ ShortOn longest withdraw = Unit {0}
 
 abbrev pub Short : (longest : ℕ) → Call → Type 0
 Short longest (on id c) = ShortOn longest c
-Short longest (radio datagram) = Unit {0}
+Short longest (radio time datagram) = Unit {0}
+Short longest (pace time) = Unit {0}
 Short longest (query out) = Unit {0}
 
 -- what holds of each
@@ -44,10 +45,11 @@ abbrev pub Each : {A : Type 0} → (A → Type 0) → List A → Type 0
 Each P [] = Unit {0}
 Each P (x ∷ xs) = P x × Each P xs
 
--- ---- what 19 asks, "in any call that takes them": a radio message handed in and a query take no memory
+-- ---- what 19 asks, "in any call that takes them": a radio message handed in, the pacer and a query take no memory
 abbrev pub fitsForUnder : Limits → Call → World → Bool
 fitsForUnder limits (on id c) w = worldFitsUnder limits w
-fitsForUnder limits (radio datagram) w = stateFitsUnder limits (w .state)
+fitsForUnder limits (radio time datagram) w = stateFitsUnder limits (w .state)
+fitsForUnder limits (pace time) w = stateFitsUnder limits (w .state)
 fitsForUnder limits (query out) w = stateFitsUnder limits (w .state)
 
 -- what it asked before in literal numbers, besides what it asks of any state: 16 channels, and no waiting length above 1,500
@@ -78,6 +80,6 @@ pub record StartedAsBefore (configuration memory : List ℕ) (answer : StartAnsw
   pub fits : worldFitsUnder EARLIER-LIMITS (worldIn (lent words′ memory′)) ≡ true
 
 -- ---- a store filled to its last byte under the limits before, in literal words: channel 0, plain, of 1,500 bytes, with status 1, sequence 7 and latest time 100; one
--- packet waits, of 1,500 bytes, until 200
+-- packet waits, of 1,500 bytes, until 200; HelloTime 5,000 and silence limit 9,000, no time yet
 abbrev pub filledWords : List ℕ
-filledWords = 5 ∷ 1 ∷ 0 ∷ 0 ∷ 0 ∷ 0 ∷ 0 ∷ 0 ∷ 0 ∷ 0 ∷ 1500 ∷ 1 ∷ 1 ∷ 0 ∷ 0 ∷ 7 ∷ 100 ∷ 1 ∷ 1500 ∷ 200 ∷ replicate 62 0
+filledWords = 5 ∷ 1 ∷ 0 ∷ 0 ∷ 0 ∷ 0 ∷ 0 ∷ 0 ∷ 5000 ∷ 9000 ∷ 0 ∷ 0 ∷ 0 ∷ 0 ∷ 0 ∷ 1500 ∷ 1 ∷ 1 ∷ 0 ∷ 0 ∷ 7 ∷ 100 ∷ 1 ∷ 1500 ∷ 200 ∷ replicate 62 0

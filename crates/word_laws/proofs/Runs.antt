@@ -48,9 +48,9 @@ words-sequences words index inside = go (readable words) refl
 module _ {configuration words memory words′ memory′ : List ℕ} (started : StartedIn configuration words memory StartAnswer.Started words′ memory′) where
   pub ran-fits : (cs : List Call) → BytesIn cs → (xs : List EndpointReply) (last : Lent) → RanIn (lent words′ memory′) cs xs last → stateFits (stateIn (last .words)) ≡ true
   ran-fits cs bytes xs last run =
-      let fits = started-leaves configuration words memory started refl .configuration-fits in
+      let begun = started-leaves configuration words memory started refl in
       ap (λ (w : World). stateFits (w .state)) (ran-world (ran-in bytes run) ∙ ap (afterAll cs) (started-in started))
-      ∙ reached-fits (configurationIn configuration) fits cs bytes .order .state-fits
+      ∙ reached-fits (configurationIn configuration) (rw (begun .configuration-fits, begun .waits-fit)) cs bytes .order .state-fits
 
   pub ran-readable : (cs : List Call) → BytesIn cs → (xs : List EndpointReply) (last : Lent) → RanIn (lent words′ memory′) cs xs last → readable (last .words) ≡ true
   ran-readable cs bytes xs last run = fit-readable (last .words) (ran-fits cs bytes xs last run)

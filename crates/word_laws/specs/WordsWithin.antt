@@ -1,4 +1,4 @@
--- Number 19 of a state in words, and what such words say, in literal numbers: 8 words of the endpoint's own, then 74 for each channel, in configuration order.
+-- Number 19 of a state in words, and what such words say, in literal numbers: 13 words of the endpoint's own, then 74 for each channel, in configuration order.
 use Prim.Native.Nat.{ℕ, zero, suc, _+_, _*_, _^_, _≤_, _<_}
 use mathlib.Core.Bool.{true, false}
 use mathlib.Core.List.{List}
@@ -45,19 +45,21 @@ pub record NameWordsWithin (words : List ℕ) (b : ℕ) : Type 0 where
   pub longest : getD words b 0 ≡ 1 → getD words (b + 2) 0 ≤ 8
   pub fits : getD words b 0 ≡ 1 → getD words (b + 1) 0 < 256 ^ getD words (b + 2) 0
 
--- "channel count", "an ID twice", "no channel 0"; as many words as the channels ask, and a Datalink ID that is a byte
+-- "channel count", "an ID twice", "no channel 0", HelloTime or silence limit of 0 ("a configuration in it that would be refused"); as many words as the channels ask, and a Datalink ID that is a byte
 pub record WordsWithin (words : List ℕ) : Type 0 where
-  pub long : length words ≡ 8 + 74 * getD words 1 0
+  pub long : length words ≡ 13 + 74 * getD words 1 0
   pub datalink : getD words 0 0 < 256
   pub some : 1 ≤ getD words 1 0
   pub few : getD words 1 0 ≤ 64
   pub instance-within : NameWordsWithin words 2
   pub context-within : NameWordsWithin words 5
-  pub each : (i : ℕ) → i < getD words 1 0 → ChannelWordsWithin words (8 + 74 * i)
-  pub apart : (i j : ℕ) → i < getD words 1 0 → j < getD words 1 0 → getD words (8 + 74 * i) 0 ≡ getD words (8 + 74 * j) 0 → i ≡ j
+  pub hello : 1 ≤ getD words 8 0
+  pub limit : 1 ≤ getD words 9 0
+  pub each : (i : ℕ) → i < getD words 1 0 → ChannelWordsWithin words (13 + 74 * i)
+  pub apart : (i j : ℕ) → i < getD words 1 0 → j < getD words 1 0 → getD words (13 + 74 * i) 0 ≡ getD words (13 + 74 * j) 0 → i ≡ j
   pub primary : ℕ
   pub primary-inside : primary < getD words 1 0
-  pub primary-is : getD words (8 + 74 * primary) 0 ≡ 0
+  pub primary-is : getD words (13 + 74 * primary) 0 ≡ 0
 
 -- ---- what such words say
 
@@ -88,4 +90,9 @@ pub record StateSaid (words : List ℕ) (s : State) : Type 0 where
   pub instance : getD words 2 0 ≡ 1 → s .instance ≡ Instance.Given (record { 0 = getD words 3 0 }) (getD words 4 0)
   pub no-context : getD words 5 0 ≡ 0 → s .context ≡ Context.Absent
   pub context : getD words 5 0 ≡ 1 → s .context ≡ Context.Given (record { 0 = getD words 6 0 }) (getD words 7 0)
-  pub channel : (i : ℕ) → i < getD words 1 0 → ChannelSaid words (8 + 74 * i) (channelAt s i)
+  pub hello : s .pacer .hello ≡ getD words 8 0
+  pub limit : s .pacer .limit ≡ getD words 9 0
+  pub clock : s .pacer .clock ≡ getD words 10 0
+  pub due : s .pacer .due ≡ getD words 11 0
+  pub heard : s .pacer .heard ≡ getD words 12 0
+  pub channel : (i : ℕ) → i < getD words 1 0 → ChannelSaid words (13 + 74 * i) (channelAt s i)

@@ -1,6 +1,6 @@
 //! What the tests share: a state of four channels, packets and radio messages.
 #![allow(dead_code)]
-use nespovarda::{control, words_for, Configuration, DatalinkId, End, Endpoint, FlowSequence, FlowWindow, Kind, Written};
+use nespovarda::{control, words_for, Configuration, DatalinkId, End, Endpoint, FlowSequence, FlowWindow, Kind, Waits, Written};
 
 pub const DATALINK: DatalinkId = DatalinkId(7);
 pub const STORE: usize = 3000;
@@ -11,6 +11,7 @@ pub const SECOND_FLOW: u8 = 2;
 pub const ROOMY: u8 = 9;
 pub const NOT_CONFIGURED: u8 = 8;
 pub const NEVER: u64 = u64::MAX;
+pub const WAITS: Waits = Waits { hello: 500, limit: 900 };
 
 /// Words and memory of a state, as a caller owns them.
 #[derive(Clone, Debug, PartialEq)]
@@ -27,7 +28,7 @@ impl Lent {
 
 /// A configuration of channels 0 (plain), 3 and 2 (flow-controlled) and 9 (plain, with the largest store).
 pub fn configuration(words: &mut [u64], first: u32) -> Configuration<'_> {
-    Configuration::new(words, DATALINK)
+    Configuration::new(words, DATALINK, WAITS)
         .and_then(|configuration| configuration.channel(PLAIN, Kind::Plain, FlowSequence(0), STORE))
         .and_then(|configuration| configuration.channel(FLOW, Kind::FlowControlled, FlowSequence(first), STORE))
         .and_then(|configuration| configuration.channel(SECOND_FLOW, Kind::FlowControlled, FlowSequence(first), STORE))

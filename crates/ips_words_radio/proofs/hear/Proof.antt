@@ -9,14 +9,15 @@ use Rattle.ips_words_radio.proofs.hear.Tie as tie
 hear-instance-requires : tie.Need-hear-instance-requires
 hear-instance-requires c κs =
     let slots = c .before .before .before in
-    slots-room _ _ _ (slots .before .before .before .pre) (slots .hear-slots .ensures)
+    let start = slots .before .before .before in
+    slots-room (start .args .message) _ _ (start .pre) (slots .hear-slots .ensures)
 
 hear-context-requires : tie.Need-hear-context-requires
 hear-context-requires c κs =
     let instance = c .before .before .before in
     let slots = instance .before .before .before .before in
     let start = slots .before .before .before in
-    instance-room (start .args .message .instance) (slots .hear-slots .last .0) _ (slots-room _ _ _ (start .pre) (slots .hear-slots .ensures)) (instance .hear-instance .ensures)
+    instance-room (start .args .message .instance) (slots .hear-slots .last .0) _ (slots-room (start .args .message) _ _ (start .pre) (slots .hear-slots .ensures)) (instance .hear-instance .ensures)
 
 returns : tie.Need-returns
 unfolding heardWords

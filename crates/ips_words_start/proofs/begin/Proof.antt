@@ -5,7 +5,7 @@ use native.Mathlib.Omega.{arith}
 use borrow.Author.Tests.{not-true, not-false}
 use Rattle.ips_state.specs.Limits.{configurationFits}
 use Rattle.ips_words_start.specs.Start.{configurationIn}
-use Rattle.ips_words_start.proofs.Beginning.{configuration-long, counted-few, startable, judged-fits, begin-unfit, begin-memory, begin-words, begun}
+use Rattle.ips_words_start.proofs.Beginning.{configuration-long, counted-few, startable, judged-fits, begin-unfit, begin-memory, begin-words, begin-waits, begun}
 use borrow.Author.Needs.{needs}
 use Rattle.ips_words_start.proofs.begin.Statement.{statement}
 use Rattle.ips_words_start.proofs.begin.Tie as tie
@@ -39,20 +39,38 @@ returns-3 c =
     let fits = held .before .before .before in
     begin-words _ _ (fits .before .before .judge .ensures) _ _ (not-false _ (fits .if1 .left)) (held .if2 .left) _ (counted .narrow .ensures) (c .before .if3 .taken) _ (c .refused3 .ensures)
 
-write-requires : tie.Need-write-requires
-write-requires c κs =
-    let counted = c .before .before in
-    (c .before .if3 .left, startable _ (good (counted .before .before .before .before .before)) _ (counted .narrow .ensures))
+shared-slice-read-fits : tie.Need-shared-slice-read-fits
+shared-slice-read-fits c = omega (arith, configuration-long _ (good (c .before .before .before .before .before .before .before)))
+
+shared-slice-read-fits-2 : tie.Need-shared-slice-read-fits-2
+shared-slice-read-fits-2 c = omega (arith, configuration-long _ (good (c .before .before .before .before .before .before .before .before)))
 
 returns-4 : tie.Need-returns-4
 returns-4 c =
-    let filled = c .before .before in
-    let written = filled .before .before .before .before in
-    let room = written .before .before in
+    let waits = c .before .before in
+    let room = waits .before .before .before in
     let counted = room .before in
     let held = counted .before .before in
     let fits = held .before .before .before in
-    begun _ _ (fits .before .before .judge .ensures) _ _ (not-false _ (fits .if1 .left)) (held .if2 .left) _ (counted .narrow .ensures) (room .if3 .left) _ _ (written .write .ensures) (filled .fill-zeros .ensures)
+    begin-waits _ _ (fits .before .before .judge .ensures) _ _ (not-false _ (fits .if1 .left)) (held .if2 .left) _ (counted .narrow .ensures) (room .if3 .left) _ (waits .fits2 .ensures) (not-true _ (c .before .if4 .taken)) _ (c .refused4 .ensures)
+
+write-requires : tie.Need-write-requires
+write-requires c κs =
+    let room = c .before .before .before .before .before in
+    let counted = room .before in
+    (room .if3 .left, startable _ (good (counted .before .before .before .before .before)) _ (counted .narrow .ensures))
+
+returns-5 : tie.Need-returns-5
+returns-5 c =
+    let filled = c .before .before in
+    let written = filled .before .before .before .before in
+    let tested = written .before .before in
+    let waits = tested .before in
+    let room = waits .before .before .before in
+    let counted = room .before in
+    let held = counted .before .before in
+    let fits = held .before .before .before in
+    begun _ _ (fits .before .before .judge .ensures) _ _ (not-false _ (fits .if1 .left)) (held .if2 .left) _ (counted .narrow .ensures) (room .if3 .left) _ (waits .fits2 .ensures) (not-false _ (tested .if4 .left)) _ _ (written .write .ensures) (filled .fill-zeros .ensures)
 
 pub begin-spec : {M : Type 1} → statement M
 begin-spec =
@@ -69,8 +87,13 @@ begin-spec =
     add-if3
     (λ c κs. search needs)
     returns-3
+    shared-slice-read-fits
+    shared-slice-read-fits-2
+    (λ c κs. search needs)
+    (λ c κs. search needs)
+    returns-4
     write-requires
     (λ c κs. search needs)
     (λ c. search needs)
     (λ c. search needs)
-    returns-4)
+    returns-5)

@@ -5,7 +5,7 @@ use native.Mathlib.Omega.{arith}
 use borrow.Author.Tests.{ne-eqb}
 use Rattle.line_rows.specs.Tables.{itemsBehind}
 use Rattle.line_rows.specs.Places.{keyedOf, rowOfKey}
-use Rattle.session_read.specs.Lines.{HIGHEST-ID, READ, ECHO, START, OFFER, NEXT, WITHDRAW, RADIO, QUERY, SHOW, STORE, KEPT, askedBy}
+use Rattle.session_read.specs.Lines.{HIGHEST-ID, READ, ECHO, START, OFFER, NEXT, WITHDRAW, RADIO, PACE, QUERY, SHOW, STORE, KEPT, PACER, askedBy}
 use Rattle.session_read.proofs.Bounds.{below}
 use Rattle.session_read.proofs.asked.asks.Statement.{statement}
 use Rattle.session_read.proofs.asked.asks.Tie as tie
@@ -30,16 +30,22 @@ channel-requires : tie.Need-channel-requires
 unfolding rowOfKey keyedOf itemsBehind
 channel-requires c κs = omega (arith, below WITHDRAW 0 {most = HIGHEST-ID} refl (rw (c .match .keys6) at (c .before .pre)))
 
+element-copy-out-t8 : tie.Need-element-copy-out-t8
+element-copy-out-t8 c = search needs
+
+element-copy-out-t12 : tie.Need-element-copy-out-t12
+element-copy-out-t12 c = search needs
+
 room-requires : tie.Need-room-requires
 room-requires c κs = search needs
 
 channel-requires-2 : tie.Need-channel-requires-2
 unfolding rowOfKey keyedOf itemsBehind
-channel-requires-2 c κs = omega (arith, below SHOW 0 {most = HIGHEST-ID} refl (rw (c .match .keys9) at (c .before .pre)))
+channel-requires-2 c κs = omega (arith, below SHOW 0 {most = HIGHEST-ID} refl (rw (c .match .keys10) at (c .before .pre)))
 
 channel-requires-3 : tie.Need-channel-requires-3
 unfolding rowOfKey keyedOf itemsBehind
-channel-requires-3 c κs = omega (arith, below STORE 0 {most = HIGHEST-ID} refl (rw (c .match .keys10) at (c .before .pre)))
+channel-requires-3 c κs = omega (arith, below STORE 0 {most = HIGHEST-ID} refl (rw (c .match .keys11) at (c .before .pre)))
 
 returns : tie.Need-returns
 unfolding askedBy
@@ -67,27 +73,35 @@ returns-6 c = rw (c .before .match .keys6, c .channel .ensures)
 
 returns-7 : tie.Need-returns-7
 unfolding askedBy
-returns-7 c = rw (c .match .keys7)
+returns-7 c = rw (c .before .match .keys7)
 
 returns-8 : tie.Need-returns-8
 unfolding askedBy
-returns-8 c = rw (c .before .match .keys8, c .room .ensures)
+returns-8 c = rw (c .before .match .keys8)
 
 returns-9 : tie.Need-returns-9
 unfolding askedBy
-returns-9 c = rw (c .before .match .keys9, c .channel2 .ensures)
+returns-9 c = rw (c .before .match .keys9, c .room .ensures)
 
 returns-10 : tie.Need-returns-10
 unfolding askedBy
-returns-10 c = rw (c .before .match .keys10, c .channel3 .ensures)
+returns-10 c = rw (c .before .match .keys10, c .channel2 .ensures)
 
 returns-11 : tie.Need-returns-11
 unfolding askedBy
-returns-11 c = rw (c .match .keys11)
+returns-11 c = rw (c .before .match .keys11, c .channel3 .ensures)
 
 returns-12 : tie.Need-returns-12
 unfolding askedBy
-returns-12 c = simp (ne-eqb _ READ (c .match .rest .0 .0 .0 .0 .0 .0 .0 .0 .0 .0 .1), ne-eqb _ ECHO (c .match .rest .0 .0 .0 .0 .0 .0 .0 .0 .0 .1), ne-eqb _ START (c .match .rest .0 .0 .0 .0 .0 .0 .0 .0 .1), ne-eqb _ OFFER (c .match .rest .0 .0 .0 .0 .0 .0 .0 .1), ne-eqb _ NEXT (c .match .rest .0 .0 .0 .0 .0 .0 .1), ne-eqb _ WITHDRAW (c .match .rest .0 .0 .0 .0 .0 .1), ne-eqb _ RADIO (c .match .rest .0 .0 .0 .0 .1), ne-eqb _ QUERY (c .match .rest .0 .0 .0 .1), ne-eqb _ SHOW (c .match .rest .0 .0 .1), ne-eqb _ STORE (c .match .rest .0 .1), ne-eqb _ KEPT (c .match .rest .1))
+returns-12 c = rw (c .match .keys12)
+
+returns-13 : tie.Need-returns-13
+unfolding askedBy
+returns-13 c = rw (c .match .keys13)
+
+returns-14 : tie.Need-returns-14
+unfolding askedBy
+returns-14 c = simp (ne-eqb _ READ (c .match .rest .0 .0 .0 .0 .0 .0 .0 .0 .0 .0 .0 .0 .1), ne-eqb _ ECHO (c .match .rest .0 .0 .0 .0 .0 .0 .0 .0 .0 .0 .0 .1), ne-eqb _ START (c .match .rest .0 .0 .0 .0 .0 .0 .0 .0 .0 .0 .1), ne-eqb _ OFFER (c .match .rest .0 .0 .0 .0 .0 .0 .0 .0 .0 .1), ne-eqb _ NEXT (c .match .rest .0 .0 .0 .0 .0 .0 .0 .0 .1), ne-eqb _ WITHDRAW (c .match .rest .0 .0 .0 .0 .0 .0 .0 .1), ne-eqb _ RADIO (c .match .rest .0 .0 .0 .0 .0 .0 .1), ne-eqb _ PACE (c .match .rest .0 .0 .0 .0 .0 .1), ne-eqb _ QUERY (c .match .rest .0 .0 .0 .0 .1), ne-eqb _ SHOW (c .match .rest .0 .0 .0 .1), ne-eqb _ STORE (c .match .rest .0 .0 .1), ne-eqb _ KEPT (c .match .rest .0 .1), ne-eqb _ PACER (c .match .rest .1))
 
 pub asks-spec : {M : Type 1} → statement M
 asks-spec =
@@ -98,6 +112,8 @@ asks-spec =
     offer-requires
     next-requires
     channel-requires
+    element-copy-out-t8
+    element-copy-out-t12
     room-requires
     channel-requires-2
     channel-requires-3
@@ -112,4 +128,6 @@ asks-spec =
     returns-9
     returns-10
     returns-11
-    returns-12)
+    returns-12
+    returns-13
+    returns-14)

@@ -7,11 +7,11 @@ use Rattle.session_read.proofs.start.started.Tie as tie
 element-copy-out-channels : tie.Need-element-copy-out-channels
 element-copy-out-channels c = search needs
 
-mul-words : tie.Need-mul-words
-mul-words c = search needs
+mul-t6 : tie.Need-mul-t6
+mul-t6 c = search needs
 
-add-words : tie.Need-add-words
-add-words c = search needs
+add-t7 : tie.Need-add-t7
+add-t7 c = search needs
 
 memory-requires : tie.Need-memory-requires
 memory-requires c κs = search needs
@@ -21,5 +21,4 @@ unfolding startFrom
 returns c = rw (c .memory .ensures)
 
 pub started-spec : {M : Type 1} → statement M
-started-spec =
-    tie.close (tie.spec element-copy-out-channels mul-words add-words memory-requires returns)
+started-spec = tie.close (tie.spec element-copy-out-channels mul-t6 add-t7 memory-requires returns)

@@ -1,0 +1,86 @@
+// The words of the configuration that a `start` line says: HelloTime and silence limit stand before the channels, and are said behind them.
+ghost use mathlib.Core.Path.{_≡_};
+ghost use mathlib.Core.List.{[], _∷_, _++_};
+ghost use lib.ListN.{length, drop};
+ghost use lib.Seq.{paste};
+ghost use Rattle.line_rows.specs.Rows.{over};
+ghost use Rattle.ips_words_start.specs.Start.{CONFIGURATION-HEAD};
+ghost use Rattle.session_read.specs.Lines.{CONFIGURATION-WORDS, numbersIn, StartFits};
+ghost use Rattle.session_read.specs.Start.{pacePlace, channelsSaid, configurationFrom};
+use crate::start::SAID_CHANNELS;
+use crate::start::SAID_COUNT;
+use crate::start::SAID_ID;
+use crate::start::memory_place;
+use crate::start::perhaps;
+use crate::table::MOST_SETTINGS;
+use crate::table::PLACES;
+use ips_words_start::layout::CONFIGURATION_HEAD;
+use ips_words_start::layout::CONFIGURATION_SLOT;
+use ips_words_start::layout::CONFIGURED_COUNT;
+use ips_words_start::layout::CONFIGURED_DATALINK;
+use ips_words_start::layout::CONFIGURED_HELLO;
+use ips_words_start::layout::CONFIGURED_LIMIT;
+
+// No line says a configuration of more words.
+pub const CONFIGURATION_WORDS: usize = CONFIGURATION_HEAD
+    + CONFIGURATION_SLOT * MOST_SETTINGS as usize;
+
+// HelloTime and silence limit where the line says none.
+const USUAL_HELLO: u64 = 5000;
+
+const USUAL_LIMIT: u64 = 9000;
+
+// Where `pace` is said or not: behind `memory`, and behind its length where that is said.
+fn pace_place(n: &[u64; PLACES]) -> usize
+    requires { ⌜ StartFits (numbersIn (now n)) ⌝ }
+    ensures { λ r. ⌜ r ≡ pacePlace (numbersIn (now (n .entry))) ⌝ }
+{
+    let memory = memory_place(n);
+    if n[memory] == 1 {
+        return memory + 2;
+    }
+    memory + 1
+}
+
+fn write_head(
+    words: &mut [u64; CONFIGURATION_WORDS],
+    datalink: u64,
+    count: u64,
+    hello: u64,
+    limit: u64,
+)
+    requires { ⌜ length (now words) ≡ CONFIGURATION-WORDS ⌝ }
+    ensures { λ _. ⌜ now (words .exit) ≡ (datalink ∷ count ∷ hello ∷ limit ∷ []) ++ drop CONFIGURATION-HEAD (now (words .entry)) ⌝ }
+{
+    words[CONFIGURED_DATALINK] = datalink;
+    words[CONFIGURED_COUNT] = count;
+    words[CONFIGURED_HELLO] = hello;
+    words[CONFIGURED_LIMIT] = limit;
+}
+
+// The numbers of the channels are their words.
+fn write_channels(words: &mut [u64; CONFIGURATION_WORDS], n: &[u64; PLACES])
+    requires { ⌜ StartFits (numbersIn (now n)) ⌝ }
+    requires { ⌜ length (now words) ≡ CONFIGURATION-WORDS ⌝ }
+    ensures { λ _. ⌜ now (words .exit) ≡ paste (now (words .entry)) CONFIGURATION-HEAD (channelsSaid (numbersIn (now (n .entry)))) (length (channelsSaid (numbersIn (now (n .entry))))) ⌝ }
+{
+    let count = CONFIGURATION_SLOT * n[SAID_COUNT] as usize;
+    let mut at = 0;
+    while at < count {
+        words[CONFIGURATION_HEAD + at] = n[SAID_CHANNELS + at];
+        at += 1;
+    }
+}
+
+// The configuration stands at the start of the lent words, which are as they were behind it.
+pub(crate) fn configure(n: &[u64; PLACES], words: &mut [u64; CONFIGURATION_WORDS])
+    requires { ⌜ StartFits (numbersIn (now n)) ⌝ }
+    requires { ⌜ length (now words) ≡ CONFIGURATION-WORDS ⌝ }
+    ensures { λ _. ⌜ now (words .exit) ≡ over (configurationFrom (numbersIn (now (n .entry)))) (now (words .entry)) ⌝ }
+{
+    let pace = pace_place(n);
+    let hello = perhaps(n, pace, 1, USUAL_HELLO);
+    let limit = perhaps(n, pace, 2, USUAL_LIMIT);
+    write_head(words, n[SAID_ID], n[SAID_COUNT], hello, limit);
+    write_channels(words, n);
+}
