@@ -12,7 +12,7 @@
  *
  * A refusal changes no word, no byte of the memory and no byte of the output.
  *
- * Refusals and limits are those of document 01, in its words, and of document 02 where it moved them; sections are those
+ * Refusals and limits are those of documents 01 and 02, in their words; sections are those
  * of the draft of ARINC 858 Part 3 (docs/DECISIONS.md says what these papers are).
  *
  * `include/check` compares this file with the sources that the library is built from.

@@ -29,7 +29,7 @@
 //!     other => panic!("{other:?}"),
 //! }
 //!
-//! // 5 seconds after the start a query is due.
+//! // At 5000 a query is due: HelloTime has passed since 0.
 //! assert_eq!(endpoint.pace(5000), Paced::QueryDue);
 //! ```
 #![no_std]

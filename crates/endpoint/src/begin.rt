@@ -24,7 +24,7 @@ pub fn words_for(channels: usize) -> usize
     HEAD + SLOT * channels
 }
 
-// Judges the configuration, the words and the memory (19), and fills each store with zeros.
+// Judges the configuration, the words and the memory (19, then 22), and fills each store with zeros.
 pub fn start(words: &mut [u64], memory: &mut [u8], configuration: &[u64]) -> StartAnswer
     ensures { λ r. ⌜ StartedIn (now (configuration .entry)) (now (words .entry)) (now (memory .entry)) r (now (words .exit)) (now (memory .exit)) ⌝ }
 {

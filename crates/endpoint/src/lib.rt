@@ -1,4 +1,4 @@
-// The endpoint, the IPS end of the router: every call of document 01, on a state that stands in lent words and on a memory that the caller lends with them.
+// The endpoint, the IPS end of the router: every call of documents 01 and 02, on a state that stands in lent words and on a memory that the caller lends with them.
 //
 // `words_for` says how many words a number of channels asks for. `start` takes a configuration in words (the Datalink ID, the count of channels, HelloTime and silence limit, then for each
 // channel its ID, its kind, its first sequence and the length of its store) and writes the first state into the words; the memory has one store after the other.
@@ -8,7 +8,7 @@
 // - `pace` asks the pacer whether a query is due and whether the radio is silent;
 // - `query` writes the query with the Flow Sequences, and changes nothing;
 // - `find_channel`, `kept` and `pacer` tell what stands in the words.
-// An answer says what was done, or is a `Refusal` with document 01's number: then every word, the memory and the output are as they were.
+// An answer says what was done, or is a `Refusal` with its number: then every word, the memory and the output are as they were.
 pub mod begin;
 pub mod call;
 mod channel;

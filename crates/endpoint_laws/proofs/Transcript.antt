@@ -37,7 +37,10 @@ use Rattle.ips_run.specs.Settling.{ledgerAt}
 use Rattle.ips_run.proofs.Project.{step-follows, all-follow}
 use Rattle.ips_run.proofs.Fresh.{fresh-in}
 use Rattle.ips_run.proofs.Whole.{whole-account, whole-ledger, whole-within, whole-none, whole-silence}
-use Rattle.ips_calls.specs.Replies.{EndpointReply, ofChannel}
+use Rattle.ips_calls.specs.Replies.{EndpointReply, ofChannel, ofPace}
+use Rattle.pacer.specs.declared.PaceAnswer.{PaceAnswer}
+use Rattle.ips_calls.specs.Pace.{paceAnswer, saysSilent}
+use Rattle.ips_calls.proofs.Pacing.{silent-answered}
 use Rattle.ips_calls.specs.Calls.{Performed}
 use Rattle.ips_calls.specs.Ran.{Ran, repliesOf}
 use Rattle.ips_calls.specs.ReadBack.{ReadBack}
@@ -187,12 +190,21 @@ module _ (k : Configuration) (fits : configurationTaken k ≡ true) (index : ℕ
             let world = ran-world before in
             sent-since ∙ whole-none k fits index inside cs ds bytes more (rw world at none) (rw world at shut)
 
-      -- from an ask that is answered silent to the next accepted radio control message no output carries a packet, whatever else is called, further silences too
       rest : (time : ℕ) (es : List Call) → BytesIn (pace time ∷ es) → BytesIn es
       rest time es b = b .1
 
-      pub ran-silence : (time : ℕ) (es : List Call) → ds ≡ pace time ∷ es → silentBy (pace time) w ≡ true → acceptedAll es (after (pace time) w) ≡ [] → packetsSent (idAt k index) ds ys ≡ []
-      ran-silence time es is silent none =
+      -- the first reply of a run that begins with an ask
+      first-reply : (time : ℕ) (es : List Call) (answer : PaceAnswer) (zs : List EndpointReply) → ds ≡ pace time ∷ es → ys ≡ ofPace answer ∷ zs → answer ≡ paceAnswer time (w .state)
+      first-reply time es answer zs is replied =
+          let all : ofPace answer ∷ zs ≡ repliesOf (pace time ∷ es) w = sym replied ∙ ran-replies since ∙ ap (λ (l : List Call). repliesOf l w) is in
+          cc
+
+      -- from an ask that is answered silent to the next accepted radio control message no output carries a packet, whatever else is called, further silences too
+      pub ran-silence : (time : ℕ) (es : List Call) (answer : PaceAnswer) (zs : List EndpointReply) → ds ≡ pace time ∷ es → ys ≡ ofPace answer ∷ zs → saysSilent answer ≡ true
+          → acceptedAll es (after (pace time) w) ≡ [] → packetsSent (idAt k index) ds ys ≡ []
+      ran-silence time es answer zs is replied says none =
           let world = ran-world before in
-          sent-since ∙ ap (λ (cs′ : List Call). handedOver (happenedSince k index cs cs′)) is
+          let silent : silentBy (pace time) w ≡ true = silent-answered w time ∙ ap saysSilent (sym (first-reply time es answer zs is replied)) ∙ says in
+          sent-since
+          ∙ ap (λ (cs′ : List Call). handedOver (happenedSince k index cs cs′)) is
           ∙ whole-silence k fits index inside cs es bytes (rest time es (rw is at more)) time (rw world at silent) (rw world at none)

@@ -20,6 +20,8 @@ use Rattle.ips_channel.specs.declared.state.Channel.{Channel}
 use Rattle.ips_channel_calls.specs.declared.offering.OfferAnswer.{OfferAnswer}
 use Rattle.ips_channel_calls.specs.declared.offering.WithdrawAnswer.{WithdrawAnswer}
 use Rattle.ips_channel_calls.specs.declared.asking.NextAnswer.{NextAnswer}
+use Rattle.pacer.specs.declared.PaceAnswer.{PaceAnswer}
+use Rattle.ips_state.specs.State.{State}
 use Rattle.ips_state.specs.Limits.{sizes}
 use Rattle.ips_state.specs.WithinLimits.{WithinLimits}
 use Rattle.ips_state.specs.Memory.{World, channelIn, storeIn}
@@ -104,3 +106,13 @@ pub data WithdrawGiven (w : World) (id : ℕ) : WithdrawAnswer → Type 0 where
   withdraw-19 : (Admitted w → ⊥) → WithdrawGiven w id (WithdrawAnswer.Refused (numbered 19))
   withdraw-12 : Admitted w → NotConfigured w id → WithdrawGiven w id (WithdrawAnswer.Refused (numbered 12))
   withdraw-done : {index : ℕ} → Configured w id index → WithdrawGiven w id WithdrawAnswer.Withdrawn
+
+-- ---- the pacer asked: 19, then 21
+pub data PaceGiven (s : State) (time : ℕ) : PaceAnswer → Type 0 where
+  pace-19 : (WithinLimits s → ⊥) → PaceGiven s time (PaceAnswer.Refused (numbered 19))
+  pace-21 : WithinLimits s → time < s .pacer .clock → PaceGiven s time (PaceAnswer.Refused (numbered 21))
+  pace-quiet : WithinLimits s → s .pacer .clock ≤ time → time < s .pacer .due + s .pacer .hello → time < s .pacer .heard + s .pacer .limit → PaceGiven s time PaceAnswer.Quiet
+  pace-due : WithinLimits s → s .pacer .clock ≤ time → s .pacer .due + s .pacer .hello ≤ time → time < s .pacer .heard + s .pacer .limit → PaceGiven s time PaceAnswer.Due
+  pace-silent : WithinLimits s → s .pacer .clock ≤ time → time < s .pacer .due + s .pacer .hello → s .pacer .heard + s .pacer .limit ≤ time → PaceGiven s time PaceAnswer.Silent
+  pace-due-silent : WithinLimits s → s .pacer .clock ≤ time → s .pacer .due + s .pacer .hello ≤ time → s .pacer .heard + s .pacer .limit ≤ time
+      → PaceGiven s time PaceAnswer.DueSilent

@@ -1,8 +1,8 @@
 -- "Given exactly when": the refusals of a radio message handed in, of a query and of a start; those of the calls on a channel are in ips_run's Exact.
 -- Assumes nothing.
 use Prim.Native.Nat.{ℕ, _<_, _≤_}
-use mathlib.Core.Bool.{Bool, true, false, cond, not, and-false, and-eq-true-iff}
-use mathlib.Core.List.{List, [], _∷_}
+use mathlib.Core.Bool.{Bool, true, false, cond, and-false, and-eq-true-iff}
+use mathlib.Core.List.{List}
 use mathlib.Core.Logic.{_↔_, _⊎_, inl, inr}
 use mathlib.Core.Path.{_≡_, refl, sym, ap, subst, _∙_}
 use native.Mathlib.Omega.{arith}
@@ -265,6 +265,11 @@ module _ (s : State) (out : List ℕ) where
     query-only = either query-answered
 
 -- ---- a start: 19, then 22
+one-start : {number other : ℕ} → notStarted number ≡ notStarted other → number ≡ other
+one-start {number} {other} e =
+    let same : _≡_ {A = Refusal} (record { number = number; place = 0 }) (record { number = other; place = 0 }) = cc in
+    ap (λ (refusal : Refusal). refusal .number) same
+
 module _ (k : Configuration) (room : Bool) (w : World) where
   -- the configuration is outside the limits, the memory's length "isn't the sum of the stores", or what is lent for the state is of another length
   abbrev Unstartable : Type 0
@@ -320,18 +325,13 @@ module _ (k : Configuration) (room : Bool) (w : World) where
     told : Told answer
     told = subst Told (sym (h .answer-is)) told-by
 
-    one-number-start : {number other : ℕ} → notStarted number ≡ notStarted other → number ≡ other
-    one-number-start {number} {other} e =
-        let same : _≡_ {A = Refusal} (record { number = number; place = 0 }) (record { number = other; place = 0 }) = cc in
-        ap (λ (refusal : Refusal). refusal .number) same
-
     by-nineteen : {a : StartAnswer} → Told a → a ≡ notStarted OUTSIDE-LIMITS → Unstartable
     by-nineteen (outside f) e = unfit f
-    by-nineteen (waitless f l) e = let z : NO-WAIT ≡ OUTSIDE-LIMITS = one-number-start e in absurd (omega arith)
+    by-nineteen (waitless f l) e = let z : NO-WAIT ≡ OUTSIDE-LIMITS = one-start e in absurd (omega arith)
     by-nineteen (begun f l) e = clash (cc)
 
     by-twenty-two : {a : StartAnswer} → Told a → a ≡ notStarted NO-WAIT → (startFits k room (w .memory) ≡ true) × (waitsFit k ≡ false)
-    by-twenty-two (outside f) e = let z : OUTSIDE-LIMITS ≡ NO-WAIT = one-number-start e in absurd (omega arith)
+    by-twenty-two (outside f) e = let z : OUTSIDE-LIMITS ≡ NO-WAIT = one-start e in absurd (omega arith)
     by-twenty-two (waitless f l) e = (f, l)
     by-twenty-two (begun f l) e = clash (cc)
 

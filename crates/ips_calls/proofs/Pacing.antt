@@ -1,26 +1,29 @@
 -- The pacer by history, over any calls from a fresh start: a query is due exactly when HelloTime or more has passed since the last ask that was answered due, and it is
 -- silent exactly when the limit or more has passed since the last accepted radio control message; both waits first run from 0. Assumes nothing.
-use Prim.Native.Nat.{ℕ, _+_, _<_, _≤_}
-use mathlib.Core.Bool.{Bool, true, false, cond, not, _&&_, and-false}
-use mathlib.Core.List.{List, [], _∷_}
+use Prim.Native.Nat.{ℕ, _+_, _≤_}
+use mathlib.Core.Bool.{Bool, true, false, cond}
+use mathlib.Core.List.{List, [], _∷_, map}
 use mathlib.Core.Logic.{_↔_}
-use mathlib.Core.Path.{_≡_, refl, sym, ap, ap₂, _∙_}
+use mathlib.Core.Path.{_≡_, refl, sym, _∙_}
 use native.Mathlib.Omega.{arith}
 use borrow.Author.Tests.{le-leb, leb-true, le-ltb, ltb-false, lt-ltb}
-use lib.Dec.{leb}
 use Rattle.facts.proofs.Tests.{clash}
 use Rattle.pacer.specs.declared.PaceAnswer.{PaceAnswer}
 use Rattle.pacer.specs.Pacing.{isEarlier, isDue, isSilent, answerOf}
 use Rattle.ips_state.specs.State.{Configuration, State}
 use Rattle.ips_state.specs.Limits.{stateFits, configurationTaken}
 use Rattle.ips_state.specs.Memory.{World}
-use Rattle.ips_run.specs.Run.{Call, pace, inTime, silentUnder, silentBy, freshWorld}
+use Rattle.ips_radio.specs.declared.RadioAnswer.{RadioAnswer}
+use Rattle.ips_radio.specs.Heard.{dueOf}
+use Rattle.ips_run.specs.Run.{Call, radio, pace, Received, dropped, carried, stated, receivedIn, messagesIn, acceptedIn, inTime, acceptedUnder, acceptedBy, silentUnder, silentBy, freshWorld}
 use Rattle.ips_run.specs.Demand.{BytesIn, reached}
 use Rattle.ips_run.specs.Kept.{lastOr}
-use Rattle.ips_run.specs.Times.{takenTimes, dueTimes, heardTimes, timesAll}
+use Rattle.ips_run.specs.Times.{whenTaken, takenTimes, dueTimes, whenStated, heardTimes, timesAll}
 use Rattle.ips_run.proofs.Whole.{reached-fits}
 use Rattle.ips_run.proofs.Times.{whole-clock, whole-due, whole-heard, whole-waits}
-use Rattle.ips_calls.specs.Pace.{paceAnswerUnder, paceAnswer, saysDue, saysSilent, saysRefused}
+use Rattle.ips_calls.specs.Radio.{AfterRadio, handedIn}
+use Rattle.ips_calls.specs.Pace.{paceAnswerUnder, paceAnswer, saysDue, saysSilent, saysRefused, radioRefused}
+use Rattle.ips_calls.proofs.Exactly.{unheard, Handed, outside, earlier, unread, heard, passed, handed}
 
 -- ---- the four answers
 due-of : (due silent : Bool) → saysDue (answerOf due silent) ≡ due
@@ -71,6 +74,34 @@ module _ (w : World) (time : ℕ) where
       go false f early l = rw f
       go true f true l = rw (f, l)
       go true f false l = rw (f, l, refused-of (isDue time (w .state .pacer)) (isSilent time (w .state .pacer)))
+
+-- ---- and so for a radio message: accepted or not by its answer, a control message by what is accepted
+module _ (w : World) (time : ℕ) (datagram : List ℕ) where
+  pub radio-taken : takenTimes (radio time datagram) w ≡ cond (radioRefused (handedIn time (w .state) datagram .answer)) [] (time ∷ [])
+  unfolding takenTimes
+  radio-taken = go (handed (w .state) time datagram)
+    where
+      by-due : (due : Bool) → time ∷ [] ≡ cond (radioRefused (cond due RadioAnswer.Due RadioAnswer.Accepted)) [] (time ∷ [])
+      by-due true = refl
+      by-due false = refl
+
+      go : {h : AfterRadio} → Handed (w .state) time datagram h
+          → cond (inTime time (w .state)) (whenTaken time (receivedIn (w .state .datalink) datagram)) [] ≡ cond (radioRefused (h .answer)) [] (time ∷ [])
+      go (outside f) = rw f
+      go (earlier f l) = rw (f, lt-ltb time (w .state .pacer .clock) l)
+      go (unread refusal f why) = rw (f, unheard (w .state .datalink) datagram refusal why)
+      go (heard m f a) = rw (f, a) (by-due (dueOf (w .state .context) (m .context)))
+      go (passed f a) = rw (f, a)
+
+  pub radio-stated : heardTimes (radio time datagram) w ≡ map (λ m. time) (acceptedBy (radio time datagram) w)
+  unfolding heardTimes acceptedUnder acceptedIn
+  radio-stated = go (inTime time (w .state)) (receivedIn (w .state .datalink) datagram)
+    where
+      go : (t : Bool) (r : Received) → cond t (whenStated time r) [] ≡ map (λ m. time) (cond t (messagesIn r) [])
+      go false r = refl
+      go true dropped = refl
+      go true carried = refl
+      go true (stated m) = refl
 
 -- ---- by history
 module _ (k : Configuration) (fits : configurationTaken k ≡ true) (cs : List Call) (bytes : BytesIn cs) (time : ℕ) where

@@ -3,6 +3,7 @@ use Prim.Native.Nat.{ℕ}
 use mathlib.Core.Bool.{Bool, true, false, cond}
 use Rattle.quantity.specs.Limits.{Limits, CURRENT-LIMITS}
 use Rattle.quantity.specs.Refusals.{OUTSIDE-LIMITS, EARLIER-PACE}
+use Rattle.ips_radio.specs.declared.RadioAnswer.{RadioAnswer}
 use Rattle.pacer.specs.declared.PaceAnswer.{PaceAnswer}
 use Rattle.pacer.specs.Pacing.{isEarlier, isDue, isSilent, answerOf}
 use Rattle.ips_state.specs.State.{State}
@@ -42,3 +43,8 @@ saysRefused PaceAnswer.Due = false
 saysRefused PaceAnswer.Silent = false
 saysRefused PaceAnswer.DueSilent = false
 saysRefused (PaceAnswer.Refused refusal) = true
+
+abbrev pub radioRefused : RadioAnswer → Bool
+radioRefused RadioAnswer.Accepted = false
+radioRefused RadioAnswer.Due = false
+radioRefused (RadioAnswer.Refused refusal) = true

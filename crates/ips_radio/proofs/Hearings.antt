@@ -1,4 +1,4 @@
--- What a radio message changes, and what it leaves. Assumes nothing.
+-- What a radio message and a silence change, and what they leave. Assumes nothing.
 use Prim.Native.Nat.{ℕ, zero, suc, _<_}
 use mathlib.Core.Path.{_≡_, refl, ap, _∙_}
 use mathlib.Core.List.{List, [], _∷_, map, map-map}

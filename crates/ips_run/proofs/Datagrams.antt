@@ -1,19 +1,18 @@
 -- In every world that calls reach from a fresh start what is accepted, when it is silent, and what a channel sees, is a matter of the calls alone. Assumes nothing.
 use Prim.Native.Nat.{ℕ, _<_}
-use mathlib.Core.Bool.{Bool, true, false, cond, not, _&&_}
+use mathlib.Core.Bool.{Bool, true, false, cond, not}
 use mathlib.Core.List.{List, [], _∷_, _++_, map}
 use mathlib.Core.Path.{_≡_, refl, ap, ap₂, _∙_}
-use Rattle.quantity.specs.declared.count.DatalinkId.{DatalinkId}
 use Rattle.meaning.specs.declared.message.Control.{Control}
 use Rattle.pacer.specs.declared.Pacer.{Pacer}
-use Rattle.pacer.specs.Pacing.{isEarlier, isSilent, asked}
+use Rattle.pacer.specs.Pacing.{isEarlier, asked}
 use Rattle.ips_channel_rules.specs.Rules as rules
 use Rattle.ips_channel_rules.specs.Rules.{ChannelCall, Says, Event, Terms, Condition}
 use Rattle.ips_channel_rules.specs.Machine.{machine}
 use Rattle.ips_state.specs.State.{State, withChannel, withPacer}
 use Rattle.ips_state.specs.Memory.{World}
 use Rattle.ips_run.specs.Calling.{WorldResult, Judged, outside, unknown, served}
-use Rattle.ips_run.specs.Run.{Call, on, radio, pace, query, Received, dropped, carried, stated, receivedIn, inTime, partOf, ifSilent, acceptedUnder, acceptedBy, silentUnder, silentBy, received, pacerAfter, pacedBy, withState, afterUnder, after, afterAll, acceptedAll, sees, seesAll}
+use Rattle.ips_run.specs.Run.{Call, on, radio, pace, query, Received, dropped, carried, stated, receivedIn, partOf, ifSilent, acceptedUnder, acceptedBy, silentUnder, silentBy, received, pacerAfter, pacedBy, withState, afterUnder, after, afterAll, acceptedAll, sees, seesAll}
 use Rattle.ips_run.specs.Datagrams.{pacerWithin, pacerAllWithin, acceptedWithin, acceptedAllWithin, silentWithin, seesWithin, seesAllWithin}
 use Rattle.ips_run.specs.Demand.{BytesIn, RuledIn}
 use Rattle.ips_run.proofs.Exact.{judged}
@@ -56,7 +55,7 @@ module _ (k : Terms) (count index : ℕ) (inside : index < count) where
   accepted-one w st p (pace time) = refl
   accepted-one w st p (query out) = refl
 
-  silent-one : (w : World) (st : Condition machine) → RuledIn k count index w st → (c : Call) → silentBy c w ≡ silentWithin (w .state .pacer) c
+  pub silent-one : (w : World) (st : Condition machine) → RuledIn k count index w st → (c : Call) → silentBy c w ≡ silentWithin (w .state .pacer) c
   unfolding silentUnder
   silent-one w st p (on id c) = refl
   silent-one w st p (radio time datagram) = refl

@@ -1,7 +1,7 @@
 -- 19 and 12 are given exactly when the paper says so; from 13 on the channel judges. A refusal "changes no state and no lent byte". Assumes nothing.
 use Prim.Native.Nat.{ℕ, _<_}
 use mathlib.Core.Bool.{Bool, true, false, cond, not, and-false, and-eq-true-iff}
-use mathlib.Core.List.{List, [], _∷_}
+use mathlib.Core.List.{List, []}
 use mathlib.Core.Logic.{_↔_}
 use mathlib.Core.Path.{_≡_, refl, ap, ap₂, _∙_}
 use native.Mathlib.Omega.{arith}
@@ -26,7 +26,7 @@ use Rattle.ips_state.specs.Memory.{memoryFits, World, worldFits, isConfigured, 
 use Rattle.ips_state.proofs.Channels.{stands-among, ids-length, ids-at}
 use Rattle.ips_state.proofs.Places.{with-back, store-back, index-one}
 use Rattle.ips_run.specs.Calling.{termsIn, conditionIn, resultIn, WorldResult, refusing, atChannel, callingUnder, calling, Judged, outside, unknown, served}
-use Rattle.ips_run.specs.Run.{radio, pace, Received, dropped, carried, stated, ifAccepted, byPlane, controlRead, dataRead, receivedIn, acceptedIn, inTime, acceptedUnder, acceptedBy, received, pacedBy, withState, afterUnder, after}
+use Rattle.ips_run.specs.Run.{radio, pace, Received, dropped, carried, stated, ifAccepted, byPlane, controlRead, dataRead, receivedIn, acceptedIn, inTime, acceptedUnder, acceptedBy, received, withState, afterUnder, after}
 
 -- the ID of a configured channel is among the IDs
 pub named : (w : World) (index id : ℕ) → index < length (w .state .channels) → channelIn w index .setting .id ≡ id → isConfigured w id ≡ true
@@ -193,10 +193,6 @@ module _ (w : World) (time : ℕ) (datagram : List ℕ) where
       go false = refl
 
 module _ (w : World) (time : ℕ) where
-  pub paced-in-time : inTime time (w .state) ≡ true → after (pace time) w ≡ withState w (pacedBy time (w .state))
-  unfolding afterUnder
-  paced-in-time e = rw e
-
   pub pace-late : inTime time (w .state) ≡ false → after (pace time) w ≡ w
   unfolding afterUnder
   pace-late e = rw e

@@ -2,7 +2,7 @@
 -- that of the last accepted radio control message; 0 where there was none. Assumes nothing.
 use Prim.Native.Nat.{ℕ}
 use mathlib.Core.Bool.{Bool, true, false, cond}
-use mathlib.Core.List.{List, [], _∷_, _++_}
+use mathlib.Core.List.{List, [], _∷_}
 use mathlib.Core.Path.{_≡_, refl, sym, _∙_}
 use Rattle.pacer.specs.declared.Pacer.{Pacer}
 use Rattle.pacer.specs.Pacing.{isDue, asked, heardAt, movedTo}

@@ -1,13 +1,13 @@
 -- DEMAND 3 FOR THE WHOLE ENDPOINT: "Take any sequence of calls from a fresh start, refused ones among them, each taking the state and the lent memory as the one
 -- before left them." Each channel, "seeing its own calls and its part of each accepted radio message", and each silence, is served as the simple channel would be. Assumes nothing.
 use Prim.Native.Nat.{ℕ, _^_, _<_}
-use mathlib.Core.Bool.{Bool, true, false, cond, _||_}
+use mathlib.Core.Bool.{Bool, true, false, cond}
 use mathlib.Core.List.{List, [], _∷_, _++_, append-assoc}
 use mathlib.Core.Path.{_≡_, refl, sym, ap, _∙_}
 use native.Mathlib.Omega.{arith}
 use lib.ListN.{length}
 use lib.Dec.{eqb}
-use Rattle.facts.proofs.Tests.{clash}
+use Rattle.facts.proofs.Tests.{clash, neither}
 use Rattle.quantity.specs.declared.count.FlowWindow.{FlowWindow}
 use Rattle.quantity.specs.Window.{standingAt}
 use Rattle.wire.specs.Numbers.{Octets}
@@ -28,6 +28,7 @@ use Rattle.ips_channel_rules.proofs.Within.{within-window, from-arrival, none-s
 use Rattle.ips_channel_rules.proofs.Silence.{silence-leaves, quiet-sends}
 use Rattle.ips_channel.specs.declared.state.Channel.{Channel}
 use Rattle.ips_channel.specs.Channel.{conditionOf}
+use Rattle.pacer.specs.declared.Pacer.{Pacer}
 use Rattle.pacer.specs.Pacing.{freshPacer}
 use Rattle.ips_state.specs.State.{Configuration, startAt, freshState}
 use Rattle.ips_state.specs.Limits.{configurationTaken}
@@ -35,11 +36,11 @@ use Rattle.ips_state.proofs.Places.{fit}
 use Rattle.ips_radio.specs.Heard.{statusIn, windowIn}
 use Rattle.ips_state.specs.Memory.{World, channelIn, storeIn}
 use Rattle.ips_run.specs.Run.{Call, on, radio, pace, query, freshWorld, acceptedBy, acceptedAll, silentBy, after, afterAll, ifOwn, ifSilent, sees, seesAll}
-use Rattle.ips_run.specs.Datagrams.{pacerAllWithin, acceptedAllWithin, seesAllWithin}
+use Rattle.ips_run.specs.Datagrams.{pacerAllWithin, acceptedAllWithin, silentWithin, seesAllWithin}
 use Rattle.ips_run.specs.Demand.{BytesIn, idAt, reached, ruled, seen, happened, seenSince, happenedSince, freshAt, simplyAt, TidyIn, NoNews, Follows, Untouched, Reached}
 use Rattle.ips_run.specs.Settling.{ledgerAt}
 use Rattle.ips_run.proofs.Project.{untouched, all-follow}
-use Rattle.ips_run.proofs.Datagrams.{pacer-within, accepted-within, sees-within}
+use Rattle.ips_run.proofs.Datagrams.{pacer-within, silent-one, accepted-within, sees-within}
 use Rattle.ips_run.proofs.Fresh.{fresh-order, fresh-in}
 
 -- ---- what is seen of some calls and then others
@@ -47,7 +48,7 @@ pub sees-append : (own : ℕ) (cs ds : List Call) (w : World) → seesAll own (c
 sees-append own [] ds w = refl
 sees-append own (c ∷ cs) ds w = rw (sees-append own cs ds (after c w)) (sym (append-assoc (sees own c w) (seesAll own cs (after c w)) (seesAll own ds (afterAll cs (after c w)))))
 
--- between two radio messages
+-- between two radio messages or silences
 none-first : {A : Type 0} (xs ys : List A) → xs ++ ys ≡ [] → xs ≡ []
 none-first [] ys e = refl
 none-first (x ∷ xs) ys e = clash (cc)
@@ -70,23 +71,15 @@ calls-own own id e q es r = by (eqb own id)
     by true = (q, r)
     by false = r
 
-or-first : (a b : Bool) → (a || b) ≡ false → a ≡ false
-or-first true b e = clash (sym e)
-or-first false b e = refl
-
-or-rest : (a b : Bool) → (a || b) ≡ false → b ≡ false
-or-rest true b e = clash (sym e)
-or-rest false b e = e
-
 no-more : {c : Call} {cs : List Call} {w : World} → NoNews (c ∷ cs) w → NoNews cs (after c w)
-no-more {c} {cs} {w} none = record { unheard = none-rest (acceptedBy c w) _ (none .unheard); unsilenced = or-rest (silentBy c w) _ (none .unsilenced) }
+no-more {c} {cs} {w} none = record { unheard = none-rest (acceptedBy c w) _ (none .unheard); unsilenced = neither (silentBy c w) _ (none .unsilenced) .1 }
 
 calls-seen : (own : ℕ) (cs : List Call) (w : World) → NoNews cs w → NoRadio (seesAll own cs w)
 calls-seen own [] w none = tt
 calls-seen own (on id c ∷ cs) w none = calls-own own id (rules.call c) tt _ (calls-seen own cs (after (on id c) w) (no-more none))
 calls-seen own (radio time datagram ∷ cs) w none =
     rw (none-first (acceptedBy (radio time datagram) w) _ (none .unheard)) (calls-seen own cs (after (radio time datagram) w) (no-more none))
-calls-seen own (pace time ∷ cs) w none = rw (or-first (silentBy (pace time) w) _ (none .unsilenced)) (calls-seen own cs (after (pace time) w) (no-more none))
+calls-seen own (pace time ∷ cs) w none = rw (neither (silentBy (pace time) w) _ (none .unsilenced) .0) (calls-seen own cs (after (pace time) w) (no-more none))
 calls-seen own (query out ∷ cs) w none = calls-seen own cs (after (query out) w) (no-more none)
 
 -- from a silence to the next accepted radio control message
@@ -132,7 +125,7 @@ module _ (k : Configuration) (fits : configurationTaken k ≡ true) where
       pub whole-tidy : TidyIn (reached k cs) index
       whole-tidy = follows cs bytes .ruled-in .as-ruled .tidy
 
-      -- what it doesn't see (a call on another channel, a radio message that is not accepted, a query) changes no byte of it
+      -- what it doesn't see (a call on another channel, a data message, one that is refused, the pacer asked in no silence, a query) changes no byte of it
       pub whole-untouched : (d : Call) → sees (idAt k index) d (reached k cs) ≡ [] → Untouched index (reached k cs) (after d (reached k cs))
       whole-untouched = untouched (ruled k index) (length (k .starts)) index inside (reached k cs) _ (follows cs bytes .ruled-in)
 
@@ -211,7 +204,7 @@ module _ (k : Configuration) (fits : configurationTaken k ≡ true) where
           (quiet-sends machine (ruled k index) (seesAll (idAt k index) ds (after (pace time) (reached k cs))) (quiet-seen (idAt k index) ds (after (pace time) (reached k cs)) none) _
           (silence-leaves machine (ruled k index) st .0))
 
-    -- a window arrives: what goes until the next radio message never passes the number that it stands for at the count when it came
+    -- a window arrives: what goes until the next radio message or silence never passes the number that it stands for at the count when it came
     module _ (small : startAt k index .first .0 < 2 ^ 32) (controlled : startAt k index .setting .controlled ≡ true) (cs ds : List Call) (bytes : BytesIn cs) (more : BytesIn ds)
         (time : ℕ) (datagram : List ℕ) (octets : Octets datagram) (m : Control) (accepted : acceptedBy (radio time datagram) (reached k cs) ≡ m ∷ [])
         (none : NoNews ds (after (radio time datagram) (reached k cs))) (window : FlowWindow) (given : windowIn m (idAt k index) ≡ Window.Given window) where
@@ -248,6 +241,12 @@ module _ (k : Configuration) (fits : configurationTaken k ≡ true) where
     pub whole-pacer : reached k cs .state .pacer ≡ pacerAllWithin (k .datalink) cs (freshPacer (k .hello) (k .limit))
     unfolding freshWorld freshState
     whole-pacer = pacer-within (ruled k 0) (length (k .starts)) 0 primary cs bytes (freshWorld k) (freshAt k 0) (fresh-in k fits 0 primary)
+
+    -- and so is whether an ask then is a silence
+    pub whole-silent : (time : ℕ) → silentBy (pace time) (reached k cs) ≡ silentWithin (pacerAllWithin (k .datalink) cs (freshPacer (k .hello) (k .limit))) (pace time)
+    whole-silent time =
+        silent-one (ruled k 0) (length (k .starts)) 0 primary (reached k cs) _ (follows 0 primary cs bytes .ruled-in) (pace time)
+        ∙ ap (λ (p : Pacer). silentWithin p (pace time)) whole-pacer
 
     pub whole-accepted : acceptedAll cs (freshWorld k) ≡ acceptedAllWithin (k .datalink) (freshPacer (k .hello) (k .limit)) cs
     unfolding freshWorld freshState

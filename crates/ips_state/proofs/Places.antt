@@ -21,7 +21,7 @@ use Rattle.ips_channel.specs.Channel.{freshChannel}
 use Rattle.pacer.specs.declared.Pacer.{Pacer}
 use Rattle.pacer.specs.Pacing.{pacerFits}
 use Rattle.ips_state.specs.State.{ChannelStart, Configuration, State, noStart, noChannel, channelAt, withChannel, withPacer, freshOf, freshState, blankState}
-use Rattle.ips_state.specs.Limits.{flowFits, channelFitsUnder, channelFits, allFitUnder, allFit, ids, distinct, channelsFitUnder, countFits, namesFit, headFits, stateFitsUnder, stateFits, settingFits, startsFit, startIds, configurationFitsUnder, configurationFits, waitsFit, configurationTaken, sizes, indexOf}
+use Rattle.ips_state.specs.Limits.{flowFits, channelFitsUnder, channelFits, allFitUnder, allFit, ids, distinct, channelsFitUnder, countFits, namesFit, headFits, stateFitsUnder, stateFits, settingFits, startsFit, startIds, configurationFitsUnder, waitsFit, configurationTaken, sizes, indexOf}
 use Rattle.ips_state.specs.Memory.{memoryFits, startOf, storeAt, withStore}
 use Rattle.ips_state.proofs.Channels.{getD-mapped, index-none, index-stands, distinct-index, all-at, all-set, ids-length, ids-at, ids-set, sizes-room, sizes-set, sizes-all, ChannelFit, fitting}
 

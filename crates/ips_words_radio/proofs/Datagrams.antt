@@ -31,7 +31,7 @@ use Rattle.ips_radio.proofs.Hearings.{status-heard}
 use Rattle.ips_run.specs.Run.{radio, pace, Received, dropped, carried, stated, ifAccepted, byPlane, controlRead, dataRead, receivedIn, inTime, received, pacedBy, withState, afterUnder, after}
 use Rattle.ips_words.specs.Words.{pacerIn, readable, stateIn, putPacer, statusValue, flowWindow}
 use Rattle.ips_words.proofs.Whole.{fit-readable}
-use Rattle.ips_words.proofs.Pacers.{paced-readable, paced-in, fit-pacer}
+use Rattle.ips_words.proofs.Pacers.{paced-in, fit-pacer}
 use Rattle.ips_words_radio.specs.HeardWords.{heardWords, silencedWords, receivedWords, pacedWords, Slender}
 use Rattle.ips_words_radio.proofs.Heard.{heard-pacer, heard-readable, heard-in, silenced-pacer, silenced-readable, silenced-in}
 
@@ -104,11 +104,6 @@ module _ (time : ℕ) (words : List ℕ) (fits : stateFits (stateIn words) ≡ t
       moved-in (heardWords m words) (heard-readable m words fits slender) (heard-pacer m words fits) (heardAt time (pacerIn words)) refl refl
       ∙ rw (heard-in m words fits slender, fit-pacer words fits)
 
-  pub received-readable : {r : Received} → SlenderIn r → readable (receivedWords time r words) ≡ true
-  received-readable nothing = says-something
-  received-readable packet = paced-readable words (movedTo time (pacerIn words)) says-something
-  received-readable (message m slender) = paced-readable (heardWords m words) (heardAt time (pacerIn words)) (heard-readable m words fits slender)
-
   pub asked-in : stateIn (pacedWords time words) ≡ pacedBy time (stateIn words)
   unfolding pacedWords pacedBy asked
   asked-in =
@@ -118,14 +113,6 @@ module _ (time : ℕ) (words : List ℕ) (fits : stateFits (stateIn words) ≡ t
       go : (silent : Bool) → stateIn (putPacer (cond silent (silencedWords words) words) (asked time (pacerIn words))) ≡ withPacer (cond silent (silencedBy (stateIn words)) (stateIn words)) (asked time (pacerIn words))
       go true = moved-in (silencedWords words) (silenced-readable words fits) (silenced-pacer words fits) (asked time (pacerIn words)) refl refl ∙ rw (silenced-in words fits)
       go false = moved-in words says-something refl (asked time (pacerIn words)) refl refl
-
-  pub asked-readable : readable (pacedWords time words) ≡ true
-  unfolding pacedWords
-  asked-readable = go (isSilent time (pacerIn words))
-    where
-      go : (silent : Bool) → readable (putPacer (cond silent (silencedWords words) words) (asked time (pacerIn words))) ≡ true
-      go true = paced-readable (silencedWords words) (asked time (pacerIn words)) (silenced-readable words fits)
-      go false = paced-readable words (asked time (pacerIn words)) says-something
 
 -- ---- the same of the two calls, refused ones too
 module _ (time : ℕ) (words memory : List ℕ) where

@@ -1,4 +1,4 @@
--- A start is not refused exactly where `StartsExactly` says so, fact by fact; and what it leaves. Assumes nothing.
+-- A start is not refused by 19 exactly where `StartsExactly` says so, and not by 22 where `WaitsExactly` does, fact by fact; and what it leaves. Assumes nothing.
 use Prim.Native.Nat.{ℕ, zero, suc, _+_, _*_, _^_, _≤_, _<_}
 use mathlib.Core.Bool.{Bool, true, false, _&&_, and-false, and-eq-true-iff}
 use mathlib.Core.List.{List, [], _∷_, map}

@@ -8,7 +8,6 @@ use native.Mathlib.Omega.{arith}
 use lib.Dec.{eqb}
 use lib.ListN.{length, set, drop, length-append, length-drop}
 use lib.Seq.{paste, paste-zero, paste-suc, take-length, drop-append-add, drop-drop}
-use Rattle.facts.specs.Tables.{tabulate}
 use Rattle.facts.proofs.Tables.{length-tabulate, getD-tabulate}
 use Rattle.line_rows.specs.Rows.{over}
 use Rattle.ips_words_start.specs.Start.{CONFIGURATION-HEAD, CONFIGURATION-SLOT}

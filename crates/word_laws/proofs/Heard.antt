@@ -2,7 +2,7 @@
 -- accepted control message's own Context stands in its words. Assumes nothing.
 use Prim.Native.Nat.{ℕ, _+_, _*_, _≤_, _<_}
 use mathlib.Core.Bool.{Bool, true, false, cond, and-eq-true-iff}
-use mathlib.Core.Logic.{_⊎_, inl, inr, ⊎-elim}
+use mathlib.Core.Logic.{⊎-elim}
 use mathlib.Core.List.{List}
 use mathlib.Core.Path.{_≡_, refl, sym, ap, _∙_}
 use native.Mathlib.Omega.{arith}
@@ -27,7 +27,7 @@ use Rattle.ips_words.proofs.Pacers.{paced-length, paced-before, paced-behind}
 use Rattle.endpoint.specs.Lent.{Lent, lent, afterInUnder}
 use Rattle.endpoint.specs.Calls.{PerformedIn}
 use Rattle.word_laws.specs.RadioLeaves.{ChannelsLeft, RadioLeaves, ContextLeft, without, with-bytes}
-use Rattle.word_laws.proofs.PacerWords.{eight-or-nine, clock-written, due-written, heard-written}
+use Rattle.word_laws.proofs.PacerWords.{timely-by, eight-or-nine, clock-written, due-written, heard-written}
 
 pub none-left : (l : Lent) → ChannelsLeft l l
 none-left l = record { long = refl; setting = λ i j h b. refl; rest = λ i j h a b. refl; memory = refl }
@@ -141,9 +141,10 @@ radio-other-words {time} {datagram} {l} h = rw (h .lent-is) (go (inTime time (st
     go false f = nothing-leaves l
 
 -- ---- an accepted control message: its own Context is kept, or none; the pacer's clock and last heard are its time
-module _ {time : ℕ} {datagram : List ℕ} {l l′ : Lent} {x : EndpointReply} (h : PerformedIn (radio time datagram) l x l′) (timely : inTime time (stateIn (l .words)) ≡ true) where
-  fitting : stateFits (stateIn (l .words)) ≡ true
-  fitting = and-eq-true-iff (stateFits (stateIn (l .words))) _ .0 timely .0
+module _ {time : ℕ} {datagram : List ℕ} {l l′ : Lent} {x : EndpointReply} (h : PerformedIn (radio time datagram) l x l′) (fitting : stateFits (stateIn (l .words)) ≡ true)
+    (on-time : getD (l .words) 10 0 ≤ time) where
+  timely : inTime time (stateIn (l .words)) ≡ true
+  timely = timely-by (l .words) time fitting on-time
 
   module _ (m : Control) (e : receivedIn (stateIn (l .words) .datalink) datagram ≡ stated m) where
     words-heard : l′ .words ≡ putPacer (heardWords m (l .words)) (heardAt time (pacerIn (l .words)))

@@ -2,7 +2,7 @@
 use Prim.Native.Nat.{ℕ, _+_, _*_, _≤_, _<_}
 use mathlib.Core.Bool.{Bool, true, false, cond, and-eq-true-iff}
 use mathlib.Core.List.{List}
-use mathlib.Core.Path.{_≡_, refl, sym, ap, _∙_}
+use mathlib.Core.Path.{_≡_, refl, ap, _∙_}
 use native.Mathlib.Omega.{arith}
 use borrow.Author.Tests.{le-leb, lt-leb}
 use lib.ListN.{length, getD, set, length-set}
@@ -10,21 +10,20 @@ use lib.Dec.{eqb}
 use lib.Seq.{getD-set-same, getD-set-other}
 use Rattle.meaning.specs.declared.message.Status.{Status}
 use Rattle.meaning.specs.declared.message.Window.{Window}
-use Rattle.pacer.specs.declared.Pacer.{Pacer}
-use Rattle.pacer.specs.Pacing.{isDue, isSilent, asked}
+use Rattle.pacer.specs.Pacing.{isSilent, asked}
 use Rattle.ips_state.specs.Limits.{stateFits}
 use Rattle.ips_run.specs.Run.{pace, inTime}
 use Rattle.ips_calls.specs.Replies.{EndpointReply}
 use Rattle.ips_words.specs.Words.{slot, pacerIn, stateIn, putPacer}
 use Rattle.ips_words.proofs.Whole.{slot-word}
 use Rattle.ips_words.proofs.Pacers.{paced-before, paced-behind}
-use Rattle.ips_words_radio.specs.HeardWords.{statusHeard, flowHeard, heardPart, silencedSlot, silencedWords, pacedWords}
+use Rattle.ips_words_radio.specs.HeardWords.{heardPart, silencedSlot, silencedWords, pacedWords}
 use Rattle.ips_words_radio.proofs.Hearing.{head-there}
-use Rattle.ips_words_radio.proofs.Heard.{silenced-length, silenced-head, silenced-slot, silenced-pacer}
+use Rattle.ips_words_radio.proofs.Heard.{silenced-length, silenced-head, silenced-slot}
 use Rattle.endpoint.specs.Lent.{Lent, lent, afterInUnder}
 use Rattle.endpoint.specs.Calls.{PerformedIn}
 use Rattle.word_laws.specs.RadioLeaves.{ChannelsLeft, PaceLeaves, Silent, Unsilenced}
-use Rattle.word_laws.proofs.PacerWords.{clock-written, due-written, heard-written}
+use Rattle.word_laws.proofs.PacerWords.{timely-by, clock-written, due-written, heard-written}
 use Rattle.word_laws.proofs.Heard.{none-left, in-slot, long-slot, told-leaves, paced-channels}
 
 -- ---- one channel's words after a silence
@@ -129,10 +128,11 @@ pace-other-words {time} {l} h = rw (h .lent-is) (go (inTime time (stateIn (l .wo
     go true f = asked-leaves (l .words) (l .memory) time (and-eq-true-iff (stateFits (stateIn (l .words))) _ .0 f .0)
     go false f = nothing-paced l
 
--- ---- where it is not refused: the clock is the time, the last query due moves if one is due, and a silence is written, or no channel's word
-module _ {time : ℕ} {l l′ : Lent} {x : EndpointReply} (h : PerformedIn (pace time) l x l′) (timely : inTime time (stateIn (l .words)) ≡ true) where
-  fitting : stateFits (stateIn (l .words)) ≡ true
-  fitting = and-eq-true-iff (stateFits (stateIn (l .words))) _ .0 timely .0
+-- ---- where it is not refused, word 10 being the clock: the clock is the time, the last query due moves if one is due, and a silence is written, or no channel's word
+module _ {time : ℕ} {l l′ : Lent} {x : EndpointReply} (h : PerformedIn (pace time) l x l′) (fitting : stateFits (stateIn (l .words)) ≡ true)
+    (on-time : getD (l .words) 10 0 ≤ time) where
+  timely : inTime time (stateIn (l .words)) ≡ true
+  timely = timely-by (l .words) time fitting on-time
 
   abbrev silent : Bool
   silent = isSilent time (pacerIn (l .words))
@@ -174,3 +174,13 @@ module _ {time : ℕ} {l l′ : Lent} {x : EndpointReply} (h : PerformedIn (pace
   pace-quiet-words on =
       let is : silent ≡ false = lt-leb (getD (l .words) 12 0 + getD (l .words) 9 0) time on in
       record { stands = λ k low. behind k low ∙ rw is }
+
+-- ---- asked again in the same silence it is silent again, and no channel's word changes
+pub pace-again : {time later : ℕ} {l l′ l″ : Lent} {x y : EndpointReply} → PerformedIn (pace time) l x l′ → PerformedIn (pace later) l′ y l″ → stateFits (stateIn (l .words)) ≡ true
+    → stateFits (stateIn (l′ .words)) ≡ true → getD (l .words) 10 0 ≤ time → time ≤ later → getD (l .words) 12 0 + getD (l .words) 9 0 ≤ time
+    → (getD (l′ .words) 12 0 + getD (l′ .words) 9 0 ≤ later) × Silent (l′ .words) (l″ .words)
+pace-again {time} {later} {l} {l′} h k fits fits′ on-time after over =
+    let left = pace-other-words h in
+    let again : getD (l′ .words) 12 0 + getD (l′ .words) 9 0 ≤ later = rw (left .heard, left .head 9 (omega arith)) (omega arith) in
+    let clock : getD (l′ .words) 10 0 ≤ later = rw (pace-clock-word h fits on-time) after in
+    (again, pace-silent-words k fits′ clock again)
