@@ -1,10 +1,13 @@
 """compare.py: the proved programs against the second implementation.
 
-    compare.py stored                       make each stored output and each made file anew, and compare
-    compare.py random PROGRAM SEED COUNT    one random script of COUNT lines, run by both; reports the first difference
-    compare.py captures SEED COUNT RECORDS  COUNT random captures of up to RECORDS records, likewise
-    compare.py pieces SEED COUNT RECORDS    the same, handed over in pieces of 1 byte, of 15, of 16, of 17 and so on
-    compare.py capture FILE WORD..          one capture, with the program's words
+    compare.py stored                               make each stored output and each made file anew, and compare
+    compare.py random PROGRAM SEED COUNT            one random script of COUNT lines, run by both; reports the first difference
+    compare.py captures PROGRAM SEED COUNT RECORDS  COUNT random captures of up to RECORDS records, likewise
+    compare.py pieces PROGRAM SEED COUNT RECORDS    the same, handed over in pieces of 1 byte, of 15, of 16, of 17 and so on
+    compare.py capture PROGRAM FILE WORD..          one capture, with the program's words
+    compare.py cases                                the small captures of judge_cases.py, the samples of `judge` among them
+
+`random` is for `distance` and `session`, the captures for `report` and `judge`.
 """
 
 import os
@@ -17,22 +20,32 @@ from dataclasses import astuple
 from itertools import chain, cycle, repeat
 
 from captures import Dice, draw_capture, draw_setting
+from judge_captures import draw_session
+from judge_cases import CASES
+from own_captures import draw_recording
 
 SECOND = pathlib.Path(__file__).resolve().parent
 ROOT = SECOND.parent
 # Each proved program that answers line by line, with the number of lines that it writes before the answers.
 PROGRAMS = {"distance": 1, "session": 0}
+# Each program that reads a capture, with what draws captures for it.
+CAPTURES = {"report": (draw_capture,), "judge": (draw_session, draw_session, draw_session, draw_capture, draw_recording)}
 # Programs whose stored output is compared line by line.
-STORED = PROGRAMS | {"report": 0}
-# Each made file, with the script that prints it.
+STORED = PROGRAMS | dict.fromkeys(CAPTURES, 0)
+# Each made file, with the script that prints it, and the script's words.
 MADE = {
     "crates/session/stdin": "stored.py",
     "crates/report/stdin": "stored_capture.py",
+    "crates/judge/stdin": "stored_judge.py",
     "docs/FLIGHT.md": "flight_page.py",
     "docs/samples/report": "sample_capture.py",
     "docs/REPORT.md": "report_page.py",
+    "docs/samples/judge": "sample_judge.py",
+    "docs/samples/judge-wrap": "sample_judge.py wrap",
+    "docs/samples/judge-withdrawn": "sample_judge.py withdrawn",
+    "docs/JUDGE.md": "judge_page.py",
 }
-# Words for `report`: none, the program's own, others, and such that are refused.
+# Words for a program that reads a capture: none, the program's own, others, and such that are refused.
 WORDS = ([], [], [], ["8580", "8581", "7"], ["8581", "8580", "7"], ["8580", "0", "255"], ["1", "1", "1"], ["08580", "8581", "7"], ["8580", "8581"], ["8580", "65536", "7"])
 
 # The pieces that an input is handed over in: about the length of a record's head, of a file's, and more than a buffer holds.
@@ -99,7 +112,7 @@ def compare_stored():
     """Each program's stored output is what the second implementation makes of the stored input; made files likewise."""
     differing = 0
     for path, script in MADE.items():
-        is_same = run_script(script) == (ROOT / path).read_bytes()
+        is_same = run_script(*script.split()) == (ROOT / path).read_bytes()
         print(f"{path}: {'as made' if is_same else f'not what {script} prints'}")
         differing += not is_same
     for program in STORED:
@@ -119,18 +132,18 @@ def compare_random(program, seed, count):
     return difference is not None
 
 
-def compare_capture(capture, words, name, sizes=None):
+def compare_capture(program, capture, words, name, sizes=None):
     """Both implementations on one capture: what they print, and what they complain of."""
-    proved, complaints = run_proved("report", capture, words, sizes)
-    second = subprocess.run([sys.executable, SECOND / "report.py", *words], input=capture, capture_output=True, check=True)
-    difference = first_difference("report", b"", proved, second.stdout)
+    proved, complaints = run_proved(program, capture, words, sizes)
+    second = subprocess.run([sys.executable, SECOND / f"{program}.py", *words], input=capture, capture_output=True, check=True)
+    difference = first_difference(program, b"", proved, second.stdout)
     if complaints != second.stderr.splitlines():
         difference = f"on standard error, proved {complaints!r}, second {second.stderr!r}"
-    print(f"report, {name}, {len(capture)} bytes: {difference or 'no difference'}")
+    print(f"{program}, {name}, {len(capture)} bytes: {difference or 'no difference'}")
     return difference is not None
 
 
-def compare_captures(seed, count, records, sizes=None):
+def compare_captures(program, seed, count, records, sizes=None):
     """Both implementations on random captures, each under words that are its own setting, or others."""
     differing = 0
     for number in range(int(count)):
@@ -138,7 +151,8 @@ def compare_captures(seed, count, records, sizes=None):
         size = dice.choice((0, 1, dice.randrange(int(records) + 1), int(records)))
         own = [str(word) for word in astuple(dice.setting)]
         words = dice.choice((own, own, own, own, dice.choice(WORDS)))
-        differing += compare_capture(draw_capture(dice, size), words, f"seed {seed} {number}, words {words}", sizes)
+        capture = dice.choice(CAPTURES[program])(dice, size)
+        differing += compare_capture(program, capture, words, f"seed {seed} {number}, words {words}", sizes)
     return differing
 
 
@@ -148,12 +162,14 @@ def main():
         return compare_stored()
     if len(sys.argv) == 5 and sys.argv[1] == "random" and sys.argv[2] in PROGRAMS:
         return compare_random(*sys.argv[2:])
-    if len(sys.argv) == 5 and sys.argv[1] == "captures":
+    if len(sys.argv) == 6 and sys.argv[1] == "captures" and sys.argv[2] in CAPTURES:
         return compare_captures(*sys.argv[2:])
-    if len(sys.argv) == 5 and sys.argv[1] == "pieces":
+    if len(sys.argv) == 6 and sys.argv[1] == "pieces" and sys.argv[2] in CAPTURES:
         return compare_captures(*sys.argv[2:], PIECES)
-    if len(sys.argv) >= 3 and sys.argv[1] == "capture":
-        return compare_capture(pathlib.Path(sys.argv[2]).read_bytes(), sys.argv[3:], sys.argv[2])
+    if sys.argv[1:] == ["cases"]:
+        return sum(compare_capture("judge", capture, [], name) for name, (capture, _) in CASES.items())
+    if len(sys.argv) >= 4 and sys.argv[1] == "capture" and sys.argv[2] in CAPTURES:
+        return compare_capture(sys.argv[2], pathlib.Path(sys.argv[3]).read_bytes(), sys.argv[4:], sys.argv[3])
     print(__doc__, file=sys.stderr)
     return 2
 

@@ -75,16 +75,21 @@ RECORDS = [
 ]
 
 
-def sample_capture():
-    """The capture's bytes: head, then a record each second."""
+def capture_of(frames):
+    """A capture's bytes: head, then a record each second of a frame and by how much it was shortened."""
     capture = bytearray(bytes.fromhex("d4c3b2a1") + (2).to_bytes(2, ORDER) + (4).to_bytes(2, ORDER) + bytes(8))
     capture += (65535).to_bytes(4, ORDER) + (1).to_bytes(4, ORDER)
-    for second, (_, _, frame, lost) in enumerate(RECORDS):
+    for second, (frame, lost) in enumerate(frames):
         kept = frame[: len(frame) - lost]
         for number in (second, 0, len(kept), len(frame)):
             capture += number.to_bytes(4, ORDER)
         capture += kept
     return bytes(capture)
+
+
+def sample_capture():
+    """The capture's bytes."""
+    return capture_of([(frame, lost) for _, _, frame, lost in RECORDS])
 
 
 def main():

@@ -8,88 +8,16 @@ use census::RECORDS;
 use census::REFUSALS;
 use census::SKIPPED;
 use ethernet::Ports;
-use libc::STDERR_FILENO;
 use libc::STDOUT_FILENO;
 use quantity::count::DatalinkId;
 use quantity::refusal::FILE_HEAD;
 use records::Found;
-use text::Number;
-
-// "ports and Datalink ID are set in the program"
-const RADIO_PORT: usize = 8580;
-
-const IPS_PORT: usize = 8581;
-
-const DATALINK: u8 = 7;
-
-const HIGHEST_PORT: u64 = 65535;
-
-const HIGHEST_DATALINK: u64 = 255;
 
 // How many bytes of the capture are held at once.
 const ROOM: usize = 2 * records::ROOM;
 
-// A longer word is no number that is asked for.
-const WORD: usize = 8;
-
 // The longest line has 42 bytes.
 const LINE: usize = 64;
-
-// What the words say: the ports and the Datalink ID, unless they say something else.
-struct Setting {
-    good: bool,
-    ports: Ports,
-    id: DatalinkId,
-}
-
-fn setting_of(radio: usize, ips: usize, datalink: u8) -> Setting {
-    let ports = Ports { radio, ips };
-    let id = DatalinkId(datalink);
-    Setting {
-        good: radio != ips,
-        ports,
-        id,
-    }
-}
-
-fn bad() -> Setting {
-    setting_of(0, 0, 0)
-}
-
-// The number up to a bound that a word of the command line stands for.
-fn word(i: usize, most: u64) -> Number {
-    let mut buffer = [0u8; WORD];
-    let n = os::arg(i, &mut buffer);
-    if os::errno() != 0 {
-        return Number::Bad;
-    }
-    text::parse(&buffer[..n], most)
-}
-
-fn said() -> Setting {
-    let Number::Value(radio) = word(1, HIGHEST_PORT) else {
-        return bad();
-    };
-    let Number::Value(ips) = word(2, HIGHEST_PORT) else {
-        return bad();
-    };
-    let Number::Value(datalink) = word(3, HIGHEST_DATALINK) else {
-        return bad();
-    };
-    setting_of(radio as usize, ips as usize, (datalink % 256) as u8)
-}
-
-// Three words, all or none; the program's own name stands before them.
-fn asked() -> Setting {
-    let words = os::arg_count();
-    if words <= 1 {
-        return setting_of(RADIO_PORT, IPS_PORT, DATALINK);
-    }
-    if words == 4 {
-        return said();
-    }
-    bad()
-}
 
 // Lays what stands before a channel's count.
 fn put_channel(out: &mut [u8], place: usize) -> usize {
@@ -209,12 +137,9 @@ fn hold(
 }
 
 fn main() {
-    let setting = asked();
+    let setting = capture_words::asked();
     if !setting.good {
-        io::write_all(
-            STDERR_FILENO,
-            b"three words or none: RADIO-PORT IPS-PORT DATALINK (ports 0 to 65535 and not equal, DATALINK 0 to 255)\n",
-        );
+        capture_words::complain();
         return;
     }
     io::write_all(STDOUT_FILENO, b"count value\n");

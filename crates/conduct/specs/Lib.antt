@@ -1,0 +1,3 @@
+pub mod Outcomes
+pub mod Account
+pub mod Words

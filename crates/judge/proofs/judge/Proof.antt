@@ -1,0 +1,42 @@
+-- `judge` meets its contract: the words are those of the loop, from zeros on, closed by its answer. Assumes nothing.
+use Rattle.judge.proofs.Serving.{judged-by}
+use borrow.Author.Needs.{needs}
+use Rattle.judge.proofs.judge.Statement.{statement}
+use Rattle.judge.proofs.judge.Tie as tie
+
+start-requires : tie.Need-start-requires
+start-requires c κs = search needs
+
+serve-requires : tie.Need-serve-requires
+serve-requires c κs = search needs
+
+close-requires : tie.Need-close-requires
+close-requires c κs = search needs
+
+say-findings-requires : tie.Need-say-findings-requires
+say-findings-requires c κs = search needs
+
+same-length : tie.Need-same-length
+same-length c = search needs
+
+same-length-2 : tie.Need-same-length-2
+same-length-2 c = search needs
+
+same-length-3 : tie.Need-same-length-3
+same-length-3 c = search needs
+
+returns : tie.Need-returns
+returns c = judged-by (c .before .before .before .before .before .before .before .before .before .before .before .before .before .before .before .before .before .before .start .ensures) (c .before .before .before .before .before .before .before .before .before .before .before .before .before .serve .ensures) (c .before .before .before .before .before .before .before .close .ensures)
+
+pub judge-spec : {M : Type 1} → statement M
+judge-spec =
+    tie.close
+    (tie.spec
+    start-requires
+    serve-requires
+    close-requires
+    say-findings-requires
+    same-length
+    same-length-2
+    same-length-3
+    returns)

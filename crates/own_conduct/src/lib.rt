@@ -1,0 +1,1 @@
+// No code: that the endpoint's own session passes when it is judged.
