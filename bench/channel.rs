@@ -19,7 +19,7 @@ use timing::Dice;
 
 // A plain channel, and the datagram that reports it operational.
 fn setup(size: usize) -> Setup {
-    Setup { datalink: DATALINK, hello: HELLO, limit: LIMIT, starts: vec![Start { id: 0, controlled: false, first: 0, size }] }
+    Setup { datalink: DATALINK, hello: HELLO, limit: LIMIT, codes: 0, starts: vec![Start { id: 0, controlled: false, first: 0, size }] }
 }
 
 fn operational() -> Vec<u8> {

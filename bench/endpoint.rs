@@ -58,7 +58,8 @@ fn random_setup(dice: &mut Dice) -> Setup {
     let starts = random_ids(dice, count).into_iter().map(|id| Start { id, controlled: !(plain && dice.roll(2) == 0), first, size: sizes[dice.roll(2)] }).collect();
     // Waits about the times of a script, now and then none.
     let [hello, limit] = [0; 2].map(|_| [1, 2, 5, 8, 15, 100, u64::MAX, [3, 3, 0][dice.roll(3)]][dice.roll(8)]);
-    Setup { datalink: DATALINK, hello, limit, starts }
+    let codes = [0, 0, 2, 255, dice.roll(256) as u8][dice.roll(5)];
+    Setup { datalink: DATALINK, hello, limit, codes, starts }
 }
 
 fn random_datagram(dice: &mut Dice, setup: &Setup, turn: u32, packet: u32) -> Vec<u8> {
@@ -224,7 +225,7 @@ const ALONE: [Case; 8] = [
 
 // Stores with room for two such packets.
 fn setup(channels: u8, first: u32, length: usize) -> Setup {
-    Setup { datalink: DATALINK, hello: HELLO, limit: LIMIT, starts: (0..channels).map(|id| Start { id, controlled: true, first, size: STORE.max(2 * length) }).collect() }
+    Setup { datalink: DATALINK, hello: HELLO, limit: LIMIT, codes: 0, starts: (0..channels).map(|id| Start { id, controlled: true, first, size: STORE.max(2 * length) }).collect() }
 }
 
 // The turns behind a start and a radio message; the windows let every packet go, over the wrap.

@@ -38,7 +38,7 @@ static void say(nespovarda_answer answer)
 static void start(void)
 {
     static const uint64_t configuration[] = {
-        7, CHANNELS, 5000, 9000, /* Datalink ID, count, HelloTime, silence limit; then ID, kind, first sequence, store */
+        7, CHANNELS, 5000, 9000, 2, /* Datalink ID, count, HelloTime, silence limit, status 9; then ID, kind, first sequence, store */
         0, NESPOVARDA_PLAIN, 0, STORE,
         3, NESPOVARDA_CONTROLLED, 4294967230, STORE,
         5, NESPOVARDA_PLAIN, 0, STORE,
@@ -170,7 +170,7 @@ int main(void)
     carry(11600, 9);
     show_pacer();
     RADIO(11599, CONTEXT("US") STATUS("\0", "\7") STATUS("\3", "\7"));
-    RADIO(11610, CONTEXT("US") STATUS("\0", "\7") STATUS("\3", "\7"));
+    RADIO(11610, CONTEXT("US") STATUS("\0", "\7") STATUS("\3", "\x09"));
     next(3, 11620, 100);
     return 0;
 }

@@ -16,13 +16,15 @@
 #define LONGEST_LINE 140000
 #define LARGEST_ID 255
 #define LARGEST_SEQUENCE 4294967295u
+#define LARGEST_MASK 255
 #define LARGEST_LENGTH (NESPOVARDA_MOST_CHANNELS * NESPOVARDA_LARGEST_STORE)
 #define MOST_READ 80 /* channels of a start */
 #define START_WORDS 2
 #define MEMORY_WORDS 2
 #define PACE_WORDS 3
+#define CODES_WORDS 2
 #define MOST_WORDS \
-    (START_WORDS + NESPOVARDA_CONFIGURATION_SLOT * MOST_READ + MEMORY_WORDS + PACE_WORDS) /* behind the first */
+    (START_WORDS + NESPOVARDA_CONFIGURATION_SLOT * MOST_READ + MEMORY_WORDS + PACE_WORDS + CODES_WORDS) /* behind the first */
 #define HELLO 5000 /* where a start says nothing of the pacer */
 #define LIMIT 9000
 
@@ -359,17 +361,27 @@ static bool read_channel(const struct word *words, uint64_t *start)
            read_number(words[3], LARGEST_LENGTH, &start[NESPOVARDA_START_SIZE]);
 }
 
-/* Nothing, or `pace HELLO LIMIT` */
+/* Nothing, or `codes MASK` */
+static bool read_codes(const struct word *words, size_t count, uint64_t *configuration)
+{
+    configuration[NESPOVARDA_CONFIGURED_CODES] = 0;
+    return count == 0 || (count == CODES_WORDS && is(words[0], "codes") &&
+                          read_number(words[1], LARGEST_MASK, &configuration[NESPOVARDA_CONFIGURED_CODES]));
+}
+
+/* Perhaps `pace HELLO LIMIT`, and perhaps `codes MASK` behind it. */
 static bool read_pace(const struct word *words, size_t count, uint64_t *configuration)
 {
     configuration[NESPOVARDA_CONFIGURED_HELLO] = HELLO;
     configuration[NESPOVARDA_CONFIGURED_LIMIT] = LIMIT;
-    return count == 0 || (count == PACE_WORDS && is(words[0], "pace") &&
-                          read_number(words[1], UINT64_MAX, &configuration[NESPOVARDA_CONFIGURED_HELLO]) &&
-                          read_number(words[2], UINT64_MAX, &configuration[NESPOVARDA_CONFIGURED_LIMIT]));
+    if (count < PACE_WORDS || !is(words[0], "pace"))
+        return read_codes(words, count, configuration);
+    return read_number(words[1], UINT64_MAX, &configuration[NESPOVARDA_CONFIGURED_HELLO]) &&
+           read_number(words[2], UINT64_MAX, &configuration[NESPOVARDA_CONFIGURED_LIMIT]) &&
+           read_codes(words + PACE_WORDS, count - PACE_WORDS, configuration);
 }
 
-/* Perhaps `memory LEN`, and perhaps `pace HELLO LIMIT` behind it. */
+/* Perhaps `memory LEN`, and perhaps more behind it. */
 static bool read_memory(const struct word *words, size_t count, uint64_t *configuration, uint64_t *length)
 {
     if (count < MEMORY_WORDS || !is(words[0], "memory"))

@@ -43,7 +43,7 @@ typedef struct {
 #define NESPOVARDA_TAKEN 2           /* the packet joined the end of its queue */
 #define NESPOVARDA_SENT 3            /* a data message with the first waiting packet was written; value: its length */
 #define NESPOVARDA_NOTHING_WAITING 4 /* no packet waits */
-#define NESPOVARDA_NOT_OPERATIONAL 5 /* a packet waits, and the channel's status isn't one of 1 to 7 */
+#define NESPOVARDA_NOT_OPERATIONAL 5 /* a packet waits, and the channel's status is neither 1 to 7 nor configured */
 #define NESPOVARDA_WINDOW_SHUT 6     /* the first waiting packet doesn't fit the window, or there is no window */
 #define NESPOVARDA_WITHDRAWN 7       /* all packets that waited on the channel were withdrawn */
 #define NESPOVARDA_ACCEPTED 8        /* the message was accepted */
@@ -135,14 +135,14 @@ typedef struct {
 #define NESPOVARDA_LARGEST_STORE 65536
 #define NESPOVARDA_RESERVED_CHANNEL 255 /* no Channel ID: those are 0 to 254 */
 #define NESPOVARDA_CHANNEL_IDS 255      /* how many Channel IDs there are */
-#define NESPOVARDA_HIGHEST_STATUS 15    /* 0: not operational; 1 to 7: operational; 8 to 15: unknown, not operational */
+#define NESPOVARDA_HIGHEST_STATUS 15    /* 0: not operational; 1 to 7: operational; 8 to 15: as configured */
 #define NESPOVARDA_SHORTEST_NAME 1      /* bytes of a Link Instance or of a Datalink Context */
 #define NESPOVARDA_LONGEST_NAME 8
 
 /* ---- The state ---- */
 
 /* The words of a state of so many channels, where the number is known when compiling; else nespovarda_words. */
-#define NESPOVARDA_STATE_HEAD 13
+#define NESPOVARDA_STATE_HEAD 14
 #define NESPOVARDA_STATE_SLOT 74
 #define NESPOVARDA_STATE_WORDS(channels) (NESPOVARDA_STATE_HEAD + NESPOVARDA_STATE_SLOT * (channels))
 
@@ -151,7 +151,8 @@ typedef struct {
 #define NESPOVARDA_CONFIGURED_COUNT 1    /* how many channels, FEWEST_CHANNELS to MOST_CHANNELS */
 #define NESPOVARDA_CONFIGURED_HELLO 2    /* HelloTime: how long from a query to the next, in milliseconds, not 0 */
 #define NESPOVARDA_CONFIGURED_LIMIT 3    /* the silence limit: how long without a control message, not 0 */
-#define NESPOVARDA_CONFIGURATION_HEAD 4  /* how many first words */
+#define NESPOVARDA_CONFIGURED_CODES 4    /* which statuses 8 to 15 are operational: bit status - 8; 0: none */
+#define NESPOVARDA_CONFIGURATION_HEAD 5  /* how many first words */
 #define NESPOVARDA_START_ID 0            /* the Channel ID; one of the channels is 0, and none comes twice */
 #define NESPOVARDA_START_KIND 1          /* NESPOVARDA_PLAIN or NESPOVARDA_CONTROLLED */
 #define NESPOVARDA_START_FIRST 2         /* the first Flow Sequence value, of 32 bits */
@@ -186,8 +187,9 @@ nespovarda_answer nespovarda_offer(uint64_t *words, size_t words_length,
                                    uint64_t expiry, uint64_t time);
 
 /*
- * Asks for the next message: writes a data message with the first waiting packet into the output, if the status is 1 to
- * 7 and the channel is free or the packet fits the window. Bytes behind the message stay. Packets expire as in an Offer.
+ * Asks for the next message: writes a data message with the first waiting packet into the output, if the status is
+ * operational (1 to 7, or configured) and the channel is free or the packet fits the window. Bytes behind the message
+ * stay. Packets expire as in an Offer.
  * SENT; else, tried in this order, NOTHING_WAITING, NOT_OPERATIONAL, WINDOW_SHUT, which are no refusals and leave the
  * output as it stood; REFUSED by 19, 12, 15, 18.
  */

@@ -23,10 +23,10 @@ WAITS = of_ciri(
      "    test_memory(configurations, memory)\n" "    if not are_waits_allowed(pacer):\n" "        raise Refusal(22)\n",
      "    if not are_waits_allowed(pacer):\n" "        raise Refusal(22)\n" "    test_memory(configurations, memory)\n"),
     ("22 before the channels' 19",
-     "    test_configuration(datalink_id, configurations)\n" "    test_memory(configurations, memory)\n"
+     "    test_configuration(datalink_id, configurations, codes)\n" "    test_memory(configurations, memory)\n"
      "    if not are_waits_allowed(pacer):\n" "        raise Refusal(22)\n",
      "    if not are_waits_allowed(pacer):\n" "        raise Refusal(22)\n"
-     "    test_configuration(datalink_id, configurations)\n" "    test_memory(configurations, memory)\n"),
+     "    test_configuration(datalink_id, configurations, codes)\n" "    test_memory(configurations, memory)\n"),
     ("due only after more than HelloTime", DUE, DUE.replace("<=", "<")),
     ("due a millisecond early", DUE, DUE.replace("<= now", "<= now + 1")),
     ("silent only after more than the limit", SILENT, SILENT.replace("<=", "<")),

@@ -96,29 +96,58 @@ OFFERING = of_ciri(
     ("other bytes behind the waiting packets", 'store_length, b"\\0")', 'store_length, b"\\1")'),
 )
 
+ANSWER = "    answer = why_no_message(endpoint.codes, channel, unexpired)\n"
+NOT_REPORTED = "    if status is None:\n        return False\n"
+ANYWAY = "    return status in OPERATIONAL_STATUSES\n"
+BIT = "return codes >> (status - CONFIGURED_STATUSES.start) & 1 == 1"
+
+STATUSES = of_ciri(
+    ("not reported is operational", NOT_REPORTED, "    if status is None:\n        return True\n"),
+    ("not reported is operational under 255", NOT_REPORTED, "    if status is None:\n        return codes == 255\n"),
+    ("status 0 is operational", ANYWAY, "    return 0 <= status <= 7\n"),
+    ("status 0 by the setting", ANYWAY, "    return status in OPERATIONAL_STATUSES or codes & 1 == 1\n"),
+    ("status 0 is operational under 255", ANYWAY, "    return status in OPERATIONAL_STATUSES or codes == 255\n"),
+    ("status 1 isn't operational", ANYWAY, "    return 2 <= status <= 7\n"),
+    ("only status 7 is operational", ANYWAY, "    return status == 7\n"),
+    ("status 7 isn't operational", ANYWAY, "    return 1 <= status <= 6\n"),
+    ("1 to 7 only under a setting", ANYWAY, "    return status in OPERATIONAL_STATUSES and codes != 0\n"),
+    ("1 to 7 by the setting's bits", ANYWAY, "    return status != 0 and (codes == 0 or codes >> status & 1 == 1)\n"),
+    ("status 8 is operational", "    if status in CONFIGURED_STATUSES:", "    if status == 8:\n        return True\n"
+     "    if status in CONFIGURED_STATUSES:"),
+    ("status 15 is operational", "    if status in CONFIGURED_STATUSES:", "    if status == 15:\n        return True\n"
+     "    if status in CONFIGURED_STATUSES:"),
+    ("status 15 not by the setting", "CONFIGURED_STATUSES = range(8, 16)", "CONFIGURED_STATUSES = range(8, 15)"),
+    ("status 8 not by the setting", BIT, "return status != 8 and codes >> (status - 8) & 1 == 1"),
+    ("any bit opens all", BIT, "return codes != 0"),
+    ("only 255 opens any", BIT, "return codes == 255"),
+    ("bits counted from the other end", BIT, "return codes >> (15 - status) & 1 == 1"),
+    ("bits counted from status 7", BIT, "return codes >> (status - 7) & 1 == 1"),
+    ("bits counted from status 9", BIT, "return codes << 1 >> (status - 8) & 1 == 1"),
+    ("a bit says not operational", BIT, "return codes >> (status - 8) & 1 == 0"),
+    ("a bit opens the statuses below it", BIT, "return codes >> (status - 8) != 0"),
+    ("Next asks under the default", ANSWER, ANSWER.replace("endpoint.codes", "0")),
+    ("Next asks under 255", ANSWER, ANSWER.replace("endpoint.codes", "255")),
+    ("a radio message ends the setting", "    endpoint.pacer.last_heard = now\n",
+     "    endpoint.pacer.last_heard = now\n    endpoint.codes = 0\n"),
+    ("a silence ends the setting", "    if is_silent:\n", "    if is_silent:\n        endpoint.codes = 0\n"),
+    ("a Next ends the setting", ANSWER, ANSWER + "    endpoint.codes = 0\n"),
+    ("no setting above 127", "fits_bits(codes, len(CONFIGURED_STATUSES))", "fits_bits(codes, 7)"),
+)
+
 SENDING = of_ciri(
     ("15 before 12", "    channel = find_channel(endpoint, channel_id)\n    test_time(channel, now)\n    unexpired",
      "    if now < endpoint.channels[0].latest:\n        raise Refusal(15)\n"
      "    channel = find_channel(endpoint, channel_id)\n    test_time(channel, now)\n    unexpired"),
     ("not operational before nothing waiting", "    if len(unexpired) == 0:\n        return NOTHING_WAITING\n",
-     "    if channel.status is None or not 1 <= channel.status <= 7:\n        return NOT_OPERATIONAL\n"
+     "    if not is_operational(codes, channel.status):\n        return NOT_OPERATIONAL\n"
      "    if len(unexpired) == 0:\n        return NOTHING_WAITING\n"),
-    ("window shut before not operational", "    if channel.status is None or not",
+    ("window shut before not operational", "    if not is_operational(codes, channel.status):",
      "    if not fits(channel, len(unexpired[0][0])):\n" "        return WINDOW_SHUT\n"
-     "    if channel.status is None or not"),
-    ("not reported is operational", "if channel.status is None or not 1 <=",
-     "if channel.status is not None and not 1 <="),
-    ("status 0 is operational", "not 1 <= channel.status <= 7", "not 0 <= channel.status <= 7"),
-    ("status 1 isn't operational", "not 1 <= channel.status <= 7", "not 2 <= channel.status <= 7"),
-    ("only status 7 is operational", "not 1 <= channel.status <= 7", "channel.status != 7"),
-    ("status 7 isn't operational", "not 1 <= channel.status <= 7", "not 1 <= channel.status <= 6"),
-    ("status 8 is operational", "not 1 <= channel.status <= 7", "not 1 <= channel.status <= 8"),
-    ("status 15 is operational", "not 1 <= channel.status <= 7", "channel.status not in (1, 2, 3, 4, 5, 6, 7, 15)"),
-    ("a shorter packet behind a stuck one", "    answer = why_no_message(channel, unexpired)\n",
+     "    if not is_operational(codes, channel.status):"),
+    ("a shorter packet behind a stuck one", ANSWER,
      "    fitting = [waiting for waiting in unexpired if fits(channel, len(waiting[0]))]\n"
-     "    if fitting and why_no_message(channel, unexpired) == WINDOW_SHUT:\n"
-     "        unexpired.remove(fitting[0])\n        unexpired.insert(0, fitting[0])\n"
-     "    answer = why_no_message(channel, unexpired)\n"),
+     "    if fitting and why_no_message(endpoint.codes, channel, unexpired) == WINDOW_SHUT:\n"
+     "        unexpired.remove(fitting[0])\n        unexpired.insert(0, fitting[0])\n" + ANSWER),
     ("the last packet is sent", "unexpired.pop(0)", "unexpired.pop()"),
     ("a free channel never sends",
      "    if channel.flow == FREE:\n" "        return True",
@@ -145,10 +174,8 @@ SENDING = of_ciri(
      "Meaning(DATA, endpoint.datalink_id, channel=0, packet"),
     ("the message has an Expiration Time", "channel=channel_id, packet=packet)",
      "channel=channel_id, packet=packet, expiration=1)"),
-    ("packets expire though 18 is given", "    answer = why_no_message(channel, unexpired)\n",
-     "    keep_waiting(endpoint, memory, channel, unexpired)\n    answer = why_no_message(channel, unexpired)\n"),
-    ("18 before an answer without a message", "    answer = why_no_message(channel, unexpired)\n",
-     "    if room < 52:\n        raise Refusal(18)\n    answer = why_no_message(channel, unexpired)\n"),
+    ("packets expire though 18 is given", ANSWER, "    keep_waiting(endpoint, memory, channel, unexpired)\n" + ANSWER),
+    ("18 before an answer without a message", ANSWER, "    if room < 52:\n        raise Refusal(18)\n" + ANSWER),
     ("the sent packet waits on",
      "        first_packet, _ = unexpired.pop(0)\n" "        answer = send",
      "        first_packet, _ = unexpired[0]\n" "        answer = send"),
@@ -254,4 +281,4 @@ SIXTEEN_TURNS = of_ciri(
      "sum(configuration.store_length for configuration in configurations[:16]):"),
 )
 
-STATE_WAYS = [*SIXTEEN_TURNS, *STARTING, *OFFERING, *SENDING, *HEARING, *QUERYING]
+STATE_WAYS = [*SIXTEEN_TURNS, *STARTING, *OFFERING, *STATUSES, *SENDING, *HEARING, *QUERYING]

@@ -28,6 +28,10 @@ UNSEEN_WAYS = of_ciri(
     ("waits of 0 in a state", "    if not are_waits_allowed(endpoint.pacer):\n        raise Refusal(19)\n", ""),
     # A wait is one of 64 bits: the session reads no other.
     ("a wait over 64 bits configured", "fits_bits(wait, 64) and wait != 0", "wait != 0"),
+    # A setting is one byte's number: the session reads no other.
+    ("a setting over 255 configured", "        and fits_bits(codes, len(CONFIGURED_STATUSES))\n", ""),
+    # No status is above 15: number 19, and a message has no wider one.
+    ("status 16 by the setting", "CONFIGURED_STATUSES = range(8, 16)", "CONFIGURED_STATUSES = range(8, 17)"),
     # The state is within the limits, so that 19 is never given beside 21.
     ("21 before 19", "    test_state(endpoint)\n    test_pacer_time(endpoint.pacer, now)\n",
      "    test_pacer_time(endpoint.pacer, now)\n    test_state(endpoint)\n"),

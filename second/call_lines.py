@@ -15,11 +15,13 @@ def packet(length, mark=0):
     return (b"\x60\0\0\0" + payload_length + bytes((mark + place) % 256 for place in range(6, length)))[:length]
 
 
-def start(*channels, memory=None, pace=None, datalink_id=DATALINK_ID):
-    """A `start` of channels as (CHANNEL, KIND, FIRST, STORE), perhaps with `memory LEN` and `pace HELLO LIMIT`."""
+def start(*channels, memory=None, pace=None, codes=None, datalink_id=DATALINK_ID):
+    """A `start` of channels as (CHANNEL, KIND, FIRST, STORE), perhaps with `memory LEN`, `pace HELLO LIMIT` and
+    `codes MASK`."""
     words = ["start", datalink_id, len(channels), *(word for channel in channels for word in channel)]
     words += [] if memory is None else ["memory", memory]
     words += [] if pace is None else ["pace", *pace]
+    words += [] if codes is None else ["codes", codes]
     return " ".join(str(word) for word in words)
 
 

@@ -64,6 +64,9 @@ WAITING_LIMIT = 32
 IPV6_HEADER_LENGTH = 40
 PACKET_LIMIT = 9000
 MODULUS = 2**32
+# The statuses that are operational anyway, and those that are by configuration.
+OPERATIONAL_STATUSES = range(1, 8)
+CONFIGURED_STATUSES = range(8, 16)
 
 # A channel's flow state is FREE, NO_WINDOW or the number of the window in force.
 FREE = "free"
@@ -393,11 +396,13 @@ class Endpoint:
     """The kept state: Datalink ID, the channels in configuration order, pacer, last Link Instance, last Context
     received.
 
+    `codes`: the setting of the statuses 8 to 15, bit status - 8 set where that status is operational.
     `is_gap`: the control message accepted just before had no Context.
     """
 
     datalink_id: int
     channels: list
+    codes: int
     pacer: Pacer
     link_instance: LinkInstance | None
     context: bytes | None
@@ -407,7 +412,7 @@ class Endpoint:
 # ---- Numbers 19 and 22 ----
 
 
-def test_configuration(datalink_id, configurations):
+def test_configuration(datalink_id, configurations, codes):
     """Number 19 of a configuration."""
     channel_ids = [configuration.channel_id for configuration in configurations]
     if not (
@@ -417,6 +422,7 @@ def test_configuration(datalink_id, configurations):
         and len(set(channel_ids)) == len(channel_ids)
         and PRIMARY_CHANNEL in channel_ids
         and all(configuration.store_length in STORE_LENGTHS for configuration in configurations)
+        and fits_bits(codes, len(CONFIGURED_STATUSES))
     ):
         raise Refusal(19)
 
@@ -434,7 +440,7 @@ def are_waits_allowed(pacer):
 
 def test_state(endpoint):
     """Number 19 of a state: a configuration in it that would be refused, by 22 too, and what is kept."""
-    test_configuration(endpoint.datalink_id, configurations_of(endpoint))
+    test_configuration(endpoint.datalink_id, configurations_of(endpoint), endpoint.codes)
     if not are_waits_allowed(endpoint.pacer):
         raise Refusal(19)
     if endpoint.link_instance is not None and not is_link_instance_allowed(endpoint.link_instance):
@@ -465,14 +471,15 @@ def configurations_of(endpoint):
 # ---- Fresh start ----
 
 
-def start_endpoint(datalink_id, configurations, pacer, memory):
+def start_endpoint(datalink_id, configurations, codes, pacer, memory):
     """A fresh start: the fresh state; each store in the lent memory is filled with zeros. Order: 19, 22."""
-    test_configuration(datalink_id, configurations)
+    test_configuration(datalink_id, configurations, codes)
     test_memory(configurations, memory)
     if not are_waits_allowed(pacer):
         raise Refusal(22)
     memory[:] = bytes(len(memory))
-    return Endpoint(datalink_id, [start_channel(configuration) for configuration in configurations], pacer, None, None)
+    channels = [start_channel(configuration) for configuration in configurations]
+    return Endpoint(datalink_id, channels, codes, pacer, None, None)
 
 
 def start_channel(configuration):
@@ -537,7 +544,7 @@ def next_message(endpoint, memory, channel_id, now, room):
     channel = find_channel(endpoint, channel_id)
     test_time(channel, now)
     unexpired = find_unexpired(endpoint, memory, channel, now)
-    answer = why_no_message(channel, unexpired)
+    answer = why_no_message(endpoint.codes, channel, unexpired)
     if answer is None:
         first_packet, _ = unexpired.pop(0)
         answer = send_packet(endpoint, channel, first_packet, room)
@@ -546,16 +553,25 @@ def next_message(endpoint, memory, channel_id, now, room):
     return answer
 
 
-def why_no_message(channel, unexpired):
+def why_no_message(codes, channel, unexpired):
     """The first of the three answers that holds, or None. Only the first waiting packet is tried."""
     if len(unexpired) == 0:
         return NOTHING_WAITING
-    if channel.status is None or not 1 <= channel.status <= 7:
+    if not is_operational(codes, channel.status):
         return NOT_OPERATIONAL
     first_packet, _ = unexpired[0]
     if not fits(channel, len(first_packet)):
         return WINDOW_SHUT
     return None
+
+
+def is_operational(codes, status):
+    """Status 1 to 7 is operational; 8 to 15 as the setting has it; 0 isn't, nor is one not reported."""
+    if status is None:
+        return False
+    if status in CONFIGURED_STATUSES:
+        return codes >> (status - CONFIGURED_STATUSES.start) & 1 == 1
+    return status in OPERATIONAL_STATUSES
 
 
 def fits(channel, length):

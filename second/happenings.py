@@ -14,6 +14,7 @@ HAPPENINGS = (
     "expired in the middle", "a byte too short", "silence over waiting packets", "silence on a free channel",
     "silence under a window", "silence on a plain channel", "silent again", "late query",
     "data message after a limit", "control message after a limit", "refused message after a limit",
+    "sent under a configured status", "held back under an unknown status",
 )
 
 
@@ -40,13 +41,14 @@ def find_happenings(before, words, answer, session):
     """What one call brought about."""
     if words[0] == "radio":
         yield from find_in_radio(before, session.endpoint)
-        yield from find_in_time(before.pacer, int(words[1]), session.endpoint.pacer)
+        yield from find_in_time(before.pacer, words, answer)
     elif words[0] == "pace":
         yield from find_in_pace(before, int(words[1]), answer)
     elif words[0] == "next" and answer == "refused 18 0":
         yield from find_in_short_room(words, session)
     elif words[0] in ("offer", "next") and not answer.startswith("refused"):
         yield from find_in_queue(before, words, session.endpoint)
+        yield from find_in_codes(before, words, answer)
 
 
 def find_in_radio(before, after):
@@ -59,11 +61,14 @@ def find_in_radio(before, after):
         yield from find_in_flow(old.flow, new.flow)
 
 
-def find_in_time(before, now, after):
+def find_in_time(pacer, words, answer):
     """A radio message that came when the silence limit was over already, which it doesn't test."""
-    if now >= before.clock and now >= before.last_heard + before.silence_limit:
-        name = "refused" if after.clock != now else "control" if after.last_heard == now else "data"
-        yield f"{name} message after a limit"
+    now = int(words[1])
+    if now >= pacer.clock and now >= pacer.last_heard + pacer.silence_limit:
+        if answer.startswith("refused"):
+            yield "refused message after a limit"
+        else:
+            yield f"{ciri.read_plane(bytes.fromhex(words[2]))} message after a limit"
 
 
 def find_in_pace(before, now, answer):
@@ -104,6 +109,15 @@ def find_in_queue(before, words, after):
         yield "wrap crossed"
     if re.search("wx+w", "".join("w" if waiting.expiry > now else "x" for waiting in old.queue)):
         yield "expired in the middle"
+
+
+def find_in_codes(before, words, answer):
+    """A Next that sent, or didn't, because of how the setting has a status of 8 to 15."""
+    if words[0] == "next" and ciri.find_channel(before, int(words[1])).status in ciri.CONFIGURED_STATUSES:
+        if answer.startswith("sent"):
+            yield "sent under a configured status"
+        elif answer == ciri.NOT_OPERATIONAL:
+            yield "held back under an unknown status"
 
 
 def find_in_context(old, new):

@@ -2,7 +2,8 @@
 
 BAD_WORDS = (
     "-1", "+1", "01", "00", "0x7", "256", "4294967296", "18446744073709551616", "4194305", "9" * 400, "1.0", "x", "--",
-    "-", "", "\t", "\r", "\0", "\xff", "\xd9\xa0", "AB", "0g", "abc", "plain", "memory", "pace", "ips", "IPS",
+    "-", "", "\t", "\r", "\0", "\xff", "\xd9\xa0", "AB", "0g", "abc", "plain", "memory", "pace", "codes", "ips",
+    "IPS",
 )
 ODD_LINES = (
     "", " ", "-", "read", "echo", "start", "offer", "next", "show", "stop", "Show 0", "show 0 0", "query",
@@ -10,6 +11,8 @@ ODD_LINES = (
     "start 7 1 0 plain 0 1500 memory", "start 7 1 0 plain 0 1500 memory 1500 0", "start 7 1 0 Flow 0 1500",
     "start 7 1 0 plain 0 1500 pace", "start 7 1 0 plain 0 1500 pace 1", "start 7 1 0 plain 0 1500 pace 1 1 1",
     "start 7 1 0 plain 0 1500 pace 1 1 memory 1500", "start 7 1 pace 1 1", "start 7 1 0 plain 0 1500 Pace 1 1",
+    "start 7 1 0 plain 0 1500 codes", "start 7 1 0 plain 0 1500 codes 256", "start 7 1 0 plain 0 1500 codes 1 1",
+    "start 7 1 0 plain 0 1500 codes 1 pace 1 1", "start 7 1 codes 1", "start 7 1 0 plain 0 1500 Codes 1", "codes 1",
     "pace", "pace ", "pace -1", "pace 0 0", "pace 18446744073709551616", "pacer 0", "pacer ", "Pacer", "radio 0",
     "\x00", "\xff\xfe", "refused 12 0", "radio", "radio  ", "store -1", "withdraw 256", "next 0 0 4194305",
     "kept 0", "kept ", " kept", "Kept",
@@ -40,7 +43,7 @@ def drop_word(_, words, place):
 
 def add_word(dice, words, place):
     """A word too many; an empty one makes two spaces."""
-    words.insert(place + dice.randrange(2), dice.choice(("", "0", "7", "-", "memory", "pace")))
+    words.insert(place + dice.randrange(2), dice.choice(("", "0", "7", "-", "memory", "pace", "codes")))
 
 
 def zero_word(_, words, place):

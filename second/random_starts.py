@@ -2,7 +2,7 @@
 
 import ciri
 from call_lines import start
-from random_values import chance, clamp, draw_datalink, draw_number, draw_wait, pick
+from random_values import chance, clamp, draw_codes, draw_datalink, draw_number, draw_wait, pick
 from session import LENGTH_LIMIT, SEQUENCE_LIMIT
 
 
@@ -28,7 +28,8 @@ def draw_start(dice):
     count = pick(dice, (3, 1), (5, 2), (5, 3), (3, 4), (2, dice.randrange(5, 17)), (1, dice.randrange(17, 64)), (1, 64))
     channels = draw_configurations(dice, count)
     memory = sum(channel[3] for channel in channels) if chance(dice, 10) else None
-    return start(*channels, memory=memory, pace=draw_pace(dice), datalink_id=draw_datalink(dice))
+    pace, codes = draw_pace(dice), draw_codes(dice)
+    return start(*channels, memory=memory, pace=pace, codes=codes, datalink_id=draw_datalink(dice))
 
 
 def draw_pace(dice):
@@ -84,4 +85,4 @@ def draw_refused_start(dice):
         dice.choice(CHANNELS_DAMAGES)(dice, channels)
     else:
         pace = draw_refused_pace(dice)
-    return start(*channels, memory=memory, pace=pace, datalink_id=draw_datalink(dice))
+    return start(*channels, memory=memory, pace=pace, codes=draw_codes(dice), datalink_id=draw_datalink(dice))

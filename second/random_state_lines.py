@@ -251,7 +251,8 @@ class StateLines:
         channel_id = channel.configuration.channel_id
         if chance(self.dice, 94):
             low, unknown = self.dice.randrange(1, 7), self.dice.randrange(8, 16)
-            statuses[channel_id] = pick(self.dice, (74, 7), (14, low), (4, 0), (5, unknown))
+            often = 20 if self.session.endpoint.codes else 5
+            statuses[channel_id] = pick(self.dice, (74, 7), (14, low), (4, 0), (often, unknown))
         if chance(self.dice, 87 if channel.configuration.is_flow_controlled else 10):
             windows[channel_id] = pick(self.dice, (87, self.draw_window(channel)), (13, None))
 

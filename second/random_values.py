@@ -1,10 +1,11 @@
 """Numbers, IDs and lengths drawn by lot, those at a limit often."""
 
 import ciri
-from session import ID_LIMIT, LENGTH_LIMIT, SEQUENCE_LIMIT, TIME_LIMIT
+from session import ID_LIMIT, LENGTH_LIMIT, MASK_LIMIT, SEQUENCE_LIMIT, TIME_LIMIT
 
 USUAL_NUMBERS = (0, 1, 255, 256, 2**31 - 1, 2**31, 2**31 + 1, SEQUENCE_LIMIT - 1, SEQUENCE_LIMIT)
 USUAL_CHANNELS = (0, 1, 2, 3, 7, 127, 253, 254)
+USUAL_CODES = (0, 1, 2, 64, 128, MASK_LIMIT)
 USUAL_WAITS = (1, 2, 10, 2**32, 2**63 - 1, 2**63, TIME_LIMIT - 1, TIME_LIMIT)
 USUAL_ROOMS = (0, 1, 5, 2000, ciri.PACKET_LIMIT + 20, ciri.DATAGRAM_LIMIT, LENGTH_LIMIT)
 
@@ -43,6 +44,11 @@ def draw_datalink(dice):
 def draw_wait(dice):
     """A HelloTime or a silence limit: some of a session's lines long, or one at a limit."""
     return pick(dice, (3, dice.randrange(20, 600)), (1, dice.choice(USUAL_WAITS)))
+
+
+def draw_codes(dice):
+    """A setting of the statuses 8 to 15, or none."""
+    return pick(dice, (2, None), (3, dice.randrange(MASK_LIMIT + 1)), (2, dice.choice(USUAL_CODES)))
 
 
 def draw_room_near(dice, size):

@@ -8,6 +8,7 @@ import ciri
 BAD_LINE = "bad line"
 LINE_LIMIT = 140_000
 ID_LIMIT = 255
+MASK_LIMIT = 255
 COUNT_LIMIT = 80
 SEQUENCE_LIMIT = 2**32 - 1
 TIME_LIMIT = 2**64 - 1
@@ -20,6 +21,8 @@ IS_FLOW_CONTROLLED = {b"plain": False, b"flow": True}
 WORDS_OF_A_CHANNEL = 4
 # HelloTime and silence limit where a start says none.
 USUAL_WAITS = [5000, 9000]
+# The setting of the statuses 8 to 15 where a start says none.
+USUAL_CODES = [0]
 # The pacer's answers: whether a query is due, whether the radio is silent.
 PACES = {(False, False): "quiet", (True, False): "due", (False, True): "silent", (True, True): "due silent"}
 
@@ -126,7 +129,8 @@ def answer_echo(_, end_word, id_word, hex_word, end2_word, room_word):
 
 
 def answer_start(session, id_word, count_word, *words):
-    """`start ID COUNT`, for each channel `CHANNEL KIND FIRST STORE`, then `memory LEN` and `pace HELLO LIMIT`, or not"""
+    """`start ID COUNT`, for each channel `CHANNEL KIND FIRST STORE`, then each or not `memory LEN`, `pace HELLO LIMIT` and
+    `codes MASK`"""
     datalink_id = read_number(id_word, ID_LIMIT)
     channels_end = WORDS_OF_A_CHANNEL * read_number(count_word, COUNT_LIMIT)
     if len(words) < channels_end:
@@ -137,10 +141,11 @@ def answer_start(session, id_word, count_word, *words):
     stores = sum(configuration.store_length for configuration in configurations)
     (memory_length,) = read_perhaps(rest, b"memory", LENGTH_LIMIT, [stores])
     pacer = ciri.Pacer(*read_perhaps(rest, b"pace", TIME_LIMIT, USUAL_WAITS))
+    (codes,) = read_perhaps(rest, b"codes", MASK_LIMIT, USUAL_CODES)
     if rest:
         raise BadLine
     memory = bytearray(memory_length)
-    session.endpoint = ciri.start_endpoint(datalink_id, configurations, pacer, memory)
+    session.endpoint = ciri.start_endpoint(datalink_id, configurations, codes, pacer, memory)
     session.memory = memory
     return "started"
 
@@ -237,7 +242,7 @@ def answer_pacer(session):
 LINES = {
     b"read": (answer_read, 3, 3),
     b"echo": (answer_echo, 5, 5),
-    b"start": (answer_start, 2, 2 + WORDS_OF_A_CHANNEL * COUNT_LIMIT + 5),
+    b"start": (answer_start, 2, 2 + WORDS_OF_A_CHANNEL * COUNT_LIMIT + 7),
     b"offer": (answer_offer, 4, 4),
     b"next": (answer_next, 3, 3),
     b"withdraw": (answer_withdraw, 1, 1),

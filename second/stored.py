@@ -1,8 +1,8 @@
 """stored.py: prints the stored script of `session`, the same at each run; it fails where the script lacks something.
 
 Lines about messages, document 01's examples as calls, lines that break the format, states at their limits, two faults
-in one message, lengths and values next to those listed, the pacer, the sample flight of docs/, and a long flight drawn
-by lot.
+in one message, lengths and values next to those listed, the pacer, the statuses by configuration, the sample flight of
+docs/, and a long flight drawn by lot.
 """
 
 import collections
@@ -14,6 +14,7 @@ import session
 from call_lines import start
 from happenings import HAPPENINGS, count_happenings
 from stored_broken import broken_message_lines, broken_state_lines
+from stored_codes import code_lines
 from stored_examples import example_lines
 from stored_flight import flight_lines
 from stored_lengths import length_lines
@@ -44,6 +45,7 @@ def all_lines():
     yield from order_lines()
     yield from length_lines()
     yield from pacer_lines()
+    yield from code_lines()
     yield from SAMPLE.read_text().splitlines()
     yield from flight_lines()
 

@@ -10,9 +10,10 @@ NO_SEQUENCE = [*NO_NUMBERS, "4294967296"]
 NO_TIME = [*NO_NUMBERS, "18446744073709551616"]
 NO_LENGTH = [*NO_NUMBERS, "4194305"]
 FAULTLESS = {
-    "start 7 1 0 flow 4294967295 1500 memory 1500 pace 5000 18446744073709551615": [
+    "start 7 1 0 flow 4294967295 1500 memory 1500 pace 5000 18446744073709551615 codes 255": [
         NO_ID, [*NO_NUMBERS, "0", "2", "81"], NO_ID, ["", "Flow", "flows", "0"], NO_SEQUENCE, NO_LENGTH,
-        ["", "Memory", "1500", "pace"], NO_LENGTH, ["", "Pace", "pacer", "memory", "1500"], NO_TIME, NO_TIME],
+        ["", "Memory", "1500", "pace"], NO_LENGTH, ["", "Pace", "pacer", "memory", "codes", "1500"], NO_TIME, NO_TIME,
+        ["", "Codes", "code", "memory", "pace", "2"], NO_ID],
     offer(0, 1, 9, packet(40)): [NO_ID, NO_TIME, NO_TIME, NO_BYTES],
     "next 0 1 100": [NO_ID, NO_TIME, NO_LENGTH],
     "withdraw 0": [NO_ID],
@@ -25,9 +26,13 @@ FAULTLESS = {
     "pacer": [],
 }
 # What a start may say behind its channels, out of order or twice.
-OUT_OF_ORDER = ("pace 1 1 memory 1500", "memory 1500 memory 1500", "pace 1 1 pace 1 1", "pace 1 1 1", "pace 1 memory 1500")
+OUT_OF_ORDER = (
+    "pace 1 1 memory 1500", "memory 1500 memory 1500", "pace 1 1 pace 1 1", "pace 1 1 1", "pace 1 memory 1500",
+    "codes 1 pace 1 1", "codes 1 memory 1500", "memory 1500 codes 1 pace 1 1", "pace 1 1 codes 1 memory 1500",
+    "codes 1 codes 1", "codes 1 1", "pace 1 codes 1", "memory codes 1", "codes",
+)
 # The words before which a start may end.
-PERHAPS = ("memory", "pace")
+PERHAPS = ("memory", "pace", "codes")
 
 
 def broken_message_lines():
@@ -47,7 +52,7 @@ def broken_state_lines():
         yield from (" ".join(words[:place]) for place in range(1, len(words)) if words[place] not in PERHAPS)
         for place, wrong in enumerate(wrongs, 1):
             yield from (" ".join([*words[:place], word, *words[place + 1 :]]) for word in wrong)
-        yield from (faultless + end for end in (" ", " 0", "\t", "\r", "\0", " memory 1500", " pace 1 1"))
+        yield from (faultless + end for end in (" ", " 0", "\t", "\r", "\0", " memory 1500", " pace 1 1", " codes 1"))
         behind_first = faultless[len(words[0]) :]
         yield from (" " + faultless, words[0].upper() + behind_first, words[0] + " " + behind_first)
     yield from (f"start 7 1 0 flow 0 1500 {words}" for words in OUT_OF_ORDER)

@@ -17,20 +17,22 @@ CALLS = 5000
 LOOKS = ("show", "store", "pacer")
 # HelloTime and silence limit: so short that both are often over.
 PACE = (300, 700)
+# The setting of the statuses 8 to 15: 9, 12 and 15 are operational.
+CODES = 0b10010010
 # Stores: small ones, and such that take the longest packet.
 SMALL, LONG = (1500, 3001), (9000, 20000)
 # How often each line comes in each phase of the flight.
 PHASES = {
     "mixed": (
-        (30, "offer"), (34, "next"), (1, "withdraw"), (14, "radio"), (4, "pace"),
+        (30, "offer"), (34, "next"), (1, "withdraw"), (14, "radio"), (6, "pace"),
         (2, "query"), (8, "show"), (0.6, "store"), (1, "pacer"),
     ),
     "fill": (
-        (80, "offer"), (6, "next"), (0.2, "withdraw"), (6, "radio"), (3, "pace"),
+        (80, "offer"), (6, "next"), (0.2, "withdraw"), (6, "radio"), (4, "pace"),
         (1, "query"), (5, "show"), (0.4, "store"), (1, "pacer"),
     ),
     "drain": (
-        (8, "offer"), (66, "next"), (0.3, "withdraw"), (16, "radio"), (3, "pace"),
+        (8, "offer"), (66, "next"), (0.3, "withdraw"), (16, "radio"), (4, "pace"),
         (1, "query"), (8, "show"), (0.6, "store"), (1, "pacer"),
     ),
 }
@@ -65,8 +67,10 @@ class Flight(StateLines):
         return offer(self.show_channel_id(channel), now, self.draw_expiry(now), packet)
 
     def draw_radio(self):
-        """`radio NOW HEX`: a control message, now and then a damaged one, or a data message."""
-        draw = pick(self.dice, (82, self.draw_faultless), (12, self.draw_damaged), (6, self.draw_data))
+        """`radio NOW HEX`: a control message, now and then a damaged one, or a data message, in a silence more often."""
+        is_silent = all(channel.status is None for channel in self.session.endpoint.channels)
+        damaged, data = (40, 40) if is_silent else (8, 4)
+        draw = pick(self.dice, (88, self.draw_faultless), (damaged, self.draw_damaged), (data, self.draw_data))
         return f"radio {self.draw_pacer_now(20)} {show_bytes(draw(DATALINK_ID))}"
 
     def draw_faultless(self, datalink_id):
@@ -85,7 +89,7 @@ def draw_flight_start(dice):
     firsts = [ciri.MODULUS - dice.randrange(100, 4000) for _ in channels]
     return start(*[
         (channel, "plain" if place % 6 == 3 else "flow", first, dice.randrange(*(LONG if place % 10 == 7 else SMALL)))
-        for place, (channel, first) in enumerate(zip(channels, firsts))], pace=PACE)
+        for place, (channel, first) in enumerate(zip(channels, firsts))], pace=PACE, codes=CODES)
 
 
 def flight_lines():

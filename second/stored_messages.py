@@ -74,6 +74,8 @@ def message_lines():
     for end, meaning in whole_messages():
         yield from cut_lines(end, meaning)
         yield from echo_lines(end, meaning)
+    # Faultless as the IPS end's; the radio's lacks its Channel Status.
+    yield from echo_lines(ciri.IPS, ciri.Meaning(ciri.CONTROL, DATALINK_ID))
     for end, meaning in full_messages():
         yield read_line(end, ciri.write_message(end, meaning, ciri.DATAGRAM_LIMIT))
         yield from echo_lines(end, meaning)

@@ -9,6 +9,7 @@ const MOST_CHANNELS: usize = 64;
 
 struct Endpoint {
     datalink: u8,
+    codes: u8,
     // In configuration order, and the same by rising Channel ID.
     channels: Vec<Channel>,
     rising: Vec<usize>,
@@ -60,7 +61,7 @@ impl Endpoint {
         let mut rising: Vec<usize> = (0..channels.len()).collect();
         rising.sort_by_key(|at| channels[*at].id);
         let pacer = Pacer { hello: setup.hello, limit: setup.limit, clock: 0, due: 0, heard: 0 };
-        let endpoint = Endpoint { datalink: setup.datalink, channels, rising, instance: None, context: None, pacer, tests };
+        let endpoint = Endpoint { datalink: setup.datalink, codes: setup.codes, channels, rising, instance: None, context: None, pacer, tests };
         if !endpoint.channels_fit() || endpoint.size() != memory.len() {
             return Err(19);
         }
@@ -122,9 +123,9 @@ impl Endpoint {
 
     #[inline(never)]
     fn next(&mut self, memory: &mut [u8], id: u8, time: u64, out: &mut [u8]) -> Result<Next, u8> {
-        let datalink = self.datalink;
+        let (datalink, codes) = (self.datalink, self.codes);
         let (channel, store) = self.find(id, memory)?;
-        channel.next(store, datalink, time, out)
+        channel.next(store, datalink, codes, time, out)
     }
 
     #[inline(never)]

@@ -55,7 +55,7 @@ pub struct Proved {
 impl Proved {
     pub fn new(setup: &Setup) -> Proved {
         let count = setup.starts.len() as u64;
-        let mut configuration = vec![setup.datalink as u64, count, setup.hello, setup.limit];
+        let mut configuration = vec![setup.datalink as u64, count, setup.hello, setup.limit, setup.codes as u64];
         for start in &setup.starts {
             configuration.extend([start.id as u64, start.controlled as u64, start.first as u64, start.size as u64]);
         }

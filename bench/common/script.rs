@@ -24,6 +24,7 @@ pub struct Setup {
     pub datalink: u8,
     pub hello: u64,
     pub limit: u64,
+    pub codes: u8,
     pub starts: Vec<Start>,
 }
 

@@ -1,7 +1,7 @@
 //! Answers a script of the session page (docs/SESSION.md) through the safe interface alone: one call a line from standard input, one answer a line.
 use nespovarda::{control, data};
 use nespovarda::{words_for, Configuration, Context, DatalinkId, End, Endpoint, Flow, FlowSequence, Heard, Kind, LinkInstance};
-use nespovarda::{Next, Offered, Paced, Read, Refusal, Waits, Withdrawn, Written};
+use nespovarda::{Next, Offered, Paced, Read, Refusal, StatusCodes, Waits, Withdrawn, Written};
 use std::fmt::Write as _;
 use std::io::{self, BufRead, Write};
 
@@ -195,15 +195,19 @@ fn configure<'c>(configuration: Configuration<'c>, words: &[&[u8]]) -> Result<Co
     configuration.channel(byte(words[0])?, kind(words[1])?, FlowSequence(first), length(words[3])?).map_err(|_| Fault::BadLine)
 }
 
-/// Perhaps `memory LEN`, and perhaps `pace HELLO LIMIT` behind it.
-fn lengths_and_waits(words: &[&[u8]]) -> Result<(Option<usize>, Waits), Fault> {
+/// Perhaps `memory LEN`, perhaps `pace HELLO LIMIT` behind it, and perhaps `codes MASK` behind both.
+fn behind_channels(words: &[&[u8]]) -> Result<(Option<usize>, Waits, StatusCodes), Fault> {
     let (memory, behind) = match *words {
         [b"memory", given, ref behind @ ..] => (Some(length(given)?), behind),
         ref behind => (None, behind),
     };
+    let (waits, behind) = match *behind {
+        [b"pace", hello, limit, ref behind @ ..] => (Waits { hello: time(hello)?, limit: time(limit)? }, behind),
+        ref behind => (WAITS, behind),
+    };
     match *behind {
-        [] => Ok((memory, WAITS)),
-        [b"pace", hello, limit] => Ok((memory, Waits { hello: time(hello)?, limit: time(limit)? })),
+        [] => Ok((memory, waits, StatusCodes::default())),
+        [b"codes", mask] => Ok((memory, waits, StatusCodes(byte(mask)?))),
         _ => Err(Fault::BadLine),
     }
 }
@@ -220,8 +224,8 @@ fn start(words: &[&[u8]]) -> Result<State, Fault> {
     }
     let (channels, rest) = behind.split_at(WORDS_OF_A_CHANNEL * count);
     let mut configuration = vec![0; Configuration::words_for(count)];
-    let (memory_length, waits) = lengths_and_waits(rest)?;
-    let configuration = Configuration::new(&mut configuration, datalink, waits).map_err(|_| Fault::BadLine)?;
+    let (memory_length, waits, codes) = behind_channels(rest)?;
+    let configuration = Configuration::new(&mut configuration, datalink, waits).map_err(|_| Fault::BadLine)?.operational(codes);
     let configuration = channels.chunks_exact(WORDS_OF_A_CHANNEL).try_fold(configuration, configure)?;
     let memory_length = memory_length.unwrap_or(configuration.memory_length());
     let mut state = State { words: vec![0; words_for(count)], memory: vec![0; memory_length] };

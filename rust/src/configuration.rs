@@ -1,13 +1,14 @@
 //! A configuration, built in words that the caller lends.
-use crate::quantity::{DatalinkId, FlowSequence};
+use crate::quantity::{DatalinkId, FlowSequence, StatusCodes};
 use core::fmt;
 
-/// Where the words stand: four for the whole, then four for each channel.
+/// Where the words stand: five for the whole, then four for each channel.
 const DATALINK: usize = 0;
 const COUNT: usize = 1;
 const HELLO: usize = 2;
 const LIMIT: usize = 3;
-const HEAD: usize = 4;
+const CODES: usize = 4;
+const HEAD: usize = 5;
 const ID: usize = 0;
 const KIND: usize = 1;
 const FIRST: usize = 2;
@@ -42,7 +43,7 @@ impl fmt::Display for NoRoom {
     }
 }
 
-/// A Datalink ID, the pacer's waits and channels. Whether it is within the limits is judged by [`Endpoint::start`](crate::Endpoint::start).
+/// A Datalink ID, the pacer's waits, the statuses that are operational, and channels. Whether it is within the limits is judged by [`Endpoint::start`](crate::Endpoint::start).
 #[derive(Debug)]
 pub struct Configuration<'c> {
     words: &'c mut [u64],
@@ -55,14 +56,21 @@ impl<'c> Configuration<'c> {
         HEAD + SLOT * channels
     }
 
-    /// A configuration with no channel yet, in words of any content.
+    /// A configuration with no channel yet and no status of 8 to 15 operational, in words of any content.
     pub fn new(words: &'c mut [u64], datalink: DatalinkId, waits: Waits) -> Result<Configuration<'c>, NoRoom> {
         let head = words.get_mut(..HEAD).ok_or(NoRoom)?;
         head[DATALINK] = u64::from(datalink.0);
         head[COUNT] = 0;
         head[HELLO] = waits.hello;
         head[LIMIT] = waits.limit;
+        head[CODES] = 0;
         Ok(Configuration { words, channels: 0 })
+    }
+
+    /// The same with these of the statuses 8 to 15 operational.
+    pub fn operational(self, codes: StatusCodes) -> Configuration<'c> {
+        self.words[CODES] = u64::from(codes.0);
+        self
     }
 
     /// One more channel, its store behind the others in the memory.

@@ -52,5 +52,5 @@ mod refusal;
 pub use answer::{Heard, Next, Offered, Paced, Read, Withdrawn, Written};
 pub use configuration::{Configuration, Kind, NoRoom, Waits};
 pub use endpoint::{words_for, Channel, Endpoint, Flow, Kept, Pacer, Waiting};
-pub use quantity::{Context, DatalinkId, End, FlowSequence, FlowWindow, LinkInstance};
+pub use quantity::{Context, DatalinkId, End, FlowSequence, FlowWindow, LinkInstance, StatusCodes};
 pub use refusal::Refusal;

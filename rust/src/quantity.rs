@@ -13,6 +13,10 @@ pub enum End {
 #[derive(Clone, Copy, Debug, PartialEq, Eq)]
 pub struct DatalinkId(pub u8);
 
+/// Which of the statuses 8 to 15 are operational: bit status - 8, counted from the lowest. None is by default.
+#[derive(Clone, Copy, Debug, Default, PartialEq, Eq)]
+pub struct StatusCodes(pub u8);
+
 /// How many bytes went out under windows on a channel, modulo 2^32.
 #[derive(Clone, Copy, Debug, PartialEq, Eq)]
 pub struct FlowSequence(pub u32);

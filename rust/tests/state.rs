@@ -2,7 +2,7 @@
 mod common;
 use common::*;
 use nespovarda::{control, words_for, Configuration, Context, DatalinkId, Endpoint, Flow, FlowSequence, FlowWindow};
-use nespovarda::{Heard, Kept, LinkInstance, Next, NoRoom, Offered, Refusal, Waiting, Withdrawn, Written};
+use nespovarda::{Heard, Kept, LinkInstance, Next, NoRoom, Offered, Refusal, StatusCodes, Waiting, Withdrawn, Written};
 
 #[test]
 fn a_fresh_start_is_not_reported_and_its_stores_are_zeros() {
@@ -42,6 +42,23 @@ fn packets_wait_end_to_end_and_go_in_the_order_they_came() {
     assert_eq!(endpoint.withdraw(PLAIN), Withdrawn::Withdrawn);
     assert_eq!(endpoint.store(PLAIN), Ok(&[0; STORE][..]));
     assert_eq!(endpoint.next(PLAIN, 20, &mut out), Next::NothingWaiting);
+}
+
+#[test]
+fn a_status_of_8_to_15_is_operational_as_configured() {
+    for codes in [0, 1, 2, 5, 128, 255] {
+        for status in 0..16 {
+            let mut words = [0; CONFIGURATION_WORDS];
+            let configuration = configuration(&mut words, 0).operational(StatusCodes(codes));
+            let mut lent = Lent { words: vec![0; words_for(4)], memory: vec![0; configuration.memory_length()] };
+            let mut endpoint = Endpoint::start(&mut lent.words, &mut lent.memory, &configuration).expect("the configuration is within the limits");
+            assert_eq!(endpoint.offer(PLAIN, &packet(40, 1), NEVER, 1), Offered::Taken);
+            assert_eq!(endpoint.next(PLAIN, 1, &mut [0; 60]), Next::NotOperational, "not reported");
+            assert_eq!(endpoint.radio(1, &report(&[(PLAIN, status)], &[])), Heard::Accepted);
+            let sends = (1..8).contains(&status) || status > 7 && codes & 1 << (status - 8) != 0;
+            assert_eq!(matches!(endpoint.next(PLAIN, 1, &mut [0; 60]), Next::Sent(_)), sends, "status {status} under {codes}");
+        }
+    }
 }
 
 #[test]
@@ -127,7 +144,7 @@ fn a_saved_state_resumes() {
 #[test]
 fn a_configuration_needs_its_words() {
     let mut words = [9; CONFIGURATION_WORDS];
-    assert_eq!(Configuration::new(&mut words[..3], DatalinkId(7), WAITS).err(), Some(NoRoom));
+    assert_eq!(Configuration::new(&mut words[..4], DatalinkId(7), WAITS).err(), Some(NoRoom));
     let full = configuration(&mut words, 0);
     assert_eq!((full.channels(), full.memory_length()), (4, 3 * STORE + LONG_STORE));
     assert_eq!(full.channel(4, nespovarda::Kind::Plain, FlowSequence(0), STORE).err(), Some(NoRoom));

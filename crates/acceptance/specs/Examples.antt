@@ -1,4 +1,5 @@
--- Document 01, "Examples": the starred ones, as rows of a single table. Those on messages are options of a radio's control message.
+-- Document 01, "Examples": the starred ones, as rows of a single table. Those on messages are options of a radio's control message. Document 02, §6: "The example
+-- 03 08 then reads "under the default".", which is 0.
 use Prim.Native.Nat.{ℕ}
 use mathlib.Core.Path.{_≡_}
 use mathlib.Core.List.{List, [], _∷_}
@@ -10,7 +11,7 @@ use Rattle.meaning.specs.declared.message.Plane.the-variants as planes
 use Rattle.meaning.specs.declared.message.Status.{Status}
 use Rattle.meaning.specs.declared.message.Window.{Window}
 use Rattle.meaning.specs.Kinds.{CHANNEL-STATUS, FLOW-WINDOW}
-use Rattle.meaning.specs.Statuses.{operational, unknown}
+use Rattle.meaning.specs.Statuses.{DEFAULT-CODES, operational, unknown}
 use Rattle.read_option.specs.declared.answer.Item.{Item}
 use Rattle.read_option.specs.declared.answer.OptionAnswer.{OptionAnswer}
 use Rattle.read_option.specs.declared.answer.OptionAnswer.the-variants.{Took, Refused}
@@ -31,7 +32,7 @@ Right (becomes s n after) = advanceOf (record { 0 = s }) (record { 0 = n }) ≡ 
 Right (status content channel number isUnknown isOperational) =
     (answerOf planes.Control Radio CHANNEL-STATUS content ≡ Took (Item.Status channel number))
     × (unknown (Status.Given number) ≡ isUnknown)
-    × (operational (Status.Given number) ≡ isOperational)
+    × (operational DEFAULT-CODES (Status.Given number) ≡ isOperational)
 Right (window content answer) = answerOf planes.Control Radio FLOW-WINDOW content ≡ answer
 
 abbrev pub AllRight : List Row → Type 0

@@ -6,7 +6,6 @@ use native.Mathlib.Nat.{add-zero}
 use lib.ListN.{length, length-append}
 use lib.Seq.{take-append-seam}
 use Rattle.quantity.specs.declared.count.ByteCount.{ByteCount}
-use Rattle.quantity.specs.declared.count.DatalinkId.{DatalinkId}
 use Rattle.store.specs.Packets.{Packet, alive, joined}
 use Rattle.store.specs.Moves.{Stretch, expiring, unchanging}
 use Rattle.store.specs.Waiting.{packetsOf, storeOf}
@@ -18,6 +17,7 @@ use Rattle.ips_channel_rules.specs.Rules.{ChannelCall, offer, next, withdraw, T
 use Rattle.ips_channel_rules.specs.Machine.{WordCounter, machine}
 use Rattle.ips_channel_rules.specs.Exactly.{Offered, offered-not-ipv6, offered-long, offered-early, offered-past, offered-full, offered-taken, Asked, asked-early, asked-nothing, asked-not-operational, asked-shut, asked-no-room, asked-sent}
 use Rattle.ips_channel_rules.proofs.Exact.{offered, asked, withdraw-is}
+use Rattle.ips_channel.specs.declared.state.DatalinkSetting.{DatalinkSetting}
 use Rattle.ips_channel.specs.declared.state.Channel.{Channel}
 use Rattle.ips_channel.specs.Channel.{termsOf, conditionOf}
 use Rattle.ips_channel_calls.specs.Calls.{storeAfter, Ready, resultOf, leavingBy, Moves}
@@ -77,7 +77,7 @@ module _ (c : Channel) (store : List ℕ) where
     by-next {time} out _ (asked-sent t w o f r) =
         changed _ _ _ (marked-sending time (packetsOf (c .queue) store)) _ [] (sym (append-nil (tail (alive time (packetsOf (c .queue) store)))))
 
-  module _ (datalink : DatalinkId) where
+  module _ (datalink : DatalinkSetting) where
     -- the packets that count as leaving by a call are those that leave by the rules, and the others are what the store then starts with
     pub call-leaves : (call : ChannelCall) → LeavesBy datalink call c store
     call-leaves (offer p time) = by-offer (termsOf datalink (c .setting)) _ (offered machine (termsOf datalink (c .setting)) p time (conditionOf c store))

@@ -62,12 +62,12 @@ data-passed time words paced p moved m words′ put = record { answer-is = refl;
 
 -- ---- a datagram, read by its plane
 module _ (time : ℕ) (words datagram : List ℕ) (r : RadioAnswer) (plane : PlaneAnswer) (told : plane ≡ planeOf datagram) (words′ : List ℕ) where
-  pub read-control : plane ≡ PlaneAnswer.Control → (reading : ControlReading) → reading ≡ readControl ends.Radio (stateIn words .datalink) datagram
+  pub read-control : plane ≡ PlaneAnswer.Control → (reading : ControlReading) → reading ≡ readControl ends.Radio (stateIn words .datalink .id) datagram
       → ControlRead time reading words r words′ → DatagramRead time datagram words r words′
   unfolding receivedIn
   read-control p reading read h = record { answer-is = rw (sym told ∙ p, ← read) (h .answer-is); words-are = rw (sym told ∙ p, ← read) (h .words-are) }
 
-  pub read-data : plane ≡ PlaneAnswer.Data → (reading : DataReading) → reading ≡ readData ends.Radio (stateIn words .datalink) datagram
+  pub read-data : plane ≡ PlaneAnswer.Data → (reading : DataReading) → reading ≡ readData ends.Radio (stateIn words .datalink .id) datagram
       → DataRead time reading words r words′ → DatagramRead time datagram words r words′
   unfolding receivedIn
   read-data p reading read h = record { answer-is = rw (sym told ∙ p, ← read) (h .answer-is); words-are = rw (sym told ∙ p, ← read) (h .words-are) }
@@ -79,7 +79,7 @@ module _ (time : ℕ) (words datagram : List ℕ) (r : RadioAnswer) (plane : Pla
 -- ---- a radio message handed in
 module _ (time : ℕ) (words datagram : List ℕ) (r : RadioAnswer) where
   handed : (words′ : List ℕ) → r ≡ handedIn time (stateIn words) datagram .answer
-      → words′ ≡ cond (inTime time (stateIn words)) (receivedWords time (receivedIn (stateIn words .datalink) datagram) words) words
+      → words′ ≡ cond (inTime time (stateIn words)) (receivedWords time (receivedIn (stateIn words .datalink .id) datagram) words) words
       → PerformedInWithAny (radio time datagram) words (ofRadio r) words′
   unfolding afterInUnder
   handed words′ answer-is words-are memory = record { reply-is = ap ofRadio answer-is; lent-is = ap (λ (ws : List ℕ). lent ws memory) words-are }

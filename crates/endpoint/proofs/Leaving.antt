@@ -4,7 +4,6 @@ use mathlib.Core.List.{List}
 use mathlib.Core.Path.{_≡_, refl}
 use native.Mathlib.Omega.{arith}
 use lib.ListN.{length}
-use Rattle.quantity.specs.declared.count.DatalinkId.{DatalinkId}
 use Rattle.quantity.specs.declared.count.FlowSequence.{FlowSequence}
 use Rattle.quantity.specs.declared.count.ByteCount.{ByteCount}
 use Rattle.quantity.specs.Limits.{MOST-WAITING}
@@ -17,6 +16,7 @@ use Rattle.ips_channel_rules.specs.Rules.{ChannelCall, Says, Answer, refused, a
 use Rattle.ips_channel_rules.specs.Machine.{machine}
 use Rattle.ips_channel_rules.specs.Account.{isCall}
 use Rattle.ips_channel_rules.proofs.Leaves.{Leaves, stays, joins, looks, sends, clears, hears, leaves}
+use Rattle.ips_channel.specs.declared.state.DatalinkSetting.{DatalinkSetting}
 use Rattle.ips_channel.specs.declared.state.Channel.{Channel}
 use Rattle.ips_channel.specs.Channel.{termsOf, conditionOf, withCondition}
 use Rattle.ips_channel_calls.specs.Calls.{channelAfter, storeAfter, Ready, resultOf}
@@ -51,7 +51,7 @@ unfolding conditionOf
 slim-of c store n = record { status = n .status; window = n .window; sequence = n .sequence }
 
 -- ---- what a call leaves, refused ones among them
-module _ (datalink : DatalinkId) (call : ChannelCall) (c : Channel) (store : List ℕ) (ready : Ready c store) (narrow : Narrow c) where
+module _ (datalink : DatalinkSetting) (call : ChannelCall) (c : Channel) (store : List ℕ) (ready : Ready c store) (narrow : Narrow c) where
   abbrev r : Result machine (Says call)
   r = resultOf datalink call c store
 

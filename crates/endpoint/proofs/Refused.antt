@@ -73,7 +73,7 @@ refused-dropped : (l : Lent) (time : ℕ) (datagram : List ℕ) {h : AfterRadio}
 unfolding afterInUnder
 refused-dropped l time datagram (outside f) refusal e = rw f
 refused-dropped l time datagram (earlier f early) refusal e = rw (f, lt-ltb time (stateIn (l .words) .pacer .clock) early)
-refused-dropped l time datagram (unread why f w) refusal e = rw (f, unheard (stateIn (l .words) .datalink) datagram why w)
+refused-dropped l time datagram (unread why f w) refusal e = rw (f, unheard (stateIn (l .words) .datalink .id) datagram why w)
 refused-dropped l time datagram (heard m f a) refusal e = absurd (not-refused (stateIn (l .words)) (dueOf (stateIn (l .words) .context) (m .context)) refusal e)
 refused-dropped l time datagram (passed f a) refusal e = clash (cc)
 
@@ -82,7 +82,7 @@ module _ {l l′ : Lent} {time : ℕ} {datagram : List ℕ} where
   radio-refused-in {refusal} h = h .lent-is ∙ refused-dropped l time datagram (handed (stateIn (l .words)) time datagram) refusal (cc (h .reply-is))
 
   -- a data message "changes nothing else" than the clock's word
-  pub radio-data-in : stateFits (stateIn (l .words)) ≡ true → stateIn (l .words) .pacer .clock ≤ time → receivedIn (stateIn (l .words) .datalink) datagram ≡ carried
+  pub radio-data-in : stateFits (stateIn (l .words)) ≡ true → stateIn (l .words) .pacer .clock ≤ time → receivedIn (stateIn (l .words) .datalink .id) datagram ≡ carried
       → {x : EndpointReply} → PerformedIn (radio time datagram) l x l′ → l′ ≡ lent (set (l .words) CLOCK-WORD time) (l .memory)
   unfolding afterInUnder putPacer movedTo
   radio-data-in fits on-time is h =

@@ -34,7 +34,7 @@ unfoldable pub afterInUnder : Limits → Call → Lent → Lent
 afterInUnder limits (on id c) l = record { words = wordsCalledUnder limits id c l; memory = callingUnder limits id c (worldIn l) .world .memory }
 afterInUnder limits (radio time datagram) l =
     record {
-      words = cond (inTimeUnder limits time (stateIn (l .words))) (receivedWords time (receivedIn (stateIn (l .words) .datalink) datagram) (l .words)) (l .words);
+      words = cond (inTimeUnder limits time (stateIn (l .words))) (receivedWords time (receivedIn (stateIn (l .words) .datalink .id) datagram) (l .words)) (l .words);
       memory = l .memory;
     }
 afterInUnder limits (pace time) l = record { words = cond (inTimeUnder limits time (stateIn (l .words))) (pacedWords time (l .words)) (l .words); memory = l .memory }

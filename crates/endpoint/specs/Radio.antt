@@ -35,7 +35,7 @@ DataRead time reading words r words′ = ReadingHeard time (dataHeard time readi
 
 -- the datagram, by its plane
 abbrev pub DatagramRead : (time : ℕ) (datagram words : List ℕ) → RadioAnswer → List ℕ → Type 0
-DatagramRead time datagram words r words′ = ReadingHeard time (readAt time (stateIn words) datagram) (receivedIn (stateIn words .datalink) datagram) words r words′
+DatagramRead time datagram words r words′ = ReadingHeard time (readAt time (stateIn words) datagram) (receivedIn (stateIn words .datalink .id) datagram) words r words′
 
 abbrev pub refusedRadio : ℕ → RadioAnswer
 refusedRadio number = RadioAnswer.Refused (record { number = number; place = 0 })

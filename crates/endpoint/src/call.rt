@@ -97,7 +97,7 @@ fn next_at(
 {
     let index = found.index;
     let start = found.start;
-    let datalink = head::datalink(words);
+    let datalink = head::setting(words);
     let before = channel::load(words, index);
     let size = before.setting.size;
     let end = start + size.0;

@@ -1,7 +1,7 @@
 // The endpoint, the IPS end of the router: every call of documents 01 and 02, on a state that stands in lent words and on a memory that the caller lends with them.
 //
-// `words_for` says how many words a number of channels asks for. `start` takes a configuration in words (the Datalink ID, the count of channels, HelloTime and silence limit, then for each
-// channel its ID, its kind, its first sequence and the length of its store) and writes the first state into the words; the memory has one store after the other.
+// `words_for` says how many words a number of channels asks for. `start` takes a configuration in words (the Datalink ID, the count of channels, HelloTime and silence limit, which
+// of the statuses 8 to 15 are operational, then for each channel its ID, its kind, its first sequence and the length of its store) and writes the first state into the words; the memory has one store after the other.
 // From then on each call takes words and memory as the one before left them:
 // - `offer` hands in a packet with its expiry for a channel, `next` writes the message of the next packet that may go, `withdraw` empties a channel;
 // - `hand_in` takes a datagram from the radio, with its time: channel statuses, flow windows, Link Instance and Context;

@@ -11,7 +11,7 @@ use lib.Signed.{_≤ℤ_}
 use lib.ListN.{length}
 use Rattle.facts.proofs.Tests.{clash, neither}
 use Rattle.quantity.specs.declared.count.FlowWindow.{FlowWindow}
-use Rattle.meaning.specs.StatusKinds.{Reported}
+use Rattle.meaning.specs.StatusKinds.{MaySend}
 use Rattle.meaning.proofs.StatusKinds.{operational-exactly}
 use Rattle.writer.specs.Written.{noRoom}
 use Rattle.store.specs.Packets.{Packet}
@@ -46,7 +46,7 @@ use Rattle.ips_run.proofs.Ordered.{in-order, order-fits, called-order}
 use Rattle.ips_calls.specs.Replies.{EndpointReply, ofChannel}
 use Rattle.ips_calls.specs.Calls.{Performed}
 use Rattle.ips_calls.specs.ReadBack.{SequenceWords}
-use Rattle.endpoint_laws.specs.Given.{Admitted, Configured, NotConfigured, notDueIn, numbered, NotLong, OfferGiven, offer-19, offer-12, offer-13, offer-14, offer-15, offer-16, offer-17, offer-taken, Goes, goes-free, goes-under, Shut, shut-none, shut-past, NextGiven, next-19, next-12, next-15, next-nothing, next-down, next-shut, next-18, next-sent, WithdrawGiven, withdraw-19, withdraw-12, withdraw-done}
+use Rattle.endpoint_laws.specs.Given.{codesIn, Admitted, Configured, NotConfigured, notDueIn, numbered, NotLong, OfferGiven, offer-19, offer-12, offer-13, offer-14, offer-15, offer-16, offer-17, offer-taken, Goes, goes-free, goes-under, Shut, shut-none, shut-past, NextGiven, next-19, next-12, next-15, next-nothing, next-down, next-shut, next-18, next-sent, WithdrawGiven, withdraw-19, withdraw-12, withdraw-done}
 use Rattle.ips_calls.proofs.Refused.{one-reply}
 
 module _ (w : World) where
@@ -201,16 +201,16 @@ module _ (w : World) (words : SequenceWords (w .state)) (id time : ℕ) (out : L
   unfolding conditionOf
   next-when index n _ (asked-early t) = next-15 n t
   next-when index n _ (asked-nothing t e) = next-nothing n t e
-  next-when index n _ (asked-not-operational t e o) = next-down n t e (λ up. clash (sym o ∙ operational-exactly _ .1 up))
-  next-when index n _ (asked-shut {p} t e o f) = next-shut n t e (operational-exactly _ .0 o) (shutting (channelIn w index) (words index (n .inside)) (p .bytes) _ refl f)
+  next-when index n _ (asked-not-operational t e o) = next-down n t e (λ up. clash (sym o ∙ operational-exactly _ _ .1 up))
+  next-when index n _ (asked-shut {p} t e o f) = next-shut n t e (operational-exactly _ _ .0 o) (shutting (channelIn w index) (words index (n .inside)) (p .bytes) _ refl f)
   next-when index n _ (asked-no-room {p} t e o f r) =
       let g = going (channelIn w index) (words index (n .inside)) (p .bytes) _ refl f in
       let none = rw (g .long (termsIn w index)) at (room-none (size index (p .bytes)) (length out) r) in
-      next-18 n t e (operational-exactly _ .0 o) (g .goes) none
+      next-18 n t e (operational-exactly _ _ .0 o) (g .goes) none
   next-when index n _ (asked-sent {p} t e o f r) =
       let g = going (channelIn w index) (words index (n .inside)) (p .bytes) _ refl f in
       let room = rw (g .long (termsIn w index)) at (room-some (size index (p .bytes)) (length out) r) in
-      rw (g .long (termsIn w index)) (next-sent n t e (operational-exactly _ .0 o) (g .goes) (room .0) (room .1))
+      rw (g .long (termsIn w index)) (next-sent n t e (operational-exactly _ _ .0 o) (g .goes) (room .0) (room .1))
 
   next-judged : {r : WorldResult Tried} → Judged id (next time out) w r → NextGiven w id time (length out) (nextAnswer (termsIn w (indexIn w id)) (r .answer))
   next-judged (outside f) = next-19 (fits-unadmitted w f)
@@ -221,7 +221,7 @@ module _ (w : World) (words : SequenceWords (w .state)) (id time : ℕ) (out : L
   told = nextAnswer (termsIn w (indexIn w id)) (calling id (next time out) w .answer)
 
   module _ (index : ℕ) (n : Configured w id index) (t : channelIn w index .latest ≤ time) (p : Packet) (ps : List Packet) (e : notDueIn w index time ≡ p ∷ ps)
-      (up : Reported 1 7 (channelIn w index .status)) where
+      (up : MaySend (codesIn w) (channelIn w index .status)) where
     under : (window : FlowWindow) (distance : ℤ) → channelIn w index .flow ≡ Flow.InForce window → DistanceFrom (channelIn w index .sequence .0) (window .0) distance
         → IsUnder machine (conditionIn w index .counting) (length (p .bytes)) (pos (length (p .bytes)) ≤ℤ distance)
         (record { flow = Flow.InForce window; sequence = record { 0 = (channelIn w index .sequence .0 + length (p .bytes)) % 4294967296 } })

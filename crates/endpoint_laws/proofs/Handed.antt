@@ -89,7 +89,7 @@ module _ (w : World) (id time : ℕ) (out : List ℕ) where
         → out′ ≡ over (messageBytes k sequence packet) out → length (messageBytes k sequence packet) ≡ count .0 → HandedOver w id time count out out′
     read-over count packet sequence f back bytes long =
         let size : back .size ≡ count .0 = cc (back .counted) in
-        let read : readData ends.Ips (w .state .datalink) (take (count .0) out′) ≡ record { verdict = Verdict.Accepted; message = messageOf k sequence } = rw (← size) (back .accepted) in
+        let read : readData ends.Ips (w .state .datalink .id) (take (count .0) out′) ≡ record { verdict = Verdict.Accepted; message = messageOf k sequence } = rw (← size) (back .accepted) in
         record {
           index = f .index;
           named = f .named;

@@ -9,7 +9,7 @@ use lib.Signed.{_≤ℤ_}
 use lib.ListN.{length}
 use Rattle.quantity.specs.declared.count.FlowWindow.{FlowWindow}
 use Rattle.quantity.specs.declared.refusal.Refusal.{Refusal}
-use Rattle.meaning.specs.StatusKinds.{Reported}
+use Rattle.meaning.specs.StatusKinds.{MaySend}
 use Rattle.store.specs.Packets.{Packet, alive}
 use Rattle.store.specs.Waiting.{packetsOf}
 use Rattle.flow.specs.declared.Flow.{Flow}
@@ -85,20 +85,24 @@ pub data Shut (c : Channel) (n : ℕ) : Type 0 where
   shut-none : c .flow ≡ Flow.NoWindow → Shut c n
   shut-past : {window : FlowWindow} {distance : ℤ} → c .flow ≡ Flow.InForce window → DistanceFrom (c .sequence .0) (window .0) distance → (pos n ≤ℤ distance → ⊥) → Shut c n
 
+-- "Whether a status is operational now depends on that setting": the datalink's, as its 8 bits
+abbrev pub codesIn : World → ℕ
+codesIn w = w .state .datalink .codes .0
+
 pub data NextGiven (w : World) (id time room : ℕ) : NextAnswer → Type 0 where
   next-19 : (Admitted w → ⊥) → NextGiven w id time room (NextAnswer.Refused (numbered 19))
   next-12 : Admitted w → NotConfigured w id → NextGiven w id time room (NextAnswer.Refused (numbered 12))
   next-15 : {index : ℕ} → Configured w id index → time < channelIn w index .latest → NextGiven w id time room (NextAnswer.Refused (numbered 15))
   next-nothing : {index : ℕ} → Configured w id index → channelIn w index .latest ≤ time → notDueIn w index time ≡ [] → NextGiven w id time room NextAnswer.NothingWaiting
   next-down : {index : ℕ} {p : Packet} {ps : List Packet} → Configured w id index → channelIn w index .latest ≤ time → notDueIn w index time ≡ p ∷ ps
-      → (Reported 1 7 (channelIn w index .status) → ⊥) → NextGiven w id time room NextAnswer.NotOperational
+      → (MaySend (codesIn w) (channelIn w index .status) → ⊥) → NextGiven w id time room NextAnswer.NotOperational
   next-shut : {index : ℕ} {p : Packet} {ps : List Packet} → Configured w id index → channelIn w index .latest ≤ time → notDueIn w index time ≡ p ∷ ps
-      → Reported 1 7 (channelIn w index .status) → Shut (channelIn w index) (length (p .bytes)) → NextGiven w id time room NextAnswer.WindowShut
+      → MaySend (codesIn w) (channelIn w index .status) → Shut (channelIn w index) (length (p .bytes)) → NextGiven w id time room NextAnswer.WindowShut
   next-18 : {index head : ℕ} {p : Packet} {ps : List Packet} → Configured w id index → channelIn w index .latest ≤ time → notDueIn w index time ≡ p ∷ ps
-      → Reported 1 7 (channelIn w index .status) → Goes (channelIn w index) (length (p .bytes)) head
+      → MaySend (codesIn w) (channelIn w index .status) → Goes (channelIn w index) (length (p .bytes)) head
       → (room < head + length (p .bytes)) ⊎ (65507 < head + length (p .bytes)) → NextGiven w id time room (NextAnswer.Refused (numbered 18))
   next-sent : {index head : ℕ} {p : Packet} {ps : List Packet} → Configured w id index → channelIn w index .latest ≤ time → notDueIn w index time ≡ p ∷ ps
-      → Reported 1 7 (channelIn w index .status) → Goes (channelIn w index) (length (p .bytes)) head
+      → MaySend (codesIn w) (channelIn w index .status) → Goes (channelIn w index) (length (p .bytes)) head
       → head + length (p .bytes) ≤ room → head + length (p .bytes) ≤ 65507 → NextGiven w id time room (NextAnswer.Sent (record { 0 = head + length (p .bytes) }))
 
 -- ---- Withdraw

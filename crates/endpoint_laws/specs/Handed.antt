@@ -25,7 +25,7 @@ pub data SequenceRead (c : Channel) (id n : ℕ) : Counted → Type 0 where
 
 -- a reader of the IPS end's messages, configured with the state's Datalink ID
 abbrev pub readingIn : World → ByteCount → List ℕ → DataReading
-readingIn w count out = readData ends.Ips (w .state .datalink) (take (count .0) out)
+readingIn w count out = readData ends.Ips (w .state .datalink .id) (take (count .0) out)
 
 -- "a data message with the first waiting packet", of those that are not due; "bytes behind the message stay"
 pub record HandedOver (w : World) (id time : ℕ) (count : ByteCount) (out out′ : List ℕ) : Type 0 where
@@ -35,7 +35,7 @@ pub record HandedOver (w : World) (id time : ℕ) (count : ByteCount) (out out�
   pub behind : List Packet
   pub waits : notDueIn w index time ≡ first ∷ behind
   pub accepted : readingIn w count out′ .verdict ≡ Verdict.Accepted
-  pub datalink : readingIn w count out′ .message .datalink ≡ Datalink.Given (w .state .datalink)
+  pub datalink : readingIn w count out′ .message .datalink ≡ Datalink.Given (w .state .datalink .id)
   pub sequence : SequenceRead (channelIn w index) id (length (first .bytes)) (readingIn w count out′ .message .sequence)
   pub channel : readingIn w count out′ .message .channel ≡ channels.Given id
   pub no-expiration : readingIn w count out′ .message .expiration ≡ expirations.Absent

@@ -143,13 +143,13 @@ module _ (s : State) (words : SequenceWords s) where
     query-outcome : stateFits s ≡ true → writer.Outcome (controlAllowed ends.Ips (queryOf s)) (controlWritten (queryOf s)) out r out′
     query-outcome f = rw (query-allowed s) (record { answers = rw f at (query-gives h .0); bytes-are = rw f at (query-gives h .1) })
 
-    pub query-reads-back : (count : ByteCount) → r ≡ WriteAnswer.Wrote count → readControl ends.Ips (s .datalink) (take (count .0) out′) ≡ controlAccepted (queryOf s)
+    pub query-reads-back : (count : ByteCount) → r ≡ WriteAnswer.Wrote count → readControl ends.Ips (s .datalink .id) (take (count .0) out′) ≡ controlAccepted (queryOf s)
     unfolding queryOf
     query-reads-back count wrote = go (stateFits s) refl
       where
-        go : (fits : Bool) → stateFits s ≡ fits → readControl ends.Ips (s .datalink) (take (count .0) out′) ≡ controlAccepted (queryOf s)
+        go : (fits : Bool) → stateFits s ≡ fits → readControl ends.Ips (s .datalink .id) (take (count .0) out′) ≡ controlAccepted (queryOf s)
         go false f = let refused = rw f at (query-gives h .0) in clash (cc)
-        go true f = control-returned ends.Ips (queryOf s) query-value out r out′ (query-outcome f) (s .datalink) count refl wrote
+        go true f = control-returned ends.Ips (queryOf s) query-value out r out′ (query-outcome f) (s .datalink .id) count refl wrote
 
 -- the sequences of every state reached are such words
 pub reached-words : (k : Configuration) → configurationTaken k ≡ true → ((index : ℕ) → index < length (k .starts) → startAt k index .first .0 < 2 ^ 32)

@@ -28,7 +28,7 @@ due-true false e = clash (cc)
 
 module _ (s : State) (time : ℕ) (datagram : List ℕ) where
   brought : {h : AfterRadio} → Handed s time datagram h → h .answer ≡ RadioAnswer.Due
-      → (inTime time s ≡ true) × (m : Control) × (receivedIn (s .datalink) datagram ≡ stated m) × Comes (s .context) (m .context)
+      → (inTime time s ≡ true) × (m : Control) × (receivedIn (s .datalink .id) datagram ≡ stated m) × Comes (s .context) (m .context)
   brought (outside f) e = clash (cc)
   brought (earlier f l) e = clash (cc)
   brought (unread refusal f w) e = clash (cc)
@@ -37,7 +37,7 @@ module _ (s : State) (time : ℕ) (datagram : List ℕ) where
 
   -- by the Context that the state keeps
   pub due-by-state : (before : Context) → s .context ≡ before → (handedIn time s datagram .answer ≡ RadioAnswer.Due)
-      ↔ ((inTime time s ≡ true) × (m : Control) × (receivedIn (s .datalink) datagram ≡ stated m) × Comes before (m .context))
+      ↔ ((inTime time s ≡ true) × (m : Control) × (receivedIn (s .datalink .id) datagram ≡ stated m) × Comes before (m .context))
   due-by-state before kept =
       rw (← kept) (
         brought (handed s time datagram),
@@ -59,11 +59,11 @@ stated-accepted datalink datagram m e = go (receivedIn datalink datagram) e
     go (stated n) e = let same : n ≡ m = cc in rw same
 
 accepted-exactly : (w : World) (time : ℕ) (datagram : List ℕ) (m : Control)
-    → (acceptedBy (radio time datagram) w ≡ m ∷ []) ↔ ((inTime time (w .state) ≡ true) × (receivedIn (w .state .datalink) datagram ≡ stated m))
-accepted-exactly w time datagram m = (λ e. go (inTime time (w .state)) refl e, λ h. accepted-in-time w time datagram (h .0) ∙ accepted-stated (w .state .datalink) datagram m (h .1))
+    → (acceptedBy (radio time datagram) w ≡ m ∷ []) ↔ ((inTime time (w .state) ≡ true) × (receivedIn (w .state .datalink .id) datagram ≡ stated m))
+accepted-exactly w time datagram m = (λ e. go (inTime time (w .state)) refl e, λ h. accepted-in-time w time datagram (h .0) ∙ accepted-stated (w .state .datalink .id) datagram m (h .1))
   where
-    go : (t : Bool) → inTime time (w .state) ≡ t → acceptedBy (radio time datagram) w ≡ m ∷ [] → (inTime time (w .state) ≡ true) × (receivedIn (w .state .datalink) datagram ≡ stated m)
-    go true f e = (f, stated-accepted (w .state .datalink) datagram m (sym (accepted-in-time w time datagram f) ∙ e))
+    go : (t : Bool) → inTime time (w .state) ≡ t → acceptedBy (radio time datagram) w ≡ m ∷ [] → (inTime time (w .state) ≡ true) × (receivedIn (w .state .datalink .id) datagram ≡ stated m)
+    go true f e = (f, stated-accepted (w .state .datalink .id) datagram m (sym (accepted-in-time w time datagram f) ∙ e))
     go false f e = clash (cc (sym (accepted-late w time datagram f) ∙ e))
 
 module _ (k : Configuration) (cs : List Call) where

@@ -62,31 +62,31 @@ module _ (datalink : DatalinkId) (datagram : List ℕ) (refusal : Refusal) where
 
 module _ (s : State) (time : ℕ) (datagram : List ℕ) where
   abbrev control-read : ControlReading
-  control-read = readControl ends.Radio (s .datalink) datagram
+  control-read = readControl ends.Radio (s .datalink .id) datagram
 
   abbrev data-read : DataReading
-  data-read = readData ends.Radio (s .datalink) datagram
+  data-read = readData ends.Radio (s .datalink .id) datagram
 
   -- given an outcome, the conditions
   pub data Handed : AfterRadio → Type 0 where
     outside : stateFits s ≡ false → Handed (refusedHeard (record { number = OUTSIDE-LIMITS; place = 0 }) s)
     earlier : stateFits s ≡ true → time < s .pacer .clock → Handed (refusedHeard (record { number = EARLIER-PACE; place = 0 }) s)
-    unread : (refusal : Refusal) → inTime time s ≡ true → ReadingRefuses (s .datalink) datagram refusal → Handed (refusedHeard refusal s)
-    heard : (m : Control) → inTime time s ≡ true → receivedIn (s .datalink) datagram ≡ stated m → Handed (heardControl time m s)
-    passed : inTime time s ≡ true → receivedIn (s .datalink) datagram ≡ carried → Handed (passedOn time s)
+    unread : (refusal : Refusal) → inTime time s ≡ true → ReadingRefuses (s .datalink .id) datagram refusal → Handed (refusedHeard refusal s)
+    heard : (m : Control) → inTime time s ≡ true → receivedIn (s .datalink .id) datagram ≡ stated m → Handed (heardControl time m s)
+    passed : inTime time s ≡ true → receivedIn (s .datalink .id) datagram ≡ carried → Handed (passedOn time s)
 
   pub handed : Handed (handedIn time s datagram)
   unfolding handedInUnder
   handed = go (stateFits s) refl (isEarlier time (s .pacer)) refl (planeOf datagram) refl
     where
       control : inTime time s ≡ true → planeOf datagram ≡ PlaneAnswer.Control → (v : Verdict) → control-read .verdict ≡ v → Handed (byVerdict v s (heardControl time (control-read .message) s))
-      control f p Verdict.Accepted e = heard _ f (heard-when (s .datalink) datagram p e)
-      control f p Verdict.OtherPlane e = absurd (control-own ends.Radio (s .datalink) datagram p e)
+      control f p Verdict.Accepted e = heard _ f (heard-when (s .datalink .id) datagram p e)
+      control f p Verdict.OtherPlane e = absurd (control-own ends.Radio (s .datalink .id) datagram p e)
       control f p (Verdict.Refused refusal) e = unread refusal f (by-control p e)
 
       carrying : inTime time s ≡ true → planeOf datagram ≡ PlaneAnswer.Data → (v : Verdict) → data-read .verdict ≡ v → Handed (byVerdict v s (passedOn time s))
-      carrying f p Verdict.Accepted e = passed f (carried-when (s .datalink) datagram p e)
-      carrying f p Verdict.OtherPlane e = absurd (data-own ends.Radio (s .datalink) datagram p e)
+      carrying f p Verdict.Accepted e = passed f (carried-when (s .datalink .id) datagram p e)
+      carrying f p Verdict.OtherPlane e = absurd (data-own ends.Radio (s .datalink .id) datagram p e)
       carrying f p (Verdict.Refused refusal) e = unread refusal f (by-data p e)
 
       go : (fits : Bool) → stateFits s ≡ fits → (early : Bool) → isEarlier time (s .pacer) ≡ early → (plane : PlaneAnswer) → planeOf datagram ≡ plane
@@ -112,14 +112,14 @@ module _ (s : State) (time : ℕ) (datagram : List ℕ) where
   outside-only : {h : AfterRadio} → Handed h → (refusal : Refusal) → h .answer ≡ RadioAnswer.Refused refusal → refusal .number ≡ OUTSIDE-LIMITS → stateFits s ≡ false
   outside-only (outside f) refusal e n = f
   outside-only (earlier f l) refusal e n = let z : EARLIER-PACE ≡ OUTSIDE-LIMITS = ap (λ (r : Refusal). r .number) (one-refusal e) ∙ n in absurd (omega arith)
-  outside-only (unread why f w) refusal e n = let same : why ≡ refusal = cc in absurd (omega (arith, reading-numbers (s .datalink) datagram refusal (rw same at w)))
+  outside-only (unread why f w) refusal e n = let same : why ≡ refusal = cc in absurd (omega (arith, reading-numbers (s .datalink .id) datagram refusal (rw same at w)))
   outside-only (heard m f a) refusal e n = absurd (not-refused s (dueOf (s .context) (m .context)) refusal e)
   outside-only (passed f a) refusal e n = clash (cc)
 
   earlier-only : {h : AfterRadio} → Handed h → (refusal : Refusal) → h .answer ≡ RadioAnswer.Refused refusal → refusal .number ≡ EARLIER-PACE → (stateFits s ≡ true) × (time < s .pacer .clock)
   earlier-only (outside f) refusal e n = let z : OUTSIDE-LIMITS ≡ EARLIER-PACE = ap (λ (r : Refusal). r .number) (one-refusal e) ∙ n in absurd (omega arith)
   earlier-only (earlier f l) refusal e n = (f, l)
-  earlier-only (unread why f w) refusal e n = let same : why ≡ refusal = cc in absurd (omega (arith, reading-numbers (s .datalink) datagram refusal (rw same at w)))
+  earlier-only (unread why f w) refusal e n = let same : why ≡ refusal = cc in absurd (omega (arith, reading-numbers (s .datalink .id) datagram refusal (rw same at w)))
   earlier-only (heard m f a) refusal e n = absurd (not-refused s (dueOf (s .context) (m .context)) refusal e)
   earlier-only (passed f a) refusal e n = clash (cc)
 
@@ -142,13 +142,13 @@ module _ (s : State) (time : ℕ) (datagram : List ℕ) where
     not-late l = clash (sym on-time ∙ lt-ltb time (s .pacer .clock) l)
 
     -- the state then is the one handed in
-    pub radio-refused : (refusal : Refusal) → ReadingRefuses (s .datalink) datagram refusal → handedIn time s datagram ≡ refusedHeard refusal s
+    pub radio-refused : (refusal : Refusal) → ReadingRefuses (s .datalink .id) datagram refusal → handedIn time s datagram ≡ refusedHeard refusal s
     unfolding handedInUnder
     radio-refused refusal (by-header p) = rw (fitting, on-time, p)
     radio-refused refusal (by-control p v) = rw (fitting, on-time, p, v)
     radio-refused refusal (by-data p v) = rw (fitting, on-time, p, v)
 
-    unread-only : {h : AfterRadio} → Handed h → (refusal : Refusal) → h .answer ≡ RadioAnswer.Refused refusal → ReadingRefuses (s .datalink) datagram refusal
+    unread-only : {h : AfterRadio} → Handed h → (refusal : Refusal) → h .answer ≡ RadioAnswer.Refused refusal → ReadingRefuses (s .datalink .id) datagram refusal
     unread-only (outside f) refusal e = clash (sym f ∙ fitting)
     unread-only (earlier f l) refusal e = not-late l
     unread-only (unread why f w) refusal e = let same : why ≡ refusal = cc in rw same at w
@@ -156,22 +156,22 @@ module _ (s : State) (time : ℕ) (datagram : List ℕ) where
     unread-only (passed f a) refusal e = clash (cc)
 
     -- "A radio message handed in: as for reading": refused by that number and at that place
-    pub radio-as-reading : (refusal : Refusal) → (handedIn time s datagram .answer ≡ RadioAnswer.Refused refusal) ↔ ReadingRefuses (s .datalink) datagram refusal
+    pub radio-as-reading : (refusal : Refusal) → (handedIn time s datagram .answer ≡ RadioAnswer.Refused refusal) ↔ ReadingRefuses (s .datalink .id) datagram refusal
     radio-as-reading refusal = (unread-only handed refusal, λ w. ap (λ (r : AfterRadio). r .answer) (radio-refused refusal w))
 
-    heard-only : {h : AfterRadio} → Handed h → (m : Control) → receivedIn (s .datalink) datagram ≡ stated m → h ≡ heardControl time m s
+    heard-only : {h : AfterRadio} → Handed h → (m : Control) → receivedIn (s .datalink .id) datagram ≡ stated m → h ≡ heardControl time m s
     heard-only (outside f) m a = clash (sym f ∙ fitting)
     heard-only (earlier f l) m a = not-late l
-    heard-only (unread refusal f w) m a = clash (cc (unheard (s .datalink) datagram refusal w))
+    heard-only (unread refusal f w) m a = clash (cc (unheard (s .datalink .id) datagram refusal w))
     heard-only (heard n f b) m a = let same : n ≡ m = cc in rw same
     heard-only (passed f b) m a = clash (cc)
 
     -- "Radio control message accepted: .."
-    pub radio-heard : (m : Control) → receivedIn (s .datalink) datagram ≡ stated m → handedIn time s datagram ≡ heardControl time m s
+    pub radio-heard : (m : Control) → receivedIn (s .datalink .id) datagram ≡ stated m → handedIn time s datagram ≡ heardControl time m s
     radio-heard = heard-only handed
 
     -- an accepted data message moves the clock, and "changes nothing else"
-    pub radio-passed : planeOf datagram ≡ PlaneAnswer.Data → readData ends.Radio (s .datalink) datagram .verdict ≡ Verdict.Accepted → handedIn time s datagram ≡ passedOn time s
+    pub radio-passed : planeOf datagram ≡ PlaneAnswer.Data → readData ends.Radio (s .datalink .id) datagram .verdict ≡ Verdict.Accepted → handedIn time s datagram ≡ passedOn time s
     unfolding handedInUnder
     radio-passed p v = rw (fitting, on-time, p, v)
 

@@ -86,16 +86,16 @@ module _ (w : World) (time : ℕ) (datagram : List ℕ) where
       by-due false = refl
 
       go : {h : AfterRadio} → Handed (w .state) time datagram h
-          → cond (inTime time (w .state)) (whenTaken time (receivedIn (w .state .datalink) datagram)) [] ≡ cond (radioRefused (h .answer)) [] (time ∷ [])
+          → cond (inTime time (w .state)) (whenTaken time (receivedIn (w .state .datalink .id) datagram)) [] ≡ cond (radioRefused (h .answer)) [] (time ∷ [])
       go (outside f) = rw f
       go (earlier f l) = rw (f, lt-ltb time (w .state .pacer .clock) l)
-      go (unread refusal f why) = rw (f, unheard (w .state .datalink) datagram refusal why)
+      go (unread refusal f why) = rw (f, unheard (w .state .datalink .id) datagram refusal why)
       go (heard m f a) = rw (f, a) (by-due (dueOf (w .state .context) (m .context)))
       go (passed f a) = rw (f, a)
 
   pub radio-stated : heardTimes (radio time datagram) w ≡ map (λ m. time) (acceptedBy (radio time datagram) w)
   unfolding heardTimes acceptedUnder acceptedIn
-  radio-stated = go (inTime time (w .state)) (receivedIn (w .state .datalink) datagram)
+  radio-stated = go (inTime time (w .state)) (receivedIn (w .state .datalink .id) datagram)
     where
       go : (t : Bool) (r : Received) → cond t (whenStated time r) [] ≡ map (λ m. time) (cond t (messagesIn r) [])
       go false r = refl

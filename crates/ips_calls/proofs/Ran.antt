@@ -39,10 +39,10 @@ handed-state w time datagram = go (stateFits (w .state)) refl (isEarlier time (w
     go false f early l plane p = rw f
     go true f true l plane p = rw (f, l)
     go true f false l PlaneAnswer.Control p =
-        let reading = readControl ends.Radio (w .state .datalink) datagram in
+        let reading = readControl ends.Radio (w .state .datalink .id) datagram in
         rw (f, l, p) (verdict-leaves (reading .verdict) time (w .state) (stated (reading .message)) (heardControl time (reading .message) (w .state)) refl)
     go true f false l PlaneAnswer.Data p =
-        rw (f, l, p) (verdict-leaves (readData ends.Radio (w .state .datalink) datagram .verdict) time (w .state) carried (passedOn time (w .state)) refl)
+        rw (f, l, p) (verdict-leaves (readData ends.Radio (w .state .datalink .id) datagram .verdict) time (w .state) carried (passedOn time (w .state)) refl)
     go true f false l (PlaneAnswer.Refused refusal) p = rw (f, l, p)
 
 -- so a radio message handed in as it should be, with any memory, is answered and leaves a state as `handedIn` says: the laws over `handedIn` are laws of the call

@@ -103,10 +103,10 @@ module _ (s : State) where
         go false f early l plane p = rw f
         go true f true l plane p = rw (f, l)
         go true f false l PlaneAnswer.Control p =
-            let reading = readControl ends.Radio (s .datalink) datagram in
+            let reading = readControl ends.Radio (s .datalink .id) datagram in
             rw (f, l, p) (control-same (reading .verdict) (heardControl time (reading .message) s) refusal (not-refused (dueOf (s .context) (reading .message .context)) refusal) (rw (f, l, p) at e))
         go true f false l PlaneAnswer.Data p =
-            let reading = readData ends.Radio (s .datalink) datagram in
+            let reading = readData ends.Radio (s .datalink .id) datagram in
             rw (f, l, p) (control-same (reading .verdict) (passedOn time s) refusal (λ other. clash (cc)) (rw (f, l, p) at e))
         go true f false l (PlaneAnswer.Refused why) p = rw (f, l, p)
 

@@ -58,7 +58,7 @@ byPlane (PlaneAnswer.Refused refusal) s control data′ = refusedHeard refusal s
 -- as for reading
 abbrev pub readAt : (time : ℕ) → State → List ℕ → AfterRadio
 readAt time s datagram =
-    byPlane (planeOf datagram) s (controlHeard time (readControl ends.Radio (s .datalink) datagram) s) (dataHeard time (readData ends.Radio (s .datalink) datagram) s)
+    byPlane (planeOf datagram) s (controlHeard time (readControl ends.Radio (s .datalink .id) datagram) s) (dataHeard time (readData ends.Radio (s .datalink .id) datagram) s)
 
 unfoldable pub handedInUnder : Limits → (time : ℕ) → State → List ℕ → AfterRadio
 handedInUnder limits time s datagram =

@@ -2,24 +2,30 @@
 use Prim.Native.Nat.{ℕ}
 use mathlib.Core.Bool.{cond}
 use mathlib.Core.List.{List, []}
-use Rattle.quantity.specs.declared.count.DatalinkId.{DatalinkId}
 use Rattle.quantity.specs.declared.count.FlowSequence.{FlowSequence}
 use Rattle.quantity.specs.Limits.{LONGEST-PACKET}
 use Rattle.meaning.specs.declared.message.Status.{Status}
 use Rattle.meaning.specs.declared.message.Window.{Window}
+use Rattle.meaning.specs.Statuses.{DEFAULT-CODES}
 use Rattle.store.specs.declared.queue.Queue.{Queue}
 use Rattle.store.specs.Waiting.{packetsOf, queueOf}
 use Rattle.flow.specs.Counting.{flowAfter, firstFlow}
 use Rattle.ips_channel_rules.specs.Rules.{Terms, Condition}
 use Rattle.ips_channel_rules.specs.Machine.{machine}
+use Rattle.ips_channel.specs.declared.state.DatalinkSetting.{DatalinkSetting}
 use Rattle.ips_channel.specs.declared.state.Setting.{Setting}
 use Rattle.ips_channel.specs.declared.state.Channel.{Channel}
 
--- ---- how a channel is configured, as the rules take it, by the longest packet
-abbrev pub termsUnder : (longest : ℕ) → DatalinkId → Setting → Terms
-termsUnder longest datalink setting = record { datalink = datalink; id = setting .id; controlled = setting .controlled; size = setting .size .0; longest = longest }
+-- ---- a datalink with ID 0 and the default, where it doesn't matter
+abbrev pub noDatalink : DatalinkSetting
+noDatalink = record { id = record { 0 = 0 }; codes = DEFAULT-CODES }
 
-abbrev pub termsOf : DatalinkId → Setting → Terms
+-- ---- how a channel is configured, as the rules take it, by the longest packet
+abbrev pub termsUnder : (longest : ℕ) → DatalinkSetting → Setting → Terms
+termsUnder longest datalink setting =
+    record { datalink = datalink .id; codes = datalink .codes; id = setting .id; controlled = setting .controlled; size = setting .size .0; longest = longest }
+
+abbrev pub termsOf : DatalinkSetting → Setting → Terms
 termsOf datalink setting = termsUnder LONGEST-PACKET datalink setting
 
 -- ---- a channel and its store as a condition, however untidy they are behind what waits

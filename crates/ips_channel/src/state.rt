@@ -3,10 +3,19 @@ ghost use mathlib.Core.Path.{_≡_};
 ghost use Rattle.ips_channel.specs.Channel.{freshChannel, withQueue};
 use flow::Flow;
 use meaning::message::Status;
+use meaning::status::StatusCodes;
 use quantity::count::ByteCount;
+use quantity::count::DatalinkId;
 use quantity::count::FlowSequence;
 use store::queue;
 use store::queue::Queue;
+
+// How the datalink is configured, for all of its channels.
+pub struct DatalinkSetting {
+    pub id: DatalinkId,
+    // Which of the statuses 8 to 15 are operational.
+    pub codes: StatusCodes,
+}
 
 // How a channel is configured.
 pub struct Setting {

@@ -7,7 +7,6 @@ use mathlib.Core.List.{List, []}
 use borrow.Author.Tests.{le-leb}
 use lib.Dec.{leb, eqb}
 use lib.ListN.{length}
-use Rattle.quantity.specs.declared.count.DatalinkId.{DatalinkId}
 use Rattle.quantity.specs.declared.count.FlowSequence.{FlowSequence}
 use Rattle.quantity.specs.Limits.{SHORTEST-PACKET, LONGEST-PACKET}
 use Rattle.meaning.specs.declared.message.Status.{Status}
@@ -22,9 +21,10 @@ use Rattle.ips_channel_rules.specs.Machine.{WordCounter, machine, freshMachine}
 use Rattle.ips_channel_rules.specs.Exactly.{Offered, offered-not-ipv6, offered-long, offered-early, offered-past, offered-full, offered-taken, Asked, asked-early, asked-nothing, asked-not-operational, asked-shut, asked-no-room, asked-sent}
 use Rattle.ips_channel_rules.proofs.Exact.{offered, asked, withdraw-is}
 use Rattle.ips_channel_rules.proofs.Limits.{machine-limited, short-both}
+use Rattle.ips_channel.specs.declared.state.DatalinkSetting.{DatalinkSetting}
 use Rattle.ips_channel.specs.declared.state.Setting.{Setting}
 use Rattle.ips_channel.specs.declared.state.Channel.{Channel}
-use Rattle.ips_channel.specs.Channel.{termsOf, conditionOf, withCondition, heardOf, freshChannel}
+use Rattle.ips_channel.specs.Channel.{noDatalink, termsOf, conditionOf, withCondition, heardOf, freshChannel}
 use Rattle.ips_channel_calls.specs.declared.offering.OfferOutcome.{OfferOutcome}
 use Rattle.ips_channel_calls.specs.declared.offering.WithdrawAnswer.{WithdrawAnswer}
 use Rattle.ips_channel_calls.specs.declared.offering.WithdrawOutcome.{WithdrawOutcome}
@@ -50,7 +50,7 @@ heard-counting : (controlled : Bool) (window : Window) (x : WordCounter)
 heard-counting true window x = refl
 heard-counting false window x = refl
 
-pub heard-condition : (datalink : DatalinkId) (c : Channel) (store : List ℕ) (status : Status) (window : Window)
+pub heard-condition : (datalink : DatalinkSetting) (c : Channel) (store : List ℕ) (status : Status) (window : Window)
     → conditionOf (heardOf c status window) store ≡ radioAt machine (termsOf datalink (c .setting)) status window (conditionOf c store)
 unfolding conditionOf heardOf radioAt
 heard-condition datalink c store status window = rw (heard-counting (c .setting .controlled) window (record { flow = c .flow; sequence = c .sequence }))
@@ -109,7 +109,7 @@ module _ (c : Channel) (store : List ℕ) (ready : Ready c store) where
     by-next _ (asked-no-room t w o f r) = unchanged
     by-next {time} _ (asked-sent t w o f r) = changed _ (fit-tail (c .setting .size .0) (alive time (conditionOf c store .keeping)) (alive-fit time))
 
-  module _ (datalink : DatalinkId) where
+  module _ (datalink : DatalinkSetting) where
     -- after any call, refused ones among them
     pub after : (call : ChannelCall) → let r = resultOf datalink call c store in Again c (r .condition) (channelAfter c r) (storeAfter c store r)
     unfolding Left channelAfter storeAfter
@@ -133,7 +133,7 @@ unfolding conditionOf freshChannel packetsOf cut
 fresh-condition setting first store = rw (waiting-of [])
 
 -- ---- any two outcomes coincide
-pub serves-one : {datalink : DatalinkId} {call : ChannelCall} {c : Channel} {store : List ℕ} {reply reply′ : Reply} {d d′ : Channel} {s s′ : List ℕ}
+pub serves-one : {datalink : DatalinkSetting} {call : ChannelCall} {c : Channel} {store : List ℕ} {reply reply′ : Reply} {d d′ : Channel} {s s′ : List ℕ}
     → Serves datalink call c store reply d s → Serves datalink call c store reply′ d′ s′ → (reply ≡ reply′) × (d ≡ d′) × (s ≡ s′)
 serves-one h k = (h .reply-is ∙ sym (k .reply-is), h .channel-is ∙ sym (k .channel-is), h .store-is ∙ sym (k .store-is))
 
@@ -143,10 +143,10 @@ module _ {call : ChannelCall} {c : Channel} {store s s′ : List ℕ} where
       → ServesAnywhere call c store (replies.offered (r′ .answer)) (r′ .channel) s′ → MovesAnywhere call c store (r .moved) → MovesAnywhere call c store (r′ .moved)
       → (r ≡ r′) × (s ≡ s′)
   offers-one r r′ h k m n =
-      let one = serves-one (h (record { 0 = 0 })) (k (record { 0 = 0 })) in
+      let one = serves-one (h noDatalink) (k noDatalink) in
       let said = one .0 in
       let answers : r .answer ≡ r′ .answer = cc in
-      let moves : r .moved ≡ r′ .moved = m (record { 0 = 0 }) ∙ sym (n (record { 0 = 0 })) in
+      let moves : r .moved ≡ r′ .moved = m noDatalink ∙ sym (n noDatalink) in
       let same : record { answer = r .answer; channel = r .channel; moved = r .moved } ≡ r′ = rw (answers, one .1, moves) in
       (same, one .2)
 
@@ -154,12 +154,12 @@ module _ {call : ChannelCall} {c : Channel} {store s s′ : List ℕ} where
       → ServesAnywhere call c store (replies.withdrawn WithdrawAnswer.Withdrawn) (r′ .channel) s′ → MovesAnywhere call c store (r .moved) → MovesAnywhere call c store (r′ .moved)
       → (r ≡ r′) × (s ≡ s′)
   withdraws-one r r′ h k m n =
-      let one = serves-one (h (record { 0 = 0 })) (k (record { 0 = 0 })) in
-      let moves : r .moved ≡ r′ .moved = m (record { 0 = 0 }) ∙ sym (n (record { 0 = 0 })) in
+      let one = serves-one (h noDatalink) (k noDatalink) in
+      let moves : r .moved ≡ r′ .moved = m noDatalink ∙ sym (n noDatalink) in
       let same : record { channel = r .channel; moved = r .moved } ≡ r′ = rw (one .1, moves) in
       (same, one .2)
 
-  pub asks-one : {datalink : DatalinkId} {out out′ : List ℕ} (r r′ : NextOutcome) → Serves datalink call c store (replies.asked (r .answer) out) (r .channel) s
+  pub asks-one : {datalink : DatalinkSetting} {out out′ : List ℕ} (r r′ : NextOutcome) → Serves datalink call c store (replies.asked (r .answer) out) (r .channel) s
       → Serves datalink call c store (replies.asked (r′ .answer) out′) (r′ .channel) s′ → Moves datalink call c store (r .moved) → Moves datalink call c store (r′ .moved)
       → (r ≡ r′) × (s ≡ s′) × (out ≡ out′)
   asks-one r r′ h k m n =

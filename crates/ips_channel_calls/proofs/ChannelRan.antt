@@ -3,9 +3,9 @@
 use Prim.Native.Nat.{ℕ}
 use mathlib.Core.Path.{_≡_, refl, ap₂}
 use mathlib.Core.List.{List, _∷_}
-use Rattle.quantity.specs.declared.count.DatalinkId.{DatalinkId}
 use Rattle.ips_channel_rules.specs.Rules.{Event, Terms, Condition, history, final}
 use Rattle.ips_channel_rules.specs.Machine.{machine}
+use Rattle.ips_channel.specs.declared.state.DatalinkSetting.{DatalinkSetting}
 use Rattle.ips_channel.specs.declared.state.Channel.{Channel}
 use Rattle.ips_channel.specs.Channel.{termsOf, conditionOf}
 use Rattle.ips_channel_calls.specs.Calls.{Reply, Ready}
@@ -18,7 +18,7 @@ record Runs (k : Terms) (st : Condition machine) (es : List Event) (replies : Li
   final-is : conditionOf d last ≡ final machine k es st
   ready : Ready d last
 
-module _ (datalink : DatalinkId) where
+module _ (datalink : DatalinkSetting) where
   -- what comes after a call, on the channel that it left
   go-on : {c c′ d : Channel} {st : Condition machine} {store′ last : List ℕ} {es : List Event} {replies : List Reply} → Again c st c′ store′
       → Runs (termsOf datalink (c′ .setting)) (conditionOf c′ store′) es replies d last → Runs (termsOf datalink (c .setting)) st es replies d last

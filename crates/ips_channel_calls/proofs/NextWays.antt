@@ -5,7 +5,6 @@ use mathlib.Core.Path.{_≡_, refl, sym, ap, _∙_}
 use mathlib.Core.List.{List, [], _∷_, tail}
 use lib.ListN.{length}
 use Rattle.quantity.specs.declared.count.ByteCount.{ByteCount}
-use Rattle.quantity.specs.declared.count.DatalinkId.{DatalinkId}
 use Rattle.quantity.specs.declared.count.FlowSequence.{FlowSequence}
 use Rattle.quantity.specs.declared.refusal.Refusal.{Refusal}
 use Rattle.quantity.specs.Refusals.{EARLIER-TIME, NO-ROOM}
@@ -22,6 +21,7 @@ use Rattle.flow.specs.Counting.{mayGo, sequenceOn, carriedBy}
 use Rattle.ips_channel_rules.specs.Rules.{next, refusal, messageBytes}
 use Rattle.ips_channel_rules.specs.Machine.{machine}
 use Rattle.ips_channel_rules.proofs.Exact.{next-early, next-nothing, next-not-operational, next-shut, next-no-room, next-sent}
+use Rattle.ips_channel.specs.declared.state.DatalinkSetting.{DatalinkSetting}
 use Rattle.ips_channel.specs.declared.state.Channel.{Channel}
 use Rattle.ips_channel_calls.specs.declared.asking.NextAnswer.{NextAnswer}
 use Rattle.ips_channel_calls.specs.declared.asking.NextOutcome.{NextOutcome}
@@ -59,7 +59,7 @@ unfolding answered
 room-wrote true n m e = ((cc), (cc))
 room-wrote false n m e = (refl, (cc))
 
-module _ (c : Channel) (store : List ℕ) (datalink : DatalinkId) (time : ℕ) (out : List ℕ) where
+module _ (c : Channel) (store : List ℕ) (datalink : DatalinkSetting) (time : ℕ) (out : List ℕ) where
   abbrev pub Asks : NextOutcome → (store′ out′ : List ℕ) → Type 0
   Asks r store′ out′ = Serves datalink (next time out) c store (asked (r .answer) out′) (r .channel) store′ × Moves datalink (next time out) c store (r .moved)
 
@@ -92,13 +92,13 @@ module _ (c : Channel) (store : List ℕ) (datalink : DatalinkId) (time : ℕ) (
       bytes-here : bytes ≡ record { 0 = length (here .first .bytes) }
       bytes-here = rw (here .bytes-are) b
 
-      pub asks-not-operational : operational (c .status) ≡ false → (r : NextOutcome) (store′ : List ℕ) → Expired NextAnswer.NotOperational r store′ → Asks r store′ out
+      pub asks-not-operational : operational (datalink .codes) (c .status) ≡ false → (r : NextOutcome) (store′ : List ℕ) → Expired NextAnswer.NotOperational r store′ → Asks r store′ out
       unfolding conditionOf channelAfter storeAfter
       asks-not-operational o r store′ x =
           let result = next-not-operational machine (termsOf datalink (c .setting)) time (length out) (conditionOf c store) t (here .first) (here .rest) (here .is) o in
           (record { reply-is = rw (result, x .answer-is); channel-is = rw result (x .left .channel-is); store-is = rw result (x .left .store-is) }, rw result (x .moved-is))
 
-      module _ (o : operational (c .status) ≡ true) where
+      module _ (o : operational (datalink .codes) (c .status) ≡ true) where
         pub asks-shut : mayGo (c .flow) (c .sequence) bytes ≡ false → (r : NextOutcome) (store′ : List ℕ) → Expired NextAnswer.WindowShut r store′ → Asks r store′ out
         unfolding conditionOf channelAfter storeAfter
         asks-shut f r store′ x =

@@ -4,7 +4,6 @@ use mathlib.Core.Bool.{true, false, not, Bool·not-not}
 use mathlib.Core.Path.{_≡_, refl, sym, _∙_}
 use mathlib.Core.List.{List, [], _∷_, _++_}
 use lib.ListN.{length}
-use Rattle.quantity.specs.declared.count.DatalinkId.{DatalinkId}
 use Rattle.quantity.specs.Refusals.{NOT-IPV6, LONG-PACKET, EARLIER-TIME, EXPIRY-PAST, FULL}
 use Rattle.ipv6.specs.Ipv6.{isIpv6}
 use Rattle.store.specs.declared.waiting.Offered as store-offered
@@ -16,6 +15,7 @@ use Rattle.store.proofs.Moved.{displaced-unchanging}
 use Rattle.ips_channel_rules.specs.Rules.{offer, taken, longestOn, left, refusal}
 use Rattle.ips_channel_rules.specs.Machine.{machine}
 use Rattle.ips_channel_rules.proofs.Exact.{offer-not-ipv6, offer-long, offer-early, offer-past, offer-full, offer-taken}
+use Rattle.ips_channel.specs.declared.state.DatalinkSetting.{DatalinkSetting}
 use Rattle.ips_channel.specs.declared.state.Channel.{Channel}
 use Rattle.ips_channel.specs.Channel.{termsOf, conditionOf, withQueue}
 use Rattle.ips_channel_calls.specs.declared.offering.OfferAnswer.{OfferAnswer}
@@ -31,7 +31,7 @@ module _ (c : Channel) (store : List ℕ) (p : Packet) (time : ℕ) where
   abbrev pub Offers : OfferOutcome → List ℕ → Type 0
   Offers r store′ = ServesAnywhere (offer p time) c store (offered (r .answer)) (r .channel) store′ × MovesAnywhere (offer p time) c store (r .moved)
 
-  refuses : (number : ℕ) (r : OfferOutcome) → Refused c number r → ((datalink : DatalinkId) → resultOf datalink (offer p time) c store ≡ refusal machine number (conditionOf c store))
+  refuses : (number : ℕ) (r : OfferOutcome) → Refused c number r → ((datalink : DatalinkSetting) → resultOf datalink (offer p time) c store ≡ refusal machine number (conditionOf c store))
       → Offers r store
   unfolding channelAfter storeAfter
   refuses number r k e = (
@@ -44,14 +44,14 @@ module _ (c : Channel) (store : List ℕ) (p : Packet) (time : ℕ) where
 
   -- behind the test of 13, with the longest that `longest_on` gives for the store
   module _ (v : isIpv6 (p .bytes) ≡ true) (ready : Ready c store) (longest : ℕ) (is : IsLongest (length store) longest) where
-    longest-is : (datalink : DatalinkId) → longestOn (termsOf datalink (c .setting)) ≡ longest
+    longest-is : (datalink : DatalinkSetting) → longestOn (termsOf datalink (c .setting)) ≡ longest
     longest-is datalink = is (termsOf datalink (c .setting)) refl (sym (ready .size))
 
     pub offers-long : longest < length (p .bytes) → (r : OfferOutcome) → Refused c LONG-PACKET r → Offers r store
     offers-long l r k = refuses LONG-PACKET r k (λ datalink. offer-long machine (termsOf datalink (c .setting)) p time (conditionOf c store) v (rw (longest-is datalink) l))
 
     module _ (l : length (p .bytes) ≤ longest) where
-      short : (datalink : DatalinkId) → length (p .bytes) ≤ longestOn (termsOf datalink (c .setting))
+      short : (datalink : DatalinkSetting) → length (p .bytes) ≤ longestOn (termsOf datalink (c .setting))
       short datalink = rw (longest-is datalink) l
 
       pub offers-early : time < c .latest → (r : OfferOutcome) → Refused c EARLIER-TIME r → Offers r store
@@ -76,7 +76,7 @@ module _ (c : Channel) (store : List ℕ) (p : Packet) (time : ℕ) where
               rw (offering-refused (c .queue) store (alive time (packetsOf (c .queue) store)) p o store′ h full .1)
               (refuses FULL r k (λ datalink. offer-full machine (termsOf datalink (c .setting)) p time (conditionOf c store) v (short datalink) t x (rw (← (ready .size)) full)))
 
-          taken-is : not (o .taken) ≡ false → (datalink : DatalinkId)
+          taken-is : not (o .taken) ≡ false → (datalink : DatalinkSetting)
               → resultOf datalink (offer p time) c store ≡ left machine taken (conditionOf c store .counting) (alive time (packetsOf (c .queue) store) ++ (p ∷ [])) time (conditionOf c store)
           unfolding conditionOf
           taken-is n datalink = offer-taken machine (termsOf datalink (c .setting)) p time (conditionOf c store) v (short datalink) t x (rw (← (ready .size)) (full-is ∙ n))

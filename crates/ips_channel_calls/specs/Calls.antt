@@ -5,7 +5,6 @@ use mathlib.Core.List.{List}
 use mathlib.Core.Path.{_≡_}
 use lib.ListN.{length}
 use Rattle.quantity.specs.declared.count.ByteCount.{ByteCount}
-use Rattle.quantity.specs.declared.count.DatalinkId.{DatalinkId}
 use Rattle.quantity.specs.declared.count.FlowSequence.{FlowSequence}
 use Rattle.quantity.specs.declared.refusal.Refusal.{Refusal}
 use Rattle.quantity.specs.Limits.{RESERVED-CHANNEL, LONGEST-PACKET}
@@ -15,6 +14,7 @@ use Rattle.store.specs.Moves.{Stretch, displaced, expiring, sending, withdrawin
 use Rattle.store.specs.Waiting.{packetsOf, storeOf, wellFormed}
 use Rattle.ips_channel_rules.specs.Rules.{ChannelCall, offer, next, withdraw, Taken, taken, Tried, nothingWaiting, notOperational, windowShut, sent, Emptied, emptied, Says, Answer, refused, answered, unlessRefused, Terms, longestOn, Result, messageBytes, callAt}
 use Rattle.ips_channel_rules.specs.Machine.{machine}
+use Rattle.ips_channel.specs.declared.state.DatalinkSetting.{DatalinkSetting}
 use Rattle.ips_channel.specs.declared.state.Channel.{Channel}
 use Rattle.ips_channel.specs.Channel.{termsUnder, termsOf, conditionOf, withCondition}
 use Rattle.ips_channel_calls.specs.declared.offering.OfferAnswer.{OfferAnswer}
@@ -80,20 +80,20 @@ abbrev pub IsLongest : (size longest : ℕ) → Type 0
 IsLongest size longest = (k : Terms) → k .longest ≡ LONGEST-PACKET → k .size ≡ size → longestOn k ≡ longest
 
 -- by the rules
-abbrev pub resultUnder : (longest : ℕ) → DatalinkId → (call : ChannelCall) → Channel → List ℕ → Result machine (Says call)
+abbrev pub resultUnder : (longest : ℕ) → DatalinkSetting → (call : ChannelCall) → Channel → List ℕ → Result machine (Says call)
 resultUnder longest datalink call c store = callAt machine (termsUnder longest datalink (c .setting)) call (conditionOf c store)
 
-abbrev pub resultOf : DatalinkId → (call : ChannelCall) → Channel → List ℕ → Result machine (Says call)
+abbrev pub resultOf : DatalinkSetting → (call : ChannelCall) → Channel → List ℕ → Result machine (Says call)
 resultOf datalink call c store = resultUnder LONGEST-PACKET datalink call c store
 
-pub record Serves (datalink : DatalinkId) (call : ChannelCall) (c : Channel) (store : List ℕ) (reply : Reply) (c′ : Channel) (store′ : List ℕ) : Type 0 where
+pub record Serves (datalink : DatalinkSetting) (call : ChannelCall) (c : Channel) (store : List ℕ) (reply : Reply) (c′ : Channel) (store′ : List ℕ) : Type 0 where
   pub reply-is : reply ≡ replyTo (termsOf datalink (c .setting)) call (resultOf datalink call c store .answer)
   pub channel-is : c′ ≡ channelAfter c (resultOf datalink call c store)
   pub store-is : store′ ≡ storeAfter c store (resultOf datalink call c store)
 
 -- a call that sends nothing comes to the same on every datalink
 abbrev pub ServesAnywhere : ChannelCall → Channel → List ℕ → Reply → Channel → List ℕ → Type 0
-ServesAnywhere call c store reply c′ store′ = (datalink : DatalinkId) → Serves datalink call c store reply c′ store′
+ServesAnywhere call c store reply c′ store′ = (datalink : DatalinkSetting) → Serves datalink call c store reply c′ store′
 
 -- ---- how many bytes a call moves within the store
 
@@ -110,11 +110,11 @@ leavingBy withdraw (refused number) ps = unchanging ps
 leavingBy withdraw (answered emptied) ps = withdrawing ps
 
 -- no more than has to move: `call-least` of `call_moves`, which says too that those packets leave
-abbrev pub Moves : DatalinkId → ChannelCall → Channel → List ℕ → ByteCount → Type 0
+abbrev pub Moves : DatalinkSetting → ChannelCall → Channel → List ℕ → ByteCount → Type 0
 Moves datalink call c store moved = moved ≡ record { 0 = displaced (leavingBy call (resultOf datalink call c store .answer) (packetsOf (c .queue) store)) }
 
 abbrev pub MovesAnywhere : ChannelCall → Channel → List ℕ → ByteCount → Type 0
-MovesAnywhere call c store moved = (datalink : DatalinkId) → Moves datalink call c store moved
+MovesAnywhere call c store moved = (datalink : DatalinkSetting) → Moves datalink call c store moved
 
 -- ---- what the functions behind Next leave
 pub record LeftWith (c : Channel) (ps : List Packet) (sequence : FlowSequence) (time : ℕ) (c′ : Channel) (store′ : List ℕ) : Type 0 where

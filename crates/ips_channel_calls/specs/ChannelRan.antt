@@ -2,16 +2,16 @@
 use Prim.Native.Nat.{ℕ}
 use mathlib.Core.Path.{_≡_}
 use mathlib.Core.List.{List, [], _∷_}
-use Rattle.quantity.specs.declared.count.DatalinkId.{DatalinkId}
 use Rattle.meaning.specs.declared.message.Status.{Status}
 use Rattle.meaning.specs.declared.message.Window.{Window}
 use Rattle.ips_channel_rules.specs.Rules.{ChannelCall, Event, call, radio, Happened, called, heard, Terms}
+use Rattle.ips_channel.specs.declared.state.DatalinkSetting.{DatalinkSetting}
 use Rattle.ips_channel.specs.declared.state.Channel.{Channel}
 use Rattle.ips_channel.specs.Channel.{heardOf}
 use Rattle.ips_channel_calls.specs.Calls.{Reply, replyTo, Serves}
 
 -- from a channel and its store: what it saw, what its caller got, and the channel and the store that were left
-pub data ChannelRan (datalink : DatalinkId) : Channel → List ℕ → List Event → List Reply → Channel → List ℕ → Type 0 where
+pub data ChannelRan (datalink : DatalinkSetting) : Channel → List ℕ → List Event → List Reply → Channel → List ℕ → Type 0 where
   over : {c : Channel} {store : List ℕ} → ChannelRan datalink c store [] [] c store
   served : {c c′ d : Channel} {store store′ last : List ℕ} {es : List Event} {replies : List Reply} {x : ChannelCall} {reply : Reply}
       → Serves datalink x c store reply c′ store′ → ChannelRan datalink c′ store′ es replies d last → ChannelRan datalink c store (call x ∷ es) (reply ∷ replies) d last

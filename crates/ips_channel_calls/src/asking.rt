@@ -13,6 +13,7 @@ ghost use Rattle.ips_channel.specs.Channel.{termsOf};
 ghost use Rattle.ips_channel_calls.specs.Calls.{refusedWith, asked, Ready, Serves, Moves, AnsweredWith};
 use ips_channel::state;
 use ips_channel::state::Channel;
+use ips_channel::state::DatalinkSetting;
 use ips_channel::state::Setting;
 use meaning::message;
 use meaning::message::Counted;
@@ -23,7 +24,6 @@ use meaning::message::Expiration;
 use meaning::message::Sequence;
 use meaning::status;
 use quantity::count::ByteCount;
-use quantity::count::DatalinkId;
 use quantity::count::FlowSequence;
 use quantity::refusal;
 use quantity::refusal::Refusal;
@@ -116,12 +116,13 @@ fn counted_on(id: u8, sequence: Sequence) -> Counted
 }
 
 // The message that carries the first packet.
-fn carrier(datalink: DatalinkId, setting: Setting, sequence: Sequence) -> Data
+fn carrier(datalink: DatalinkSetting, setting: Setting, sequence: Sequence) -> Data
     ensures { λ r. ⌜ r ≡ messageOf (termsOf datalink setting) sequence ⌝ }
 {
     let counted = counted_on(setting.id, sequence);
+    let id = datalink.id;
     Data {
-        datalink: Datalink::Given(datalink),
+        datalink: Datalink::Given(id),
         sequence: counted,
         channel: message::Channel::Given(setting.id),
         expiration: Expiration::Absent,
@@ -132,7 +133,7 @@ fn carrier(datalink: DatalinkId, setting: Setting, sequence: Sequence) -> Data
 fn write_first(
     channel: Channel,
     store: &[u8],
-    datalink: DatalinkId,
+    datalink: DatalinkSetting,
     sequence: Sequence,
     time: u64,
     out: &mut [u8],
@@ -150,7 +151,7 @@ fn write_first(
 pub fn next(
     channel: Channel,
     store: &mut [u8],
-    datalink: DatalinkId,
+    datalink: DatalinkSetting,
     time: u64,
     out: &mut [u8],
 ) -> NextOutcome
@@ -163,8 +164,9 @@ pub fn next(
     }
     let bytes = first_length(channel, store, time);
     let first = bytes.0;
+    let codes = datalink.codes;
     let code = channel.status;
-    let operational = status::is_operational(code);
+    let operational = status::is_operational(codes, code);
     if first == 0 {
         return expired(channel, store, time, NextAnswer::NothingWaiting);
     }

@@ -81,7 +81,7 @@ module _ {A B : ChannelParts} (L : Alike A B) where
       first-same time room (p ∷ ps) =
           let gone = L .expire-on a b r time in
           let n : ByteCount = record { 0 = length (p .bytes) } in
-          cond-same (not (operational status)) (record { answer = refl; condition = related m gone })
+          cond-same (not (operational (k .codes) status)) (record { answer = refl; condition = related m gone })
           (cond-alike _ _ (ap not (L .fits-same x y m n)) (record { answer = refl; condition = related m gone })
           (λ f. let grown = L .grow-on x y m n (not-false _ f) in
           let c = L .carried-same _ _ grown in

@@ -10,7 +10,7 @@ use lib.Dec.{ltb}
 use borrow.Author.Tests.{lt-ltb, le-ltb}
 use Rattle.quantity.specs.declared.count.FlowSequence.{FlowSequence}
 use Rattle.meaning.specs.declared.message.Sequence.{Sequence}
-use Rattle.meaning.specs.StatusKinds.{Reported}
+use Rattle.meaning.specs.StatusKinds.{MaySend}
 use Rattle.meaning.proofs.StatusKinds.{operational-exactly}
 use Rattle.wire.specs.Numbers.{bytesOf}
 use Rattle.wire.specs.Options.{optionBytes, bytes}
@@ -94,10 +94,10 @@ module _ (P : ChannelParts) (k : Terms) (time room : ℕ) (st : Condition P) whe
     next-none-waits = next-nothing P k time room st t
 
     module _ (p : Packet) (ps : List Packet) (w : P .waiting (P .expire time (st .keeping)) ≡ p ∷ ps) where
-      pub next-down : (Reported 1 7 (st .status) → ⊥) → nextAt P k time room st ≡ keeps notOperational
-      next-down not = next-not-operational P k time room st t p ps w (false-unless _ (λ e. not (operational-exactly (st .status) .0 e)))
+      pub next-down : (MaySend (k .codes .0) (st .status) → ⊥) → nextAt P k time room st ≡ keeps notOperational
+      next-down not = next-not-operational P k time room st t p ps w (false-unless _ (λ e. not (operational-exactly (k .codes) (st .status) .0 e)))
 
-      module _ (up : Reported 1 7 (st .status)) where
+      module _ (up : MaySend (k .codes .0) (st .status)) where
         -- the first packet goes, with this Flow Sequence or none, and this is counted
         abbrev goes : Sequence → P .Counting → Result P Tried
         goes sequence counted = left P (sent (p .bytes) sequence) counted (P .send (P .expire time (st .keeping))) time st
@@ -107,11 +107,11 @@ module _ (P : ChannelParts) (k : Terms) (time room : ℕ) (st : Condition P) whe
           with-room : size ≤ room → size ≤ 65507 → nextAt P k time room st ≡ goes sequence counted
           with-room h i =
               rw (← carries, ← counts)
-              (next-sent P k time room st t p ps w (operational-exactly (st .status) .1 up) fits (rw (counts, carries, long) (room-is size room h i)))
+              (next-sent P k time room st t p ps w (operational-exactly (k .codes) (st .status) .1 up) fits (rw (counts, carries, long) (room-is size room h i)))
 
           without-room : (room < size) ⊎ (65507 < size) → nextAt P k time room st ≡ refusal P 18 st
           without-room h =
-              next-no-room P k time room st t p ps w (operational-exactly (st .status) .1 up) fits (rw (counts, carries, long) (room-not size room h))
+              next-no-room P k time room st t p ps w (operational-exactly (k .codes) (st .status) .1 up) fits (rw (counts, carries, long) (room-not size room h))
 
         -- free: any packet goes, if the output has 12 bytes more than it
         module _ (free : IsFree P (st .counting)) where
@@ -123,7 +123,7 @@ module _ (P : ChannelParts) (k : Terms) (time room : ℕ) (st : Condition P) whe
 
         -- no window: none goes
         pub next-no-window : IsShut P (st .counting) → nextAt P k time room st ≡ keeps windowShut
-        next-no-window none = next-shut P k time room st t p ps w (operational-exactly (st .status) .1 up) (none .stays _)
+        next-no-window none = next-shut P k time room st t p ps w (operational-exactly (k .codes) (st .status) .1 up) (none .stays _)
 
         -- under a window: a packet goes exactly when it may, if the output has 20 bytes more than it
         module _ (May : Type 0) (counted : P .Counting) (word : ℕ) (under : IsUnder P (st .counting) (length (p .bytes)) May counted word) where
@@ -136,4 +136,4 @@ module _ (P : ChannelParts) (k : Terms) (time room : ℕ) (st : Condition P) whe
 
           pub next-past : (May → ⊥) → nextAt P k time room st ≡ keeps windowShut
           next-past not =
-              next-shut P k time room st t p ps w (operational-exactly (st .status) .1 up) (false-unless _ (λ e. not (under .goes .0 e)))
+              next-shut P k time room st t p ps w (operational-exactly (k .codes) (st .status) .1 up) (false-unless _ (λ e. not (under .goes .0 e)))

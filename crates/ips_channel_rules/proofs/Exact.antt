@@ -72,12 +72,12 @@ module _ (P : ChannelParts) (k : Terms) where
 
       module _ (p : Packet) (ps : List Packet) (w : P .waiting (P .expire time (st .keeping)) ≡ p ∷ ps) where
         -- ".. not operational, .."
-        pub next-not-operational : operational (st .status) ≡ false
+        pub next-not-operational : operational (k .codes) (st .status) ≡ false
             → nextAt P k time room st ≡ left P notOperational (st .counting) (P .expire time (st .keeping)) time st
         unfolding nextAt tryFirst
         next-not-operational o = simp (le-ltb time (st .latest) t, w, o)
 
-        module _ (o : operational (st .status) ≡ true) where
+        module _ (o : operational (k .codes) (st .status) ≡ true) where
           -- ".. window shut."
           pub next-shut : P .fits (st .counting) (record { 0 = length (p .bytes) }) ≡ false
               → nextAt P k time room st ≡ left P windowShut (st .counting) (P .expire time (st .keeping)) time st

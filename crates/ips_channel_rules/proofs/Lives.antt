@@ -2,6 +2,7 @@
 use mathlib.Core.Path.{refl}
 use Rattle.quantity.specs.Distance.{distanceOf, fitsOf}
 use Rattle.quantity.specs.Window.{standingAt}
+use Rattle.meaning.specs.Statuses.{codeOperational}
 use Rattle.wire.specs.Numbers.{numberFrom, bytesOf}
 use Rattle.wire.specs.Options.{optionBytes, bytes}
 use Rattle.writer.specs.Written.{dataOptions, dataWritten}
@@ -13,9 +14,9 @@ use Rattle.ips_channel_rules.specs.Simple.{simple, freshSimple}
 use Rattle.ips_channel_rules.specs.Lives.{AllRight, table}
 
 pub lives-words : AllRight machine freshMachine table
-unfolding distanceOf fitsOf standingAt numberFrom bytesOf optionBytes bytes dataOptions dataWritten lasting joined isFull isIpv6 messageBytes offerAt tryFirst nextAt withdrawAt radioAt
+unfolding codeOperational distanceOf fitsOf standingAt numberFrom bytesOf optionBytes bytes dataOptions dataWritten lasting joined isFull isIpv6 messageBytes offerAt tryFirst nextAt withdrawAt radioAt
 lives-words = refl
 
 pub lives-simple : AllRight simple freshSimple table
-unfolding distanceOf fitsOf standingAt numberFrom bytesOf optionBytes bytes dataOptions dataWritten lasting joined isFull isIpv6 messageBytes offerAt tryFirst nextAt withdrawAt radioAt
+unfolding codeOperational distanceOf fitsOf standingAt numberFrom bytesOf optionBytes bytes dataOptions dataWritten lasting joined isFull isIpv6 messageBytes offerAt tryFirst nextAt withdrawAt radioAt
 lives-simple = refl

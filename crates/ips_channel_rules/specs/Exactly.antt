@@ -30,15 +30,15 @@ module _ (P : ChannelParts) (k : Terms) where
     asked-early : time < st .latest → Asked time room st (refusal P EARLIER-TIME st)
     asked-nothing : st .latest ≤ time → P .waiting (P .expire time (st .keeping)) ≡ []
         → Asked time room st (left P nothingWaiting (st .counting) (P .expire time (st .keeping)) time st)
-    asked-not-operational : {p : Packet} {ps : List Packet} → st .latest ≤ time → P .waiting (P .expire time (st .keeping)) ≡ p ∷ ps → operational (st .status) ≡ false
+    asked-not-operational : {p : Packet} {ps : List Packet} → st .latest ≤ time → P .waiting (P .expire time (st .keeping)) ≡ p ∷ ps → operational (k .codes) (st .status) ≡ false
         → Asked time room st (left P notOperational (st .counting) (P .expire time (st .keeping)) time st)
-    asked-shut : {p : Packet} {ps : List Packet} → st .latest ≤ time → P .waiting (P .expire time (st .keeping)) ≡ p ∷ ps → operational (st .status) ≡ true
+    asked-shut : {p : Packet} {ps : List Packet} → st .latest ≤ time → P .waiting (P .expire time (st .keeping)) ≡ p ∷ ps → operational (k .codes) (st .status) ≡ true
         → P .fits (st .counting) (record { 0 = length (p .bytes) }) ≡ false
         → Asked time room st (left P windowShut (st .counting) (P .expire time (st .keeping)) time st)
-    asked-no-room : {p : Packet} {ps : List Packet} → st .latest ≤ time → P .waiting (P .expire time (st .keeping)) ≡ p ∷ ps → operational (st .status) ≡ true
+    asked-no-room : {p : Packet} {ps : List Packet} → st .latest ≤ time → P .waiting (P .expire time (st .keeping)) ≡ p ∷ ps → operational (k .codes) (st .status) ≡ true
         → P .fits (st .counting) (record { 0 = length (p .bytes) }) ≡ true
         → noRoom (length (messageBytes k (P .carried (grown P (p .bytes) st)) (p .bytes))) room ≡ true → Asked time room st (refusal P NO-ROOM st)
-    asked-sent : {p : Packet} {ps : List Packet} → st .latest ≤ time → P .waiting (P .expire time (st .keeping)) ≡ p ∷ ps → operational (st .status) ≡ true
+    asked-sent : {p : Packet} {ps : List Packet} → st .latest ≤ time → P .waiting (P .expire time (st .keeping)) ≡ p ∷ ps → operational (k .codes) (st .status) ≡ true
         → P .fits (st .counting) (record { 0 = length (p .bytes) }) ≡ true
         → noRoom (length (messageBytes k (P .carried (grown P (p .bytes) st)) (p .bytes))) room ≡ false
         → Asked time room st (left P (sent (p .bytes) (P .carried (grown P (p .bytes) st))) (grown P (p .bytes) st) (P .send (P .expire time (st .keeping))) time st)

@@ -13,15 +13,18 @@ use Rattle.ips_channel_rules.specs.Rules.{offer, next, withdraw, Taken, 
 
 -- ---- a row, and when it is right
 
--- the life of a fresh channel, with a store of 1,500 bytes or of this length; of a flow-controlled one with its first sequence
+-- the life of a fresh channel, with a store of 1,500 bytes or of this length, under the default or with this setting of the statuses 8 to 15; of a flow-controlled
+-- one with its first sequence
 pub data Life : Type 0 where
   plain : List Happened → Life
   plainStoring : (size : ℕ) → List Happened → Life
+  plainUnder : (codes : ℕ) → List Happened → Life
   controlled : (first : ℕ) → List Happened → Life
 
 abbrev pub story : Life → List Happened
 story (plain happened) = happened
 story (plainStoring size happened) = happened
+story (plainUnder codes happened) = happened
 story (controlled first happened) = happened
 
 abbrev pub eventOf : Happened → Event
@@ -29,14 +32,15 @@ eventOf (called c answer) = call c
 eventOf (heard status window) = radio status window
 
 -- with the longest packet of the limits in force, so that the rows with 9,000 and 9,001 bytes pin it
-abbrev pub terms : Bool → (size : ℕ) → Terms
-terms isControlled size = record { datalink = record { 0 = 7 }; id = 3; controlled = isControlled; size = size; longest = LONGEST-PACKET }
+abbrev pub terms : Bool → (size codes : ℕ) → Terms
+terms isControlled size codes = record { datalink = record { 0 = 7 }; codes = record { 0 = codes }; id = 3; controlled = isControlled; size = size; longest = LONGEST-PACKET }
 
 -- the same events on a channel made of these parts, with the answers that the rules give
 abbrev pub lived : (P : ChannelParts) → (Bool → FlowSequence → Condition P) → Life → List Happened
-lived P fresh (plain happened) = history P (terms false 1500) (map eventOf happened) (fresh false (record { 0 = 0 }))
-lived P fresh (plainStoring size happened) = history P (terms false size) (map eventOf happened) (fresh false (record { 0 = 0 }))
-lived P fresh (controlled first happened) = history P (terms true 1500) (map eventOf happened) (fresh true (record { 0 = first }))
+lived P fresh (plain happened) = history P (terms false 1500 0) (map eventOf happened) (fresh false (record { 0 = 0 }))
+lived P fresh (plainStoring size happened) = history P (terms false size 0) (map eventOf happened) (fresh false (record { 0 = 0 }))
+lived P fresh (plainUnder codes happened) = history P (terms false 1500 codes) (map eventOf happened) (fresh false (record { 0 = 0 }))
+lived P fresh (controlled first happened) = history P (terms true 1500 0) (map eventOf happened) (fresh true (record { 0 = first }))
 
 -- the answers of every row are those that the rules give
 abbrev pub AllRight : (P : ChannelParts) → (Bool → FlowSequence → Condition P) → List Life → Type 0
@@ -184,6 +188,34 @@ table =
     ∷ heard statuses.Absent Window.Absent
     ∷ asks 0 100 down
     ∷ states 7 Window.Absent
+    ∷ asks 0 100 (went 41)
+    ∷ [])
+    -- "a setting that says, for each of 8 to 15, operational or not": 2 makes 9 operational, and no other of them
+    ∷ plainUnder 2
+    (offers (packetOf 40) 100 0 took
+    ∷ states 8 Window.Absent
+    ∷ asks 0 100 down
+    ∷ states 10 Window.Absent
+    ∷ asks 0 100 down
+    ∷ states 14 Window.Absent
+    ∷ asks 0 100 down
+    ∷ states 0 Window.Absent
+    ∷ asks 0 100 down
+    ∷ states 9 Window.Absent
+    ∷ asks 0 100 (went 40)
+    ∷ [])
+    -- with 255 all of 8 to 15 are; still not one that is not reported, nor 0 or 16
+    ∷ plainUnder 255
+    (offers (packetOf 40) 100 0 took
+    ∷ offers (packetOf 41) 100 0 took
+    ∷ asks 0 100 down
+    ∷ states 0 Window.Absent
+    ∷ asks 0 100 down
+    ∷ states 16 Window.Absent
+    ∷ asks 0 100 down
+    ∷ states 8 Window.Absent
+    ∷ asks 0 100 (went 40)
+    ∷ states 15 Window.Absent
     ∷ asks 0 100 (went 41)
     ∷ [])
     -- "tried in this order: nothing waiting, not operational, window shut", and 18 after them

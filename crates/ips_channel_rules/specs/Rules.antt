@@ -9,6 +9,7 @@ use Rattle.quantity.specs.declared.count.DatalinkId.{DatalinkId}
 use Rattle.quantity.specs.declared.count.ByteCount.{ByteCount}
 use Rattle.quantity.specs.Refusals.{NOT-IPV6, LONG-PACKET, EARLIER-TIME, EXPIRY-PAST, FULL, NO-ROOM}
 use Rattle.meaning.specs.declared.message.Status.{Status}
+use Rattle.meaning.specs.declared.status.StatusCodes.{StatusCodes}
 use Rattle.meaning.specs.declared.message.Sequence.{Sequence}
 use Rattle.meaning.specs.declared.message.Window.{Window}
 use Rattle.meaning.specs.declared.message.Counted.{Counted}
@@ -73,9 +74,10 @@ pub data Happened : Type 0 where
 abbrev pub silent : Happened
 silent = heard Status.Absent Window.Empty
 
--- ---- how a channel is configured, with its datalink and the longest packet that the endpoint takes
+-- ---- how a channel is configured, with its datalink's ID, the statuses that are operational there, and the longest packet that the endpoint takes
 pub record Terms : Type 0 where
   pub datalink : DatalinkId
+  pub codes : StatusCodes
   pub id : ℕ
   pub controlled : Bool
   pub size : ℕ
@@ -160,11 +162,12 @@ module _ (P : ChannelParts) where
         (left taken (st .counting) (P .join p (P .expire time (st .keeping))) time st)))))
 
     -- "a data message with the first waiting packet, if the status is 1 to 7 and the channel is free or the packet fits the window. The answers otherwise, tried
-    -- in this order: nothing waiting, not operational, window shut. .. Only the first waiting packet is tried."
+    -- in this order: nothing waiting, not operational, window shut. .. Only the first waiting packet is tried." Document 02: "Whether a status is operational now
+    -- depends on that setting, and all who ask must pass it."
     unfoldable pub tryFirst : (waiting : List Packet) (time room : ℕ) → Condition P → Result P Tried
     tryFirst [] time room st = left nothingWaiting (st .counting) (P .expire time (st .keeping)) time st
     tryFirst (p ∷ ps) time room st =
-        cond (not (operational (st .status))) (left notOperational (st .counting) (P .expire time (st .keeping)) time st)
+        cond (not (operational (k .codes) (st .status))) (left notOperational (st .counting) (P .expire time (st .keeping)) time st)
         (cond (not (P .fits (st .counting) (record { 0 = length (p .bytes) }))) (left windowShut (st .counting) (P .expire time (st .keeping)) time st)
         (cond (noRoom (length (messageBytes k (P .carried (grown (p .bytes) st)) (p .bytes))) room) (refusal NO-ROOM st)
         (left (sent (p .bytes) (P .carried (grown (p .bytes) st))) (grown (p .bytes) st) (P .send (P .expire time (st .keeping))) time st)))

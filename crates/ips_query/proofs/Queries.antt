@@ -162,7 +162,7 @@ put-nothing put absent none zero channel more = refl
 put-nothing put absent none (suc n) channel more = none channel _ ∙ put-nothing put absent none n (suc channel) more
 
 -- no statuses and no windows: the Datalink Identifier, and the Flow Sequences
-pub query-options : (s : State) → controlOptions (queryOf s) ≡ option DATALINK-IDENTIFIER (s .datalink .0 ∷ []) (tableThen sequenceAt 0 (sequencesOf (s .channels)) done)
+pub query-options : (s : State) → controlOptions (queryOf s) ≡ option DATALINK-IDENTIFIER (s .datalink .id .0 ∷ []) (tableThen sequenceAt 0 (sequencesOf (s .channels)) done)
 unfolding controlOptions queryOf
 query-options s =
     rw (put-nothing statusAt noStatus (λ n more. refl) CHANNEL-IDS 0 (tableThen sequenceAt 0 (sequencesOf (s .channels)) (tableThen windowAt 0 (replicate CHANNEL-IDS noWindow) done)), put-nothing windowAt noWindow (λ n more. refl) CHANNEL-IDS 0 done)
@@ -192,4 +192,4 @@ unfolding controlWritten bytes
 query-short s =
     let cells = sequencesOf (s .channels) in
     rw (query-options s)
-    (omega (arith, length-append (optionBytes DATALINK-IDENTIFIER (s .datalink .0 ∷ [])) (bytes (tableThen sequenceAt 0 cells done)), option-length DATALINK-IDENTIFIER (s .datalink .0 ∷ []), sequences-short cells 0 done, sequences-length (s .channels)))
+    (omega (arith, length-append (optionBytes DATALINK-IDENTIFIER (s .datalink .id .0 ∷ [])) (bytes (tableThen sequenceAt 0 cells done)), option-length DATALINK-IDENTIFIER (s .datalink .id .0 ∷ []), sequences-short cells 0 done, sequences-length (s .channels)))

@@ -28,7 +28,7 @@ sequencesOf cs = tabulate CHANNEL-IDS (λ id. record { sequence = sequenceFor id
 unfoldable pub queryOf : State → Control
 queryOf s =
     record {
-      datalink = Datalink.Given (s .datalink);
+      datalink = Datalink.Given (s .datalink .id);
       instance = instances.Absent;
       context = contexts.Absent;
       statuses = replicate CHANNEL-IDS (record { status = statuses.Absent });

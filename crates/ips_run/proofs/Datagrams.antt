@@ -37,9 +37,9 @@ module _ (k : Terms) (count index : ℕ) (inside : index < count) where
   pacer-one w st p (on id c) = pacer-called id c w (judged id c w)
   pacer-one w st p (radio time datagram) = rw (in-time-here k count index inside w st p time, ← (own-datalink k count index inside w st p)) (go (not (isEarlier time (w .state .pacer))))
     where
-      go : (t : Bool) → cond t (withState w (received time (receivedIn (w .state .datalink) datagram) (w .state))) w .state .pacer
-          ≡ cond t (pacerAfter time (receivedIn (w .state .datalink) datagram) (w .state .pacer)) (w .state .pacer)
-      go true = pacer-received time (receivedIn (w .state .datalink) datagram) (w .state)
+      go : (t : Bool) → cond t (withState w (received time (receivedIn (w .state .datalink .id) datagram) (w .state))) w .state .pacer
+          ≡ cond t (pacerAfter time (receivedIn (w .state .datalink .id) datagram) (w .state .pacer)) (w .state .pacer)
+      go true = pacer-received time (receivedIn (w .state .datalink .id) datagram) (w .state)
       go false = refl
   pacer-one w st p (pace time) = rw (in-time-here k count index inside w st p time) (go (not (isEarlier time (w .state .pacer))))
     where

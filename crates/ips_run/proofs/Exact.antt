@@ -160,7 +160,7 @@ module _ (datalink : DatalinkId) (datagram : List ℕ) where
       by-plane (PlaneAnswer.Refused refusal) e = refl
 
 module _ (w : World) (time : ℕ) (datagram : List ℕ) where
-  pub accepted-in-time : inTime time (w .state) ≡ true → acceptedBy (radio time datagram) w ≡ acceptedIn (w .state .datalink) datagram
+  pub accepted-in-time : inTime time (w .state) ≡ true → acceptedBy (radio time datagram) w ≡ acceptedIn (w .state .datalink .id) datagram
   unfolding acceptedUnder
   accepted-in-time e = rw e
 
@@ -168,7 +168,7 @@ module _ (w : World) (time : ℕ) (datagram : List ℕ) where
   unfolding acceptedUnder
   accepted-late e = rw e
 
-  pub received-in-time : inTime time (w .state) ≡ true → after (radio time datagram) w ≡ withState w (received time (receivedIn (w .state .datalink) datagram) (w .state))
+  pub received-in-time : inTime time (w .state) ≡ true → after (radio time datagram) w ≡ withState w (received time (receivedIn (w .state .datalink .id) datagram) (w .state))
   unfolding afterUnder
   received-in-time e = rw e
 
@@ -184,7 +184,7 @@ module _ (w : World) (time : ℕ) (datagram : List ℕ) where
   earlier-same e = late-same (rw (e, and-false (stateFits (w .state))))
 
   -- so does what reading refuses
-  pub dropped-same : receivedIn (w .state .datalink) datagram ≡ dropped → after (radio time datagram) w ≡ w
+  pub dropped-same : receivedIn (w .state .datalink .id) datagram ≡ dropped → after (radio time datagram) w ≡ w
   unfolding afterUnder
   dropped-same e = rw e (go (inTime time (w .state)))
     where

@@ -4,6 +4,7 @@ use mathlib.Core.Bool.{true}
 use mathlib.Core.List.{List, [], _∷_}
 use mathlib.Core.Path.{_≡_, refl}
 use native.Mathlib.Omega.{arith}
+use Rattle.meaning.specs.Statuses.{DEFAULT-CODES}
 use Rattle.ips_channel_rules.specs.Rules.{history}
 use Rattle.ips_channel_rules.specs.Simple.{simple}
 use Rattle.ips_state.specs.State.{ChannelStart, Configuration, startAt}
@@ -16,7 +17,7 @@ abbrev start : ℕ → ChannelStart
 start id = record { setting = record { id = id; controlled = true; size = record { 0 = 4096 } }; first = record { 0 = 4294967295 } }
 
 abbrev two : Configuration
-two = record { datalink = record { 0 = 1 }; hello = 5000; limit = 9000; starts = start 7 ∷ start 0 ∷ [] }
+two = record { datalink = record { id = record { 0 = 1 }; codes = DEFAULT-CODES }; hello = 5000; limit = 9000; starts = start 7 ∷ start 0 ∷ [] }
 
 two-fit : configurationTaken two ≡ true
 unfolding configurationFitsUnder startsFit startIds distinct

@@ -6,11 +6,11 @@ use mathlib.Core.Path.{_≡_, refl, ap, _∙_}
 use native.Mathlib.Omega.{arith}
 use borrow.Author.Tests.{eq-eqb}
 use lib.ListN.{length, take, drop, replicate, length-replicate}
-use Rattle.quantity.specs.declared.count.DatalinkId.{DatalinkId}
 use Rattle.store.specs.Waiting.{packetsOf, queueOf, cut}
 use Rattle.store.proofs.Held.{waiting-of}
 use Rattle.store.proofs.Changes.{cleared}
 use Rattle.ips_channel_rules.specs.Machine.{freshMachine}
+use Rattle.ips_channel.specs.declared.state.DatalinkSetting.{DatalinkSetting}
 use Rattle.ips_channel.specs.Channel.{termsOf, freshChannel}
 use Rattle.ips_channel_calls.proofs.Again.{fresh-condition}
 use Rattle.ips_state.specs.State.{ChannelStart, Configuration, channelAt, startAt, freshOf, freshState}
@@ -38,7 +38,7 @@ fresh-tidy : (x : ChannelStart) (store : List ℕ) → store ≡ zeros (x .setti
 unfolding freshChannel packetsOf cut
 fresh-tidy x store e = rw (waiting-of []) (cleared (x .setting .size .0) (queueOf []) store refl e)
 
-fresh-ruled : (datalink : DatalinkId) (x : ChannelStart) (store : List ℕ) → store ≡ zeros (x .setting .size .0)
+fresh-ruled : (datalink : DatalinkSetting) (x : ChannelStart) (store : List ℕ) → store ≡ zeros (x .setting .size .0)
     → AsRuled (termsOf datalink (x .setting)) datalink (freshOf x) store (freshMachine (x .setting .controlled) (x .first))
 unfolding freshChannel
 fresh-ruled datalink x store e = record { terms = refl; condition = fresh-condition (x .setting) (x .first) store; tidy = fresh-tidy x store e }

@@ -11,6 +11,7 @@ use Rattle.meaning.specs.declared.message.Instance.{Instance}
 use Rattle.meaning.specs.declared.message.Context.{Context}
 use Rattle.meaning.specs.declared.message.Control.{Control}
 use Rattle.ips_channel_rules.specs.Rules.{ChannelCall, Says}
+use Rattle.ips_channel.specs.declared.state.DatalinkSetting.{DatalinkSetting}
 use Rattle.ips_channel.specs.declared.state.Channel.{Channel}
 use Rattle.pacer.specs.declared.Pacer.{Pacer}
 use Rattle.pacer.specs.Pacing.{isSilent}
@@ -54,9 +55,9 @@ module _ {A : Type 0} (part : State → A) (gives : Control → List A) (hears :
   kept-after (on id c) w = kept-called id c w (judged id c w)
   kept-after (radio time datagram) w = go (inTime time (w .state))
     where
-      go : (t : Bool) → part (cond t (withState w (received time (receivedIn (w .state .datalink) datagram) (w .state))) w .state)
-          ≡ lastOr (part (w .state)) (givenIn gives (cond t (acceptedIn (w .state .datalink) datagram) []))
-      go true = kept-received time (receivedIn (w .state .datalink) datagram) (w .state)
+      go : (t : Bool) → part (cond t (withState w (received time (receivedIn (w .state .datalink .id) datagram) (w .state))) w .state)
+          ≡ lastOr (part (w .state)) (givenIn gives (cond t (acceptedIn (w .state .datalink .id) datagram) []))
+      go true = kept-received time (receivedIn (w .state .datalink .id) datagram) (w .state)
       go false = refl
   kept-after (pace time) w = go (inTime time (w .state))
     where
@@ -85,7 +86,22 @@ context-all = kept-all (λ s. s .context) (λ m. m .context ∷ []) (λ m s. ref
 pub no-gap : (cs : List Call) (w : World) → acceptedAll cs w ≡ [] → afterAll cs w .state .context ≡ w .state .context
 no-gap cs w none = context-all cs w ∙ rw none
 
+given-none : {A : Type 0} (ms : List Control) → givenIn {A = A} (λ m. []) ms ≡ []
+given-none [] = refl
+given-none (m ∷ ms) = given-none ms
+
+-- no call changes how the datalink is configured
+pub datalink-stays : (cs : List Call) (w : World) → afterAll cs w .state .datalink ≡ w .state .datalink
+unfolding heardBy withChannel withPacer silencedBy
+datalink-stays cs w =
+    kept-all (λ s. s .datalink) (λ m. []) (λ m s. refl) (λ s index c. refl) (λ s p. refl) (λ s. refl) cs w ∙ rw (given-none {A = DatalinkSetting} (acceptedAll cs w))
+
 module _ (k : Configuration) (cs : List Call) where
+  -- document 02, §6: the Datalink ID, and the setting of the statuses 8 to 15, "as part of the configuration", are those of the start, whatever is called
+  pub whole-datalink : reached k cs .state .datalink ≡ k .datalink
+  unfolding freshWorld freshState
+  whole-datalink = datalink-stays cs (freshWorld k)
+
   -- "Link Instance is kept when given."
   pub whole-instance : reached k cs .state .instance ≡ lastInstance (acceptedAll cs (freshWorld k))
   unfolding heardBy withChannel withPacer silencedBy freshWorld freshState

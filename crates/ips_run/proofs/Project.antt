@@ -43,7 +43,7 @@ module _ (k : Terms) (count index : ℕ) (inside : index < count) (w : World) (s
   own-id : channelIn w index .setting .id ≡ k .id
   own-id = ap (λ (x : Terms). x .id) (p .as-ruled .terms)
 
-  pub own-datalink : w .state .datalink ≡ k .datalink
+  pub own-datalink : w .state .datalink .id ≡ k .datalink
   own-datalink = ap (λ (x : Terms). x .datalink) (p .as-ruled .terms)
 
   -- its ID finds the channel
@@ -150,9 +150,9 @@ module _ (k : Terms) (count index : ℕ) (inside : index < count) (w : World) (s
   step-follows (on id c) b = any-call id c
   step-follows (radio time datagram) b = go (inTime time (w .state))
     where
-      go : (t : Bool) → Follows k count index (cond t (withState w (received time (receivedIn (w .state .datalink) datagram) (w .state))) w)
-          (map (partHeard (k .id)) (cond t (acceptedIn (w .state .datalink) datagram) [])) (map (partOf (k .id)) (cond t (acceptedIn (w .state .datalink) datagram) [])) st
-      go true = received-follows time (brings (w .state .datalink) datagram b)
+      go : (t : Bool) → Follows k count index (cond t (withState w (received time (receivedIn (w .state .datalink .id) datagram) (w .state))) w)
+          (map (partHeard (k .id)) (cond t (acceptedIn (w .state .datalink .id) datagram) [])) (map (partOf (k .id)) (cond t (acceptedIn (w .state .datalink .id) datagram) [])) st
+      go true = received-follows time (brings (w .state .datalink .id) datagram b)
       go false = unmoved
   step-follows (pace time) b = go (inTime time (w .state))
     where
@@ -180,9 +180,9 @@ module _ (k : Terms) (count index : ℕ) (inside : index < count) (w : World) (s
   untouched (on id c) unseen = call-untouched id c (unseen-other (k .id) id (rules.call c) unseen)
   untouched (radio time datagram) unseen = go (inTime time (w .state)) unseen
     where
-      go : (t : Bool) → map (partOf (k .id)) (cond t (acceptedIn (w .state .datalink) datagram) []) ≡ []
-          → Untouched index w (cond t (withState w (received time (receivedIn (w .state .datalink) datagram) (w .state))) w)
-      go true none = untouched-received time (receivedIn (w .state .datalink) datagram) none
+      go : (t : Bool) → map (partOf (k .id)) (cond t (acceptedIn (w .state .datalink .id) datagram) []) ≡ []
+          → Untouched index w (cond t (withState w (received time (receivedIn (w .state .datalink .id) datagram) (w .state))) w)
+      go true none = untouched-received time (receivedIn (w .state .datalink .id) datagram) none
       go false none = record { channel = refl; store = refl }
   untouched (pace time) unseen = go (inTime time (w .state)) unseen
     where

@@ -33,13 +33,13 @@ module _ (part : Pacer → ℕ) where
 
   module _ (time : ℕ) (w : World) where
     radio-part : (datagram : List ℕ) (times : Received → List ℕ) → ((r : Received) (s : State) → part (received time r s .pacer) ≡ lastOr (part (s .pacer)) (times r))
-        → part (after (radio time datagram) w .state .pacer) ≡ lastOr (part (w .state .pacer)) (cond (inTime time (w .state)) (times (receivedIn (w .state .datalink) datagram)) [])
+        → part (after (radio time datagram) w .state .pacer) ≡ lastOr (part (w .state .pacer)) (cond (inTime time (w .state)) (times (receivedIn (w .state .datalink .id) datagram)) [])
     unfolding afterUnder
     radio-part datagram times law = go (inTime time (w .state))
       where
-        go : (t : Bool) → part (cond t (withState w (received time (receivedIn (w .state .datalink) datagram) (w .state))) w .state .pacer)
-            ≡ lastOr (part (w .state .pacer)) (cond t (times (receivedIn (w .state .datalink) datagram)) [])
-        go true = law (receivedIn (w .state .datalink) datagram) (w .state)
+        go : (t : Bool) → part (cond t (withState w (received time (receivedIn (w .state .datalink .id) datagram) (w .state))) w .state .pacer)
+            ≡ lastOr (part (w .state .pacer)) (cond t (times (receivedIn (w .state .datalink .id) datagram)) [])
+        go true = law (receivedIn (w .state .datalink .id) datagram) (w .state)
         go false = refl
 
     pace-part : (times : List ℕ) → part (asked time (w .state .pacer)) ≡ lastOr (part (w .state .pacer)) times

@@ -130,7 +130,7 @@ module _ (k : Configuration) (fits : configurationTaken k ≡ true) where
       whole-untouched = untouched (ruled k index) (length (k .starts)) index inside (reached k cs) _ (follows cs bytes .ruled-in)
 
       -- what it saw is a matter of the calls alone
-      pub whole-sees : seen k index cs ≡ seesAllWithin (k .datalink) (freshPacer (k .hello) (k .limit)) (idAt k index) cs
+      pub whole-sees : seen k index cs ≡ seesAllWithin (k .datalink .id) (freshPacer (k .hello) (k .limit)) (idAt k index) cs
       unfolding freshWorld freshState
       whole-sees = sees-within (ruled k index) (length (k .starts)) index inside (idAt k index) cs bytes (freshWorld k) (freshAt k index) (fresh-in k fits index inside)
 
@@ -233,21 +233,21 @@ module _ (k : Configuration) (fits : configurationTaken k ≡ true) where
         let first = follows 0 primary cs bytes .ruled-in in
         record {
           order = first .order;
-          datalink = ap (λ (x : Terms). x .datalink) (first .as-ruled .terms);
+          datalink = ap (λ (x : Terms). record { id = x .datalink; codes = x .codes }) (first .as-ruled .terms);
           terms = λ index inside. follows index inside cs bytes .ruled-in .as-ruled .terms;
         }
 
     -- the pacer, and what was accepted, is a matter of the calls alone
-    pub whole-pacer : reached k cs .state .pacer ≡ pacerAllWithin (k .datalink) cs (freshPacer (k .hello) (k .limit))
+    pub whole-pacer : reached k cs .state .pacer ≡ pacerAllWithin (k .datalink .id) cs (freshPacer (k .hello) (k .limit))
     unfolding freshWorld freshState
     whole-pacer = pacer-within (ruled k 0) (length (k .starts)) 0 primary cs bytes (freshWorld k) (freshAt k 0) (fresh-in k fits 0 primary)
 
     -- and so is whether an ask then is a silence
-    pub whole-silent : (time : ℕ) → silentBy (pace time) (reached k cs) ≡ silentWithin (pacerAllWithin (k .datalink) cs (freshPacer (k .hello) (k .limit))) (pace time)
+    pub whole-silent : (time : ℕ) → silentBy (pace time) (reached k cs) ≡ silentWithin (pacerAllWithin (k .datalink .id) cs (freshPacer (k .hello) (k .limit))) (pace time)
     whole-silent time =
         silent-one (ruled k 0) (length (k .starts)) 0 primary (reached k cs) _ (follows 0 primary cs bytes .ruled-in) (pace time)
         ∙ ap (λ (p : Pacer). silentWithin p (pace time)) whole-pacer
 
-    pub whole-accepted : acceptedAll cs (freshWorld k) ≡ acceptedAllWithin (k .datalink) (freshPacer (k .hello) (k .limit)) cs
+    pub whole-accepted : acceptedAll cs (freshWorld k) ≡ acceptedAllWithin (k .datalink .id) (freshPacer (k .hello) (k .limit)) cs
     unfolding freshWorld freshState
     whole-accepted = accepted-within (ruled k 0) (length (k .starts)) 0 primary cs bytes (freshWorld k) (freshAt k 0) (fresh-in k fits 0 primary)

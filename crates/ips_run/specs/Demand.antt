@@ -4,12 +4,12 @@ use mathlib.Core.Bool.{true, false}
 use mathlib.Core.List.{List, [], _∷_}
 use mathlib.Core.Path.{_≡_}
 use lib.ListN.{length}
-use Rattle.quantity.specs.declared.count.DatalinkId.{DatalinkId}
 use Rattle.wire.specs.Numbers.{Octets}
 use Rattle.store.specs.Waiting.{Holds, packetsOf}
 use Rattle.ips_channel_rules.specs.Rules.{Event, Happened, Terms, Condition, history, final}
 use Rattle.ips_channel_rules.specs.Machine.{machine, freshMachine}
 use Rattle.ips_channel_rules.specs.Simple.{simple, freshSimple}
+use Rattle.ips_channel.specs.declared.state.DatalinkSetting.{DatalinkSetting}
 use Rattle.ips_channel.specs.declared.state.Channel.{Channel}
 use Rattle.ips_channel.specs.Channel.{termsOf, conditionOf}
 use Rattle.ips_state.specs.State.{Configuration, startAt}
@@ -80,7 +80,7 @@ abbrev pub TidyIn : World → ℕ → Type 0
 TidyIn w index = Tidy (channelIn w index) (storeIn w index)
 
 -- ---- one channel and its store: configured so, in such a condition
-pub record AsRuled (k : Terms) (datalink : DatalinkId) (c : Channel) (store : List ℕ) (st : Condition machine) : Type 0 where
+pub record AsRuled (k : Terms) (datalink : DatalinkSetting) (c : Channel) (store : List ℕ) (st : Condition machine) : Type 0 where
   pub terms : termsOf datalink (c .setting) ≡ k
   pub condition : conditionOf c store ≡ st
   pub tidy : Tidy c store

@@ -71,7 +71,7 @@ inTime time s = inTimeUnder CURRENT-LIMITS time s
 -- "A radio message handed in": 19, 21, then "as for reading"
 unfoldable pub acceptedUnder : Limits → Call → World → List Control
 acceptedUnder limits (on id c) w = []
-acceptedUnder limits (radio time datagram) w = cond (inTimeUnder limits time (w .state)) (acceptedIn (w .state .datalink) datagram) []
+acceptedUnder limits (radio time datagram) w = cond (inTimeUnder limits time (w .state)) (acceptedIn (w .state .datalink .id) datagram) []
 acceptedUnder limits (pace time) w = []
 acceptedUnder limits (query out) w = []
 
@@ -111,7 +111,7 @@ withState w s = record { state = s; memory = w .memory }
 unfoldable pub afterUnder : Limits → Call → World → World
 afterUnder limits (on id c) w = callingUnder limits id c w .world
 afterUnder limits (radio time datagram) w =
-    cond (inTimeUnder limits time (w .state)) (withState w (received time (receivedIn (w .state .datalink) datagram) (w .state))) w
+    cond (inTimeUnder limits time (w .state)) (withState w (received time (receivedIn (w .state .datalink .id) datagram) (w .state))) w
 afterUnder limits (pace time) w = cond (inTimeUnder limits time (w .state)) (withState w (pacedBy time (w .state))) w
 afterUnder limits (query out) w = w
 

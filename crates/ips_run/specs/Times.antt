@@ -14,7 +14,7 @@ whenTaken time (stated message) = time ∷ []
 
 unfoldable pub takenTimes : Call → World → List ℕ
 takenTimes (on id c) w = []
-takenTimes (radio time datagram) w = cond (inTime time (w .state)) (whenTaken time (receivedIn (w .state .datalink) datagram)) []
+takenTimes (radio time datagram) w = cond (inTime time (w .state)) (whenTaken time (receivedIn (w .state .datalink .id) datagram)) []
 takenTimes (pace time) w = cond (inTime time (w .state)) (time ∷ []) []
 takenTimes (query out) w = []
 
@@ -33,7 +33,7 @@ whenStated time (stated message) = time ∷ []
 
 unfoldable pub heardTimes : Call → World → List ℕ
 heardTimes (on id c) w = []
-heardTimes (radio time datagram) w = cond (inTime time (w .state)) (whenStated time (receivedIn (w .state .datalink) datagram)) []
+heardTimes (radio time datagram) w = cond (inTime time (w .state)) (whenStated time (receivedIn (w .state .datalink .id) datagram)) []
 heardTimes (pace time) w = []
 heardTimes (query out) w = []
 

@@ -3,15 +3,15 @@ use Prim.Native.Nat.{ℕ}
 use mathlib.Core.Bool.{false}
 use mathlib.Core.List.{List, [], map}
 use lib.ListN.{set, getD}
-use Rattle.quantity.specs.declared.count.DatalinkId.{DatalinkId}
 use Rattle.quantity.specs.declared.count.FlowSequence.{FlowSequence}
 use Rattle.meaning.specs.declared.message.Instance.{Instance}
 use Rattle.meaning.specs.declared.message.Context.{Context}
 use Rattle.meaning.specs.declared.message.Status.the-variants as statuses
 use Rattle.flow.specs.declared.Flow.{Flow}
+use Rattle.ips_channel.specs.declared.state.DatalinkSetting.{DatalinkSetting}
 use Rattle.ips_channel.specs.declared.state.Setting.{Setting}
 use Rattle.ips_channel.specs.declared.state.Channel.{Channel}
-use Rattle.ips_channel.specs.Channel.{freshChannel}
+use Rattle.ips_channel.specs.Channel.{noDatalink, freshChannel}
 use Rattle.pacer.specs.declared.Pacer.{Pacer}
 use Rattle.pacer.specs.Pacing.{freshPacer}
 
@@ -20,17 +20,17 @@ pub record ChannelStart : Type 0 where
   pub setting : Setting
   pub first : FlowSequence
 
--- what a fresh start is given: the Datalink ID, HelloTime and silence limit, its channels in configuration order
+-- what a fresh start is given: the datalink's ID with its setting of the statuses 8 to 15, HelloTime and silence limit, its channels in configuration order
 pub record Configuration : Type 0 where
-  pub datalink : DatalinkId
+  pub datalink : DatalinkSetting
   pub hello : ℕ
   pub limit : ℕ
   pub starts : List ChannelStart
 
--- the channels in configuration order, as their stores stand in the lent memory; the Link Instance as last given, the Context of the control message accepted just before;
+-- the datalink as it is configured; the channels in configuration order, as their stores stand in the lent memory; the Link Instance as last given, the Context of the control message accepted just before;
 -- the pacer with its clock
 pub record State : Type 0 where
-  pub datalink : DatalinkId
+  pub datalink : DatalinkSetting
   pub channels : List Channel
   pub instance : Instance
   pub context : Context
@@ -67,7 +67,7 @@ freshState k = record { datalink = k .datalink; channels = map freshOf (k .start
 
 -- ---- no channel at all, which every call refuses
 unfoldable pub blankState : State
-blankState = record { datalink = record { 0 = 0 }; channels = []; instance = Instance.Absent; context = Context.Absent; pacer = freshPacer 0 0 }
+blankState = record { datalink = noDatalink; channels = []; instance = Instance.Absent; context = Context.Absent; pacer = freshPacer 0 0 }
 
 unfoldable pub blankConfiguration : Configuration
-blankConfiguration = record { datalink = record { 0 = 0 }; hello = 0; limit = 0; starts = [] }
+blankConfiguration = record { datalink = noDatalink; hello = 0; limit = 0; starts = [] }

@@ -10,7 +10,7 @@ use Rattle.facts.specs.Tables.{tabulate}
 use Rattle.pacer.specs.declared.Pacer.{Pacer}
 use Rattle.ips_state.specs.State.{State, withPacer}
 use Rattle.ips_state.specs.Limits.{stateFits}
-use Rattle.ips_words.specs.Words.{HEAD, DATALINK-WORD, COUNT-WORD, INSTANCE-TAG, INSTANCE-VALUE, INSTANCE-LENGTH, CONTEXT-TAG, CONTEXT-VALUE, CONTEXT-LENGTH, HELLO-WORD, LIMIT-WORD, CLOCK-WORD, HEARD-WORD, word, slot, slotStart, channelIn, pacerIn, stateOf, readable, stateIn, putPacer}
+use Rattle.ips_words.specs.Words.{HEAD, DATALINK-WORD, COUNT-WORD, INSTANCE-TAG, INSTANCE-VALUE, INSTANCE-LENGTH, CONTEXT-TAG, CONTEXT-VALUE, CONTEXT-LENGTH, HELLO-WORD, LIMIT-WORD, CLOCK-WORD, HEARD-WORD, CODES-WORD, word, slot, slotStart, channelIn, pacerIn, stateOf, readable, stateIn, putPacer}
 use Rattle.ips_words.proofs.Whole.{Readable, readable-facts, readable-by, says, fit-readable}
 
 -- ---- three of the endpoint's own words, one behind another
@@ -70,7 +70,7 @@ module _ (words : List ℕ) (p : Pacer) where
     pub paced-state : stateOf (putPacer words p) ≡ withPacer (stateOf words) p
     unfolding stateOf withPacer
     paced-state =
-        rw (paced-pacer, paced-before DATALINK-WORD (omega arith), paced-before COUNT-WORD (omega arith), paced-before INSTANCE-TAG (omega arith), paced-before INSTANCE-VALUE (omega arith), paced-before INSTANCE-LENGTH (omega arith), paced-before CONTEXT-TAG (omega arith), paced-before CONTEXT-VALUE (omega arith), paced-before CONTEXT-LENGTH (omega arith), channels-paced (word words COUNT-WORD))
+        rw (paced-pacer, paced-before DATALINK-WORD (omega arith), paced-before COUNT-WORD (omega arith), paced-before INSTANCE-TAG (omega arith), paced-before INSTANCE-VALUE (omega arith), paced-before INSTANCE-LENGTH (omega arith), paced-before CONTEXT-TAG (omega arith), paced-before CONTEXT-VALUE (omega arith), paced-before CONTEXT-LENGTH (omega arith), paced-behind CODES-WORD (omega arith), channels-paced (word words COUNT-WORD))
 
   -- ---- and readable words stay so
   module _ (e : readable words ≡ true) where
@@ -80,7 +80,7 @@ module _ (words : List ℕ) (p : Pacer) where
     pub paced-readable : readable (putPacer words p) ≡ true
     paced-readable = readable-by (putPacer words p) (record {
       long = paced-length ∙ facts .long ∙ rw (paced-before COUNT-WORD (omega arith));
-      head = record { datalink = rw (paced-before DATALINK-WORD (omega arith)) (facts .head .datalink); instance = rw (paced-before INSTANCE-TAG (omega arith)) (facts .head .instance); context = rw (paced-before CONTEXT-TAG (omega arith)) (facts .head .context) };
+      head = record { datalink = rw (paced-before DATALINK-WORD (omega arith)) (facts .head .datalink); instance = rw (paced-before INSTANCE-TAG (omega arith)) (facts .head .instance); context = rw (paced-before CONTEXT-TAG (omega arith)) (facts .head .context); codes = rw (paced-behind CODES-WORD (omega arith)) (facts .head .codes) };
       each = λ i h. rw (paced-slot i) (facts .each i (rw (paced-before COUNT-WORD (omega arith)) at h));
     })
 

@@ -19,7 +19,7 @@ use Rattle.ips_state.specs.State.{State, noChannel, channelAt, withChannel, bla
 use Rattle.ips_state.specs.Limits.{stateFits}
 use Rattle.ips_state.proofs.Channels.{same-or-not, ChannelFit}
 use Rattle.ips_state.proofs.Places.{front-long, changed-length, changed-here, changed-before, changed-behind, apart, blank-unfit, channel-fitting-at}
-use Rattle.ips_words.specs.Words.{HEAD, SLOT, SIZE, DATALINK-WORD, COUNT-WORD, INSTANCE-TAG, INSTANCE-VALUE, INSTANCE-LENGTH, CONTEXT-TAG, CONTEXT-VALUE, CONTEXT-LENGTH, HELLO-WORD, LIMIT-WORD, CLOCK-WORD, DUE-WORD, HEARD-WORD, GIVEN, wordsFor, word, slot, slotStart, queueIn, channelIn, channelWords, stateOf, spelled, allSpelled, headSpelled, readable, stateIn, putSlot, putChannel, Loadable, Tidy, Narrow}
+use Rattle.ips_words.specs.Words.{HEAD, SLOT, SIZE, DATALINK-WORD, COUNT-WORD, INSTANCE-TAG, INSTANCE-VALUE, INSTANCE-LENGTH, CONTEXT-TAG, CONTEXT-VALUE, CONTEXT-LENGTH, HELLO-WORD, LIMIT-WORD, CLOCK-WORD, DUE-WORD, HEARD-WORD, CODES-WORD, GIVEN, wordsFor, word, slot, slotStart, queueIn, channelIn, channelWords, stateOf, spelled, allSpelled, headSpelled, readable, stateIn, putSlot, putChannel, Loadable, Tidy, Narrow}
 use Rattle.ips_words.proofs.Slots.{channel-length, channel-back, words-spelled}
 
 -- ---- the channels that words say
@@ -81,7 +81,7 @@ module _ (words : List ℕ) (index : ℕ) (room : slotStart index + SLOT ≤ len
   pub slot-put-state : stateOf (putSlot words index part) ≡ withChannel (stateOf words) index (channelIn part)
   unfolding stateOf withChannel
   slot-put-state =
-      rw (slot-put-head DATALINK-WORD (omega arith), slot-put-head COUNT-WORD (omega arith), slot-put-head INSTANCE-TAG (omega arith), slot-put-head INSTANCE-VALUE (omega arith), slot-put-head INSTANCE-LENGTH (omega arith), slot-put-head CONTEXT-TAG (omega arith), slot-put-head CONTEXT-VALUE (omega arith), slot-put-head CONTEXT-LENGTH (omega arith), slot-put-head HELLO-WORD (omega arith), slot-put-head LIMIT-WORD (omega arith), slot-put-head CLOCK-WORD (omega arith), slot-put-head DUE-WORD (omega arith), slot-put-head HEARD-WORD (omega arith), channels-put (word words COUNT-WORD))
+      rw (slot-put-head DATALINK-WORD (omega arith), slot-put-head COUNT-WORD (omega arith), slot-put-head INSTANCE-TAG (omega arith), slot-put-head INSTANCE-VALUE (omega arith), slot-put-head INSTANCE-LENGTH (omega arith), slot-put-head CONTEXT-TAG (omega arith), slot-put-head CONTEXT-VALUE (omega arith), slot-put-head CONTEXT-LENGTH (omega arith), slot-put-head HELLO-WORD (omega arith), slot-put-head LIMIT-WORD (omega arith), slot-put-head CLOCK-WORD (omega arith), slot-put-head DUE-WORD (omega arith), slot-put-head HEARD-WORD (omega arith), slot-put-head CODES-WORD (omega arith), channels-put (word words COUNT-WORD))
 
 -- ---- the parts of `readable`, as facts
 pub all-spelled-at : (words : List ℕ) (n : ℕ) → allSpelled words n ≡ true → (i : ℕ) → i < n → spelled (slot words i) ≡ true
@@ -100,17 +100,19 @@ pub record HeadSpelled (words : List ℕ) : Type 0 where
   pub datalink : word words DATALINK-WORD < 256
   pub instance : word words INSTANCE-TAG ≤ GIVEN
   pub context : word words CONTEXT-TAG ≤ GIVEN
+  pub codes : word words CODES-WORD < 256
 
 pub head-facts : (words : List ℕ) → headSpelled words ≡ true → HeadSpelled words
 unfolding headSpelled
 head-facts words e =
     let a = and-eq-true-iff (ltb (word words DATALINK-WORD) 256) _ .0 e in
     let b = and-eq-true-iff (leb (word words INSTANCE-TAG) GIVEN) _ .0 (a .1) in
-    record { datalink = ltb-true _ _ (a .0); instance = leb-true _ _ (b .0); context = leb-true _ _ (b .1) }
+    let c = and-eq-true-iff (leb (word words CONTEXT-TAG) GIVEN) _ .0 (b .1) in
+    record { datalink = ltb-true _ _ (a .0); instance = leb-true _ _ (b .0); context = leb-true _ _ (c .0); codes = ltb-true _ _ (c .1) }
 
 pub head-by : (words : List ℕ) → HeadSpelled words → headSpelled words ≡ true
 unfolding headSpelled
-head-by words h = rw (lt-ltb _ _ (h .datalink), le-leb _ _ (h .instance), le-leb _ _ (h .context))
+head-by words h = rw (lt-ltb _ _ (h .datalink), le-leb _ _ (h .instance), le-leb _ _ (h .context), lt-ltb _ _ (h .codes))
 
 pub record Readable (words : List ℕ) : Type 0 where
   pub long : length words ≡ wordsFor (word words COUNT-WORD)
@@ -169,7 +171,7 @@ module _ (words : List ℕ) (e : readable words ≡ true) (index : ℕ) (inside 
   pub slot-put-readable : readable (putSlot words index part) ≡ true
   slot-put-readable = readable-by (putSlot words index part) (record {
     long = slot-put-length words index room part long ∙ facts .long ∙ ap wordsFor (sym (head COUNT-WORD (omega arith)));
-    head = record { datalink = rw (head DATALINK-WORD (omega arith)) (facts .head .datalink); instance = rw (head INSTANCE-TAG (omega arith)) (facts .head .instance); context = rw (head CONTEXT-TAG (omega arith)) (facts .head .context) };
+    head = record { datalink = rw (head DATALINK-WORD (omega arith)) (facts .head .datalink); instance = rw (head INSTANCE-TAG (omega arith)) (facts .head .instance); context = rw (head CONTEXT-TAG (omega arith)) (facts .head .context); codes = rw (head CODES-WORD (omega arith)) (facts .head .codes) };
     each = each;
   })
     where

@@ -21,7 +21,7 @@ use Rattle.ips_state.specs.State.{State, blankState}
 
 -- ---- the endpoint's own words
 abbrev pub HEAD : ℕ
-HEAD = 13
+HEAD = 14
 
 abbrev pub DATALINK-WORD : ℕ
 DATALINK-WORD = 0
@@ -62,6 +62,10 @@ DUE-WORD = 11
 
 abbrev pub HEARD-WORD : ℕ
 HEARD-WORD = 12
+
+-- the datalink's setting of the statuses 8 to 15
+abbrev pub CODES-WORD : ℕ
+CODES-WORD = 13
 
 -- ---- a channel's words: those before what waits, what one waiting packet takes, all of them
 abbrev pub FIXED : ℕ
@@ -181,7 +185,7 @@ pacerIn words = record { hello = word words HELLO-WORD; limit = word words LIMIT
 -- ---- the state, of as many channels as the words count
 unfoldable pub stateOf : List ℕ → State
 stateOf words = record {
-  datalink = record { 0 = word words DATALINK-WORD };
+  datalink = record { id = record { 0 = word words DATALINK-WORD }; codes = record { 0 = word words CODES-WORD } };
   channels = tabulate (word words COUNT-WORD) (λ index. channelIn (slot words index));
   instance = instanceOf (word words INSTANCE-TAG) (word words INSTANCE-VALUE) (word words INSTANCE-LENGTH);
   context = contextOf (word words CONTEXT-TAG) (word words CONTEXT-VALUE) (word words CONTEXT-LENGTH);
@@ -200,7 +204,8 @@ allSpelled words zero = true
 allSpelled words (suc n) = allSpelled words n && spelled (slot words n)
 
 unfoldable pub headSpelled : List ℕ → Bool
-headSpelled words = ltb (word words DATALINK-WORD) 256 && (leb (word words INSTANCE-TAG) GIVEN && leb (word words CONTEXT-TAG) GIVEN)
+headSpelled words =
+    ltb (word words DATALINK-WORD) 256 && (leb (word words INSTANCE-TAG) GIVEN && (leb (word words CONTEXT-TAG) GIVEN && ltb (word words CODES-WORD) 256))
 
 unfoldable pub readable : List ℕ → Bool
 readable words = eqb (length words) (wordsFor (word words COUNT-WORD)) && (headSpelled words && allSpelled words (word words COUNT-WORD))

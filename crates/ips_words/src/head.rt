@@ -1,10 +1,11 @@
-// The endpoint's own words: Datalink ID, Link Instance, Context and the pacer.
+// The endpoint's own words: the datalink's setting, Link Instance, Context and the pacer.
 ghost use mathlib.Core.Path.{_≡_};
 ghost use Prim.Native.Nat.{_≤_, _<_};
 ghost use lib.ListN.{length};
-ghost use Rattle.ips_words.specs.Words.{HEAD, DATALINK-WORD, word, instanceOf, contextOf, stateOf, putPacer};
+ghost use Rattle.ips_words.specs.Words.{HEAD, DATALINK-WORD, CODES-WORD, word, instanceOf, contextOf, stateOf, putPacer};
 use crate::layout::ABSENT;
 use crate::layout::CLOCK_WORD;
+use crate::layout::CODES_WORD;
 use crate::layout::CONTEXT_LENGTH;
 use crate::layout::CONTEXT_TAG;
 use crate::layout::CONTEXT_VALUE;
@@ -18,18 +19,31 @@ use crate::layout::INSTANCE_VALUE;
 use crate::layout::LIMIT_WORD;
 use crate::slot;
 use crate::waiting;
+use ips_channel::state::DatalinkSetting;
 use meaning::message::Context;
 use meaning::message::ContextBytes;
 use meaning::message::Instance;
+use meaning::status::StatusCodes;
 use pacer::Pacer;
 use quantity::count::DatalinkId;
 use quantity::count::LinkInstanceId;
 
 pub fn datalink(words: &[u64]) -> DatalinkId
     requires { ⌜ (HEAD ≤ length (now words)) × (word (now words) DATALINK-WORD < 256) ⌝ }
-    ensures { λ r. ⌜ r ≡ stateOf (now (words .entry)) .datalink ⌝ }
+    ensures { λ r. ⌜ r ≡ stateOf (now (words .entry)) .datalink .id ⌝ }
 {
     DatalinkId(slot::byte(words[DATALINK_WORD]))
+}
+
+// How the datalink is configured: its ID, and which of the statuses 8 to 15 are operational.
+pub fn setting(words: &[u64]) -> DatalinkSetting
+    requires { ⌜ (HEAD ≤ length (now words)) × (word (now words) DATALINK-WORD < 256) × (word (now words) CODES-WORD < 256) ⌝ }
+    ensures { λ r. ⌜ r ≡ stateOf (now (words .entry)) .datalink ⌝ }
+{
+    DatalinkSetting {
+        id: datalink(words),
+        codes: StatusCodes(slot::byte(words[CODES_WORD])),
+    }
 }
 
 fn instance_of(tag: u64, value: u64, size: u64) -> Instance

@@ -2,7 +2,7 @@
 use quantity::limit::MOST_WAITING;
 
 // The endpoint's own words, before those of the channels.
-pub const HEAD: usize = 13;
+pub const HEAD: usize = 14;
 
 pub const DATALINK_WORD: usize = 0;
 
@@ -30,6 +30,9 @@ pub const CLOCK_WORD: usize = 10;
 pub const DUE_WORD: usize = 11;
 
 pub const HEARD_WORD: usize = 12;
+
+// Which of the statuses 8 to 15 are operational, as configured.
+pub const CODES_WORD: usize = 13;
 
 // A channel's words before those of what waits, what one waiting packet takes, and all of them.
 pub const FIXED: usize = 10;

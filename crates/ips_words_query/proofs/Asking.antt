@@ -48,11 +48,11 @@ module _ (s : State) (fits : stateFits s ≡ true) (index : ℕ) (inside : index
     }
 
 -- ---- THE QUERY'S BYTES are the header, the Datalink Identifier, and the Flow Sequences by rising Channel ID
-pub query-is : (s : State) (contents : List ℕ) → FlowSequences (s .channels) contents → controlWritten (queryOf s) ≡ queryWritten (s .datalink .0) contents
+pub query-is : (s : State) (contents : List ℕ) → FlowSequences (s .channels) contents → controlWritten (queryOf s) ≡ queryWritten (s .datalink .id .0) contents
 unfolding controlWritten queryWritten sequencesOf
 query-is s contents f =
     ap (λ (options : Options). CONTROL-HEADER ∷ bytes options)
     (query-options s
-    ∙ ap (option DATALINK-IDENTIFIER (s .datalink .0 ∷ []))
+    ∙ ap (option DATALINK-IDENTIFIER (s .datalink .id .0 ∷ []))
     (laid-same CHANNEL-IDS 0 (λ id. record { sequence = sequenceFor id (s .channels) }) done contents refl
     (λ id. let z : 0 + id ≡ id = omega arith in rw z (sym (f .stated id))) (f .rising)))

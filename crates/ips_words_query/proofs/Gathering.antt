@@ -14,7 +14,7 @@ use Rattle.ips_state.specs.State.{channelAt}
 use Rattle.ips_state.specs.Limits.{stateFits}
 use Rattle.ips_state.proofs.Places.{fit}
 use Rattle.ips_query.proofs.Queries.{id-inside}
-use Rattle.ips_words.specs.Words.{HEAD, SLOT, DATALINK-WORD, COUNT-WORD, CONTROLLED, ID, KIND, SEQUENCE, word, slot, slotStart, channelIn, stateOf, stateIn}
+use Rattle.ips_words.specs.Words.{HEAD, SLOT, DATALINK-WORD, CODES-WORD, COUNT-WORD, CONTROLLED, ID, KIND, SEQUENCE, word, slot, slotStart, channelIn, stateOf, stateIn}
 use Rattle.ips_words.proofs.Slots.{spelled-facts}
 use Rattle.ips_words.proofs.Whole.{slot-word, readable-facts, says, fit-readable, fit-count, fit-room, fit-channel, fit-loadable}
 use Rattle.ips_words_query.specs.Rising.{COUNT-VALUES, contentOf, FlowSequences, Gathered, inserted}
@@ -31,7 +31,10 @@ module _ (words : List ℕ) (fits : stateFits (stateIn words) ≡ true) where
   pub said-head : (HEAD ≤ length words) × (word words DATALINK-WORD < 256)
   said-head = (omega (arith, said-long), readable-facts words (fit-readable words fits) .head .datalink)
 
-  pub said-datalink : {datalink : DatalinkId} → datalink ≡ stateOf words .datalink → datalink ≡ stateIn words .datalink
+  pub said-setting : (HEAD ≤ length words) × (word words DATALINK-WORD < 256) × (word words CODES-WORD < 256)
+  said-setting = (said-head .0, said-head .1, readable-facts words (fit-readable words fits) .head .codes)
+
+  pub said-datalink : {datalink : DatalinkId} → datalink ≡ stateOf words .datalink .id → datalink ≡ stateIn words .datalink .id
   said-datalink e = rw (says words (fit-readable words fits)) e
 
 -- ---- the loop: the channels before an index are gathered

@@ -17,17 +17,17 @@ use Rattle.ips_words_query.proofs.Laying.{query-length}
 use Rattle.ips_words_query.proofs.Asking.{query-is}
 
 module _ (s : State) (contents out : List ℕ) (count : ℕ) (g : Gathered (s .channels) contents count) where
-  bytes-are : controlWritten (queryOf s) ≡ queryWritten (s .datalink .0) (take count contents)
+  bytes-are : controlWritten (queryOf s) ≡ queryWritten (s .datalink .id .0) (take count contents)
   bytes-are = query-is s (take count contents) (g .sequences)
 
   -- where 18 is judged: what is to be written is always allowed
   pub query-judged : {size : ℕ} {full : Bool} → size ≡ querySize count → full ≡ noRoom size (length out) → Judged true (controlWritten (queryOf s)) out full
   query-judged {size} e f =
-      let long : length (controlWritten (queryOf s)) ≡ size = ap length bytes-are ∙ query-length (s .datalink .0) (take count contents) ∙ ap querySize (g .long) ∙ sym e in
+      let long : length (controlWritten (queryOf s)) ≡ size = ap length bytes-are ∙ query-length (s .datalink .id .0) (take count contents) ∙ ap querySize (g .long) ∙ sym e in
       record { yes = refl; room-is = ap (λ (n : ℕ). noRoom n (length out)) long ∙ sym f }
 
   -- the contents are lent up to the count, with the Datalink ID
-  module _ {full : Bool} (j : Judged true (controlWritten (queryOf s)) out full) (no : full ≡ false) (datalink : DatalinkId) (same : datalink ≡ s .datalink) where
+  module _ {full : Bool} (j : Judged true (controlWritten (queryOf s)) out full) (no : full ≡ false) (datalink : DatalinkId) (same : datalink ≡ s .datalink .id) where
     lent : controlWritten (queryOf s) ≡ queryWritten (datalink .0) (take (count - 0) contents)
     lent = let z : count - 0 ≡ count = omega arith in rw (z, same) bytes-are
 

@@ -123,15 +123,15 @@ module _ (time : ℕ) (words memory : List ℕ) where
   in-time-fits e = and-eq-true-iff (stateFits (stateIn words)) _ .0 e .0
 
   pub radio-in : (datagram : List ℕ) → Octets datagram
-      → stateIn (cond (inTime time (stateIn words)) (receivedWords time (receivedIn (stateIn words .datalink) datagram) words) words) ≡ after (radio time datagram) world .state
+      → stateIn (cond (inTime time (stateIn words)) (receivedWords time (receivedIn (stateIn words .datalink .id) datagram) words) words) ≡ after (radio time datagram) world .state
   unfolding afterUnder
   radio-in datagram octets = go (inTime time (stateIn words)) refl
     where
       r : Received
-      r = receivedIn (stateIn words .datalink) datagram
+      r = receivedIn (stateIn words .datalink .id) datagram
 
       go : (b : Bool) → inTime time (stateIn words) ≡ b → stateIn (cond b (receivedWords time r words) words) ≡ cond b (withState world (received time r (stateIn words))) world .state
-      go true e = received-in time words (in-time-fits e) (received-slender (stateIn words .datalink) datagram octets)
+      go true e = received-in time words (in-time-fits e) (received-slender (stateIn words .datalink .id) datagram octets)
       go false e = refl
 
   pub pace-in : stateIn (cond (inTime time (stateIn words)) (pacedWords time words) words) ≡ after (pace time) world .state

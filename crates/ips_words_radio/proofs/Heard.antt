@@ -14,7 +14,7 @@ use Rattle.ips_channel.specs.declared.state.Channel.{Channel}
 use Rattle.ips_channel.specs.Channel.{heardOf}
 use Rattle.ips_state.specs.Limits.{stateFits}
 use Rattle.ips_radio.specs.Heard.{statusIn, windowIn, heardFrom, heardBy, silenced, silencedBy, keptInstance}
-use Rattle.ips_words.specs.Words.{HEAD, SLOT, ID, DATALINK-WORD, COUNT-WORD, INSTANCE-TAG, INSTANCE-VALUE, INSTANCE-LENGTH, CONTEXT-TAG, CONTEXT-VALUE, CONTEXT-LENGTH, HELLO-WORD, LIMIT-WORD, CLOCK-WORD, DUE-WORD, HEARD-WORD, wordsFor, word, slot, instanceOf, contextOf, channelIn, pacerIn, stateOf, spelled, readable, stateIn, statusValue, flowWindow}
+use Rattle.ips_words.specs.Words.{HEAD, SLOT, ID, DATALINK-WORD, COUNT-WORD, INSTANCE-TAG, INSTANCE-VALUE, INSTANCE-LENGTH, CONTEXT-TAG, CONTEXT-VALUE, CONTEXT-LENGTH, HELLO-WORD, LIMIT-WORD, CLOCK-WORD, DUE-WORD, HEARD-WORD, CODES-WORD, wordsFor, word, slot, instanceOf, contextOf, channelIn, pacerIn, stateOf, spelled, readable, stateIn, statusValue, flowWindow}
 use Rattle.ips_words.proofs.Whole.{slot-length, Readable, readable-facts, readable-by, slot-room, says, fit-readable}
 use Rattle.ips_words_radio.specs.HeardWords.{toldSlot, heardSlot, heardSlots, silencedSlot, silencedWords, instanceHeard, contextHeard, heardWords, Slender}
 use Rattle.ips_words_radio.proofs.Parts.{part-heard, part-spelled, instance-length, instance-slot, instance-before, instance-behind, instance-said, instance-tag, context-length, context-slot, context-before, context-behind, context-said, context-tag}
@@ -94,6 +94,10 @@ module _ (message : Control) (words : List ℕ) (t : stateFits (stateIn words) �
   heard-pacer =
       rw (pacer-kept HELLO-WORD (omega arith) (omega arith), pacer-kept LIMIT-WORD (omega arith) (omega arith), pacer-kept CLOCK-WORD (omega arith) (omega arith), pacer-kept DUE-WORD (omega arith) (omega arith), pacer-kept HEARD-WORD (omega arith) (omega arith))
 
+  pub heard-codes : word (heardWords message words) CODES-WORD ≡ word words CODES-WORD
+  unfolding heardWords
+  heard-codes = pacer-kept CODES-WORD (omega arith) (omega arith)
+
   -- of each channel only status and flow state are written
   pub heard-slot : (i : ℕ) → i < word words COUNT-WORD → slot (heardWords message words) i ≡ heardSlot message (slot words i)
   unfolding heardWords
@@ -110,7 +114,7 @@ module _ (message : Control) (words : List ℕ) (t : stateFits (stateIn words) �
   -- THE LAW: the words say the state that has heard the message
   pub heard-state : stateOf (heardWords message words) ≡ heardBy message (stateOf words)
   unfolding heardWords stateOf heardBy
-  heard-state = rw (head-kept DATALINK-WORD (omega arith), head-kept COUNT-WORD (omega arith), instance-kept, context-kept, heard-pacer, channels-heard)
+  heard-state = rw (head-kept DATALINK-WORD (omega arith), head-kept COUNT-WORD (omega arith), pacer-kept CODES-WORD (omega arith) (omega arith), instance-kept, context-kept, heard-pacer, channels-heard)
 
   module _ (slender : Slender message) where
     -- AND THEY SAY SOMETHING
@@ -122,6 +126,7 @@ module _ (message : Control) (words : List ℕ) (t : stateFits (stateIn words) �
         datalink = rw (head-kept DATALINK-WORD (omega arith)) (said .head .datalink);
         instance = rw (context-before two (message .context) INSTANCE-TAG (omega arith)) (instance-tag one one-room (message .instance) (rw (p .head INSTANCE-TAG (omega arith)) (said .head .instance)));
         context = context-tag two (message .context) two-room;
+        codes = rw (pacer-kept CODES-WORD (omega arith) (omega arith)) (said .head .codes);
       };
       each = λ i h. slots-spelled (statusIn message) (windowIn message) words t (heardWords message words) heard-slot (slender .statuses) (slender .windows) i (rw (head-kept COUNT-WORD (omega arith)) at h);
     })
@@ -163,12 +168,12 @@ module _ (words : List ℕ) (t : stateFits (stateIn words) ≡ true) where
   pub silenced-state : stateOf (silencedWords words) ≡ silencedBy (stateOf words)
   unfolding stateOf silencedBy
   silenced-state =
-      rw (silenced-head DATALINK-WORD (omega arith), silenced-head COUNT-WORD (omega arith), silenced-head INSTANCE-TAG (omega arith), silenced-head INSTANCE-VALUE (omega arith), silenced-head INSTANCE-LENGTH (omega arith), silenced-head CONTEXT-TAG (omega arith), silenced-head CONTEXT-VALUE (omega arith), silenced-head CONTEXT-LENGTH (omega arith), silenced-pacer, channels-silenced)
+      rw (silenced-head DATALINK-WORD (omega arith), silenced-head COUNT-WORD (omega arith), silenced-head INSTANCE-TAG (omega arith), silenced-head INSTANCE-VALUE (omega arith), silenced-head INSTANCE-LENGTH (omega arith), silenced-head CONTEXT-TAG (omega arith), silenced-head CONTEXT-VALUE (omega arith), silenced-head CONTEXT-LENGTH (omega arith), silenced-head CODES-WORD (omega arith), silenced-pacer, channels-silenced)
 
   pub silenced-readable : readable (silencedWords words) ≡ true
   silenced-readable = readable-by (silencedWords words) (record {
     long = silenced-length ∙ said .long ∙ ap wordsFor (sym (silenced-head COUNT-WORD (omega arith)));
-    head = record { datalink = rw (silenced-head DATALINK-WORD (omega arith)) (said .head .datalink); instance = rw (silenced-head INSTANCE-TAG (omega arith)) (said .head .instance); context = rw (silenced-head CONTEXT-TAG (omega arith)) (said .head .context) };
+    head = record { datalink = rw (silenced-head DATALINK-WORD (omega arith)) (said .head .datalink); instance = rw (silenced-head INSTANCE-TAG (omega arith)) (said .head .instance); context = rw (silenced-head CONTEXT-TAG (omega arith)) (said .head .context); codes = rw (silenced-head CODES-WORD (omega arith)) (said .head .codes) };
     each = λ i h. slots-spelled (λ id. Status.Absent) (λ id. Window.Empty) words t (silencedWords words) silenced-slot (λ id. omega arith) (λ id. omega arith) i (rw (silenced-head COUNT-WORD (omega arith)) at h);
   })
     where

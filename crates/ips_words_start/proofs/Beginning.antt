@@ -17,7 +17,7 @@ use Rattle.ips_state.specs.Limits.{startsFit, sizes, countFits, configurationFi
 use Rattle.ips_state.specs.Memory.{memoryFits}
 use Rattle.ips_words.specs.Words.{word, wordsFor}
 use Rattle.ips_words_start.specs.declared.judge.Judged.{Judged}
-use Rattle.ips_words_start.specs.Start.{CONFIGURED-DATALINK, CONFIGURED-COUNT, CONFIGURED-HELLO, CONFIGURED-LIMIT, START-ID, configurationLength, startWord, startIn, startsOf, startsSpelled, configurationOf, configurationReadable, configurationIn, headWords, slotsOf, freshWords, startsInUnder, startsIn, notStarted, StartedIn, judgedBy, judgedOf, Startable}
+use Rattle.ips_words_start.specs.Start.{CONFIGURED-DATALINK, CONFIGURED-COUNT, CONFIGURED-HELLO, CONFIGURED-LIMIT, CONFIGURED-CODES, START-ID, configurationLength, startWord, startIn, startsOf, startsSpelled, configurationOf, configurationReadable, configurationIn, headWords, slotsOf, freshWords, startsInUnder, startsIn, notStarted, StartedIn, judgedBy, judgedOf, Startable}
 use Rattle.ips_words_start.proofs.Starts.{starts-length, starts-at, setting-fit, starts-fit-at, first-at}
 use Rattle.ips_words_start.proofs.Judging.{says, unreadable}
 
@@ -25,6 +25,7 @@ use Rattle.ips_words_start.proofs.Judging.{says, unreadable}
 pub record Said (w : List ℕ) : Type 0 where
   pub long : length w ≡ configurationLength (word w CONFIGURED-COUNT)
   pub datalink : word w CONFIGURED-DATALINK < 256
+  pub codes : word w CONFIGURED-CODES < 256
   pub spelled : startsSpelled w (word w CONFIGURED-COUNT) ≡ true
 
 pub said : (w : List ℕ) → configurationReadable w ≡ true → Said w
@@ -32,7 +33,8 @@ unfolding configurationReadable
 said w e =
     let a = and-eq-true-iff (eqb (length w) (configurationLength (word w CONFIGURED-COUNT))) _ .0 e in
     let b = and-eq-true-iff (ltb (word w CONFIGURED-DATALINK) 256) _ .0 (a .1) in
-    record { long = eqb-true _ _ (a .0); datalink = ltb-true _ _ (b .0); spelled = b .1 }
+    let c = and-eq-true-iff (ltb (word w CONFIGURED-CODES) 256) _ .0 (b .1) in
+    record { long = eqb-true _ _ (a .0); datalink = ltb-true _ _ (b .0); codes = ltb-true _ _ (c .0); spelled = c .1 }
 
 module _ (w : List ℕ) where
   abbrev count : ℕ
@@ -122,7 +124,7 @@ module _ (w : List ℕ) where
             starts =
                 rw (fits, count-is fits, eq-eqb (length memory) (sizes (freshState (configurationIn w) .channels)) (sym held ∙ stores-are good), eq-eqb (length words) (wordsFor count) (room ∙ ap wordsFor counted-is))
 
-            words-fresh : headWords (word w CONFIGURED-DATALINK) count (word w CONFIGURED-HELLO) (word w CONFIGURED-LIMIT) ++ slotsOf (map freshOf (startsOf w count)) ≡ freshWords (configurationIn w)
+            words-fresh : headWords (word w CONFIGURED-DATALINK) count (word w CONFIGURED-HELLO) (word w CONFIGURED-LIMIT) (word w CONFIGURED-CODES) ++ slotsOf (map freshOf (startsOf w count)) ≡ freshWords (configurationIn w)
             unfolding freshWords configurationOf
             words-fresh = rw (count-is fits, says w (fits-readable fits))
 
@@ -137,7 +139,7 @@ module _ (w : List ℕ) where
                   record { answer-is = not-started ∙ rw (starts, none); words-are = rw (starts, none); memory-is = rw (starts, none) }
 
               pub begun : waits ≡ true → (words′ memory′ : List ℕ)
-                  → words′ ≡ headWords (word w CONFIGURED-DATALINK) counted (word w CONFIGURED-HELLO) (word w CONFIGURED-LIMIT) ++ slotsOf (map freshOf (startsOf w counted))
+                  → words′ ≡ headWords (word w CONFIGURED-DATALINK) counted (word w CONFIGURED-HELLO) (word w CONFIGURED-LIMIT) (word w CONFIGURED-CODES) ++ slotsOf (map freshOf (startsOf w counted))
                   → memory′ ≡ replicate (length memory) 0 → StartedIn w words memory StartAnswer.Started words′ memory′
               begun e words′ memory′ written zeros =
                   let both : waitsFit (configurationIn w) ≡ true = waits-are ∙ e in

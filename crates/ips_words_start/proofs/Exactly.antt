@@ -21,7 +21,7 @@ use Rattle.ips_state.specs.Limits.{settingFits, startsFit, startIds, distinct, 
 use Rattle.ips_state.specs.Memory.{memoryFits}
 use Rattle.ips_state.proofs.Channels.{StandsAt, stands-among, index-stands, distinct-index, distinct-by}
 use Rattle.ips_words.specs.Words.{CONTROLLED, word, wordsFor, stateIn}
-use Rattle.ips_words_start.specs.Start.{CONFIGURED-DATALINK, CONFIGURED-COUNT, START-KIND, START-FIRST, configurationLength, startWord, startIn, startsOf, startsSpelled, configurationOf, configurationReadable, configurationIn, freshWords, startsInUnder, startsIn, notStarted, StartedIn, togetherFit}
+use Rattle.ips_words_start.specs.Start.{CONFIGURED-DATALINK, CONFIGURED-COUNT, CONFIGURED-CODES, START-KIND, START-FIRST, configurationLength, startWord, startIn, startsOf, startsSpelled, configurationOf, configurationReadable, configurationIn, freshWords, startsInUnder, startsIn, notStarted, StartedIn, togetherFit}
 use Rattle.ips_words_start.specs.Exactly.{storesIn, StartsExactly, WaitsExactly}
 use Rattle.ips_words_start.proofs.Starts.{starts-length, starts-at, one-more, stores-more, setting-fit, starts-fit-at, spelled-at, first-at}
 use Rattle.ips_words_start.proofs.Judging.{says, counted}
@@ -34,10 +34,10 @@ module _ (w : List ℕ) (count : ℕ) where
   unfolding startIds
   ids-long = length-map (startsOf w count) _ ∙ starts-length w count
 
-  id-at : (i : ℕ) → i < count → getD (startIds (startsOf w count)) i 0 ≡ getD w (4 + 4 * i) 0
+  id-at : (i : ℕ) → i < count → getD (startIds (startsOf w count)) i 0 ≡ getD w (5 + 4 * i) 0
   unfolding startIds startIn
   id-at i h =
-      let none : 4 + 4 * i + 0 ≡ 4 + 4 * i = omega arith in
+      let none : 5 + 4 * i + 0 ≡ 5 + 4 * i = omega arith in
       List·getD-map (λ (k : ChannelStart). k .setting .id) (startsOf w count) i noStart ∙ rw (starts-at w count i h, none)
 
   stores-to : (n : ℕ) → n ≤ count → sizes (map freshOf (take n (startsOf w count))) ≡ storesIn w n
@@ -57,18 +57,18 @@ module _ (w : List ℕ) (count : ℕ) where
     setting-at : (i : ℕ) → i < count → settingFits (startIn w i .setting) ≡ true
     setting-at i h = rw (starts-at w count i h) at (starts-fit-at (startsOf w count) i (omega (arith, starts-length w count)) (parts .0))
 
-    id-below : (i : ℕ) → i < count → getD w (4 + 4 * i) 0 < 255
+    id-below : (i : ℕ) → i < count → getD w (5 + 4 * i) 0 < 255
     unfolding startIn
-    id-below i h = let none : 4 + 4 * i + 0 ≡ 4 + 4 * i = omega arith in rw none at (setting-fit (startIn w i .setting) (setting-at i h) .unreserved)
+    id-below i h = let none : 5 + 4 * i + 0 ≡ 5 + 4 * i = omega arith in rw none at (setting-fit (startIn w i .setting) (setting-at i h) .unreserved)
 
-    size-within : (i : ℕ) → i < count → (1500 ≤ getD w (4 + 4 * i + 3) 0) × (getD w (4 + 4 * i + 3) 0 ≤ 65536)
+    size-within : (i : ℕ) → i < count → (1500 ≤ getD w (5 + 4 * i + 3) 0) × (getD w (5 + 4 * i + 3) 0 ≤ 65536)
     unfolding startIn
     size-within i h = let f = setting-fit (startIn w i .setting) (setting-at i h) in (f .smallest, f .largest)
 
-    ids-apart : (i j : ℕ) → i < count → j < count → getD w (4 + 4 * i) 0 ≡ getD w (4 + 4 * j) 0 → i ≡ j
+    ids-apart : (i j : ℕ) → i < count → j < count → getD w (5 + 4 * i) 0 ≡ getD w (5 + 4 * j) 0 → i ≡ j
     ids-apart i j h l e =
-        sym (distinct-index (startIds (startsOf w count)) (getD w (4 + 4 * i) 0) i (parts .1) (record { inside = omega (arith, ids-long); is = id-at i h }))
-        ∙ distinct-index (startIds (startsOf w count)) (getD w (4 + 4 * i) 0) j (parts .1) (record { inside = omega (arith, ids-long); is = id-at j l ∙ sym e })
+        sym (distinct-index (startIds (startsOf w count)) (getD w (5 + 4 * i) 0) i (parts .1) (record { inside = omega (arith, ids-long); is = id-at i h }))
+        ∙ distinct-index (startIds (startsOf w count)) (getD w (5 + 4 * i) 0) j (parts .1) (record { inside = omega (arith, ids-long); is = id-at j l ∙ sym e })
 
     primary-stands : StandsAt 0 (startIds (startsOf w count)) (indexOf 0 (startIds (startsOf w count)))
     primary-stands = index-stands 0 (startIds (startsOf w count)) (parts .2)
@@ -115,6 +115,7 @@ module _ (w words memory : List ℕ) where
       record {
         long = s .long;
         datalink = s .datalink;
+        codes = s .codes;
         some = leb-true _ _ (f .0);
         few = leb-true _ _ (f .1);
         ids = id-below w number (d .1);
@@ -133,13 +134,13 @@ module _ (w words memory : List ℕ) where
   module _ (x : StartsExactly w words memory) where
     readable-by : configurationReadable w ≡ true
     unfolding configurationReadable
-    readable-by = rw (eq-eqb (length w) (configurationLength number) (x .long), lt-ltb (word w CONFIGURED-DATALINK) 256 (x .datalink), spelled-by w number (x .kinds) (x .firsts))
+    readable-by = rw (eq-eqb (length w) (configurationLength number) (x .long), lt-ltb (word w CONFIGURED-DATALINK) 256 (x .datalink), lt-ltb (word w CONFIGURED-CODES) 256 (x .codes), spelled-by w number (x .kinds) (x .firsts))
 
     setting-by : (i : ℕ) → i < length (startsOf w number) → settingFits (getD (startsOf w number) i noStart .setting) ≡ true
     unfolding startIn
     setting-by i h =
         let inside : i < number = omega (arith, starts-length w number) in
-        let none : 4 + 4 * i + 0 ≡ 4 + 4 * i = omega arith in
+        let none : 5 + 4 * i + 0 ≡ 5 + 4 * i = omega arith in
         rw (starts-at w number i inside, none, lt-ltb _ _ (x .ids i inside), le-leb _ _ (x .smallest i inside), le-leb _ _ (x .largest i inside))
 
     together-by : togetherFit (startsOf w number) ≡ true

@@ -14,7 +14,7 @@ use Rattle.ips_channel.specs.Channel.{freshChannel}
 use Rattle.pacer.specs.Pacing.{freshPacer}
 use Rattle.ips_state.specs.State.{ChannelStart, Configuration, noStart, noChannel, freshOf, freshState, blankConfiguration}
 use Rattle.ips_state.proofs.Channels.{getD-mapped}
-use Rattle.ips_words.specs.Words.{SLOT, DATALINK-WORD, COUNT-WORD, INSTANCE-TAG, CONTEXT-TAG, word, wordsFor, slot, channelIn, channelWords, instanceOf, contextOf, pacerIn, stateOf, stateIn, spelled, allSpelled, headSpelled, readable, flowWindow, Narrow}
+use Rattle.ips_words.specs.Words.{SLOT, DATALINK-WORD, COUNT-WORD, INSTANCE-TAG, CONTEXT-TAG, CODES-WORD, word, wordsFor, slot, channelIn, channelWords, instanceOf, contextOf, pacerIn, stateOf, stateIn, spelled, allSpelled, headSpelled, readable, flowWindow, Narrow}
 use Rattle.ips_words.proofs.Entries.{tidy-of}
 use Rattle.ips_words.proofs.Slots.{channel-back, words-spelled}
 use Rattle.ips_words_start.specs.Start.{CONFIGURED-COUNT, startIn, startsOf, configurationOf, configurationReadable, configurationIn, headWords, slotsOf, freshWords}
@@ -24,7 +24,8 @@ use Rattle.ips_words_start.proofs.Beginning.{Said, said}
 
 -- ---- a configuration whose numbers are no wider than they may be
 pub record Small (k : Configuration) : Type 0 where
-  pub datalink : k .datalink .0 < 256
+  pub datalink : k .datalink .id .0 < 256
+  pub codes : k .datalink .codes .0 < 256
   pub firsts : (index : ℕ) → index < length (k .starts) → getD (k .starts) index noStart .first .0 < 2 ^ 32
 
 -- ---- one fresh channel
@@ -56,14 +57,14 @@ module _ (k : Configuration) where
 
   slot-fresh : (i : ℕ) → i < count → slot (freshWords k) i ≡ channelWords (freshOf (getD (k .starts) i noStart))
   unfolding slot freshWords
-  slot-fresh i h = rw (drop-append-add (headWords (k .datalink .0) count (k .hello) (k .limit)) (slotsOf (map freshOf (k .starts))) (SLOT * i)) (slots-at (k .starts) i h)
+  slot-fresh i h = rw (drop-append-add (headWords (k .datalink .id .0) count (k .hello) (k .limit) (k .datalink .codes .0)) (slotsOf (map freshOf (k .starts))) (SLOT * i)) (slots-at (k .starts) i h)
 
   pub fresh-words-length : length (freshWords k) ≡ wordsFor count
   unfolding freshWords
   fresh-words-length = simp length-append (omega (arith, slots-length (k .starts)))
 
   -- ---- the endpoint's own words
-  datalink-word : word (freshWords k) DATALINK-WORD ≡ k .datalink .0
+  datalink-word : word (freshWords k) DATALINK-WORD ≡ k .datalink .id .0
   unfolding freshWords
   datalink-word = refl
 
@@ -79,6 +80,10 @@ module _ (k : Configuration) where
   unfolding freshWords
   context-tag = refl
 
+  codes-word : word (freshWords k) CODES-WORD ≡ k .datalink .codes .0
+  unfolding freshWords
+  codes-word = refl
+
   pacer-words : pacerIn (freshWords k) ≡ freshPacer (k .hello) (k .limit)
   unfolding freshWords
   pacer-words = refl
@@ -93,7 +98,7 @@ module _ (k : Configuration) where
     pub fresh-readable : readable (freshWords k) ≡ true
     unfolding readable headSpelled
     fresh-readable =
-        rw (count-word, eq-eqb (length (freshWords k)) (wordsFor count) fresh-words-length, datalink-word, lt-ltb (k .datalink .0) 256 (small .datalink), instance-tag, context-tag, spelled-fresh count (omega arith))
+        rw (count-word, eq-eqb (length (freshWords k)) (wordsFor count) fresh-words-length, datalink-word, lt-ltb (k .datalink .id .0) 256 (small .datalink), instance-tag, context-tag, codes-word, lt-ltb (k .datalink .codes .0) 256 (small .codes), spelled-fresh count (omega arith))
 
     channels-fresh : tabulate count (λ i. channelIn (slot (freshWords k) i)) ≡ map freshOf (k .starts)
     channels-fresh =
@@ -109,16 +114,16 @@ module _ (k : Configuration) where
 
     pub fresh-said : stateOf (freshWords k) ≡ freshState k
     unfolding stateOf freshState instanceOf contextOf
-    fresh-said = rw (datalink-word, count-word, instance-tag, context-tag, pacer-words, channels-fresh)
+    fresh-said = rw (datalink-word, count-word, instance-tag, context-tag, codes-word, pacer-words, channels-fresh)
 
 -- ---- what words stand for has its numbers in range, also where they say nothing
 blank-small : Small blankConfiguration
 unfolding blankConfiguration
-blank-small = record { datalink = omega arith; firsts = λ index inside. absurd (omega arith) }
+blank-small = record { datalink = omega arith; codes = omega arith; firsts = λ index inside. absurd (omega arith) }
 
 said-small : (w : List ℕ) → Said w → Small (configurationOf w)
 unfolding configurationOf startIn
-said-small w s = record { datalink = s .datalink; firsts = firsts }
+said-small w s = record { datalink = s .datalink; codes = s .codes; firsts = firsts }
   where
     firsts : (index : ℕ) → index < length (startsOf w (word w CONFIGURED-COUNT)) → getD (startsOf w (word w CONFIGURED-COUNT)) index noStart .first .0 < 2 ^ 32
     firsts index inside =

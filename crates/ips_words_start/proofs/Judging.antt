@@ -15,7 +15,7 @@ use Rattle.ips_state.specs.State.{ChannelStart, freshOf, blankConfiguration}
 use Rattle.ips_state.specs.Limits.{settingFits, startsFit, startIds, distinct, sizes, countFits, configurationFitsUnder, configurationFits}
 use Rattle.ips_state.proofs.Channels.{same-or-not, among-first, among-later, among-join, distinct-more, distinct-twice}
 use Rattle.ips_words.specs.Words.{word}
-use Rattle.ips_words_start.specs.Start.{CONFIGURATION-HEAD, CONFIGURATION-SLOT, CONFIGURED-DATALINK, CONFIGURED-COUNT, START-ID, START-KIND, START-FIRST, START-SIZE, configurationLength, startWord, startIn, startsOf, startSpelled, startsSpelled, startFits, configurationOf, configurationReadable, configurationIn, unfit, judgedBy, togetherFit, walked, judgedOf}
+use Rattle.ips_words_start.specs.Start.{CONFIGURATION-HEAD, CONFIGURATION-SLOT, CONFIGURED-DATALINK, CONFIGURED-CODES, CONFIGURED-COUNT, START-ID, START-KIND, START-FIRST, START-SIZE, configurationLength, startWord, startIn, startsOf, startSpelled, startsSpelled, startFits, configurationOf, configurationReadable, configurationIn, unfit, judgedBy, togetherFit, walked, judgedOf}
 use Rattle.ips_words_start.proofs.Starts.{starts-length, upcoming, one-more, starts-join, start-ids-join, stores-more, setting-fit, spelled-at}
 
 -- ---- where the starts `done` are passed
@@ -198,6 +198,13 @@ module _ (w : List ℕ) where
     pub judge-datalink : 256 ≤ word w CONFIGURED-DATALINK → unfit ≡ judgedOf w
     judge-datalink h = unfit-judged (unreadable (other-datalink h))
 
+    other-codes : 256 ≤ word w CONFIGURED-CODES → configurationReadable w ≡ false
+    unfolding configurationReadable
+    other-codes h = rw (le-ltb (word w CONFIGURED-CODES) 256 h, and-false, and-false)
+
+    pub judge-codes : 256 ≤ word w CONFIGURED-CODES → unfit ≡ judgedOf w
+    judge-codes h = unfit-judged (unreadable (other-codes h))
+
     pub counted : configurationReadable w ≡ true → configurationFits (configurationIn w) ≡ (countFits count && togetherFit (startsOf w count))
     unfolding configurationFitsUnder configurationOf togetherFit
     counted e = rw (says e, ← is, starts-length w count)
@@ -209,10 +216,10 @@ module _ (w : List ℕ) where
         go false e = unreadable e
         go true e = counted e ∙ rw f
 
-    module _ (long : length w ≡ configurationLength count) (datalink : word w CONFIGURED-DATALINK < 256) (some : FEWEST-CHANNELS ≤ count) (few : count ≤ MOST-CHANNELS) where
+    module _ (long : length w ≡ configurationLength count) (datalink : word w CONFIGURED-DATALINK < 256) (codes : word w CONFIGURED-CODES < 256) (some : FEWEST-CHANNELS ≤ count) (few : count ≤ MOST-CHANNELS) where
       spelled-readable : configurationReadable w ≡ startsSpelled w count
       unfolding configurationReadable
-      spelled-readable = rw (← is, eq-eqb (length w) (configurationLength count) long, lt-ltb (word w CONFIGURED-DATALINK) 256 datalink)
+      spelled-readable = rw (← is, eq-eqb (length w) (configurationLength count) long, lt-ltb (word w CONFIGURED-DATALINK) 256 datalink, lt-ltb (word w CONFIGURED-CODES) 256 codes)
 
       in-range : countFits count ≡ true
       in-range = rw (le-leb FEWEST-CHANNELS count some, le-leb count MOST-CHANNELS few)

@@ -16,8 +16,8 @@ use Rattle.ips_words.proofs.Slots.{channel-length}
 use Rattle.ips_words_start.specs.Start.{CONFIGURATION-HEAD, CONFIGURATION-SLOT, START-ID, START-KIND, START-FIRST, START-SIZE, configurationLength, startWith, startIn, startsOf, headWords, slotsOf, Startable}
 use Rattle.ips_words_start.proofs.Starts.{starts-length, one-more}
 
-pub head-written : (words : List ℕ) (datalink count hello limit : ℕ) → HEAD ≤ length words → sets words 0 (headWords datalink count hello limit) ≡ headWords datalink count hello limit ++ drop HEAD words
-head-written words datalink count hello limit h = sets-eq (headWords datalink count hello limit) words 0 (omega arith)
+pub head-written : (words : List ℕ) (datalink count hello limit codes : ℕ) → HEAD ≤ length words → sets words 0 (headWords datalink count hello limit codes) ≡ headWords datalink count hello limit codes ++ drop HEAD words
+head-written words datalink count hello limit codes h = sets-eq (headWords datalink count hello limit codes) words 0 (omega arith)
 
 pub fresh-places : (k : ChannelStart) → length (freshOf k .queue .entries) ≡ MOST-WAITING
 unfolding freshChannel queueOf listed
@@ -91,6 +91,6 @@ module _ (configuration : List ℕ) (count : ℕ) (words₀ : List ℕ) where
         sym whole ∙ v .so-far ∙ rw (take-all at (startsOf configuration count) (omega (arith, starts-length configuration count)))
 
 -- both, one behind the other
-pub all-written : (rest headed words′ slots : List ℕ) (datalink count hello limit counted : ℕ) → headed ≡ headWords datalink counted hello limit ++ rest → counted ≡ count → words′ ≡ take HEAD headed ++ slots
-    → words′ ≡ headWords datalink count hello limit ++ slots
-all-written rest headed words′ slots datalink count hello limit counted head is written = written ∙ rw (head, is)
+pub all-written : (rest headed words′ slots : List ℕ) (datalink count hello limit codes counted : ℕ) → headed ≡ headWords datalink counted hello limit codes ++ rest → counted ≡ count → words′ ≡ take HEAD headed ++ slots
+    → words′ ≡ headWords datalink count hello limit codes ++ slots
+all-written rest headed words′ slots datalink count hello limit codes counted head is written = written ∙ rw (head, is)

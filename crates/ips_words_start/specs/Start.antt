@@ -18,10 +18,10 @@ use Rattle.ips_state.specs.Memory.{memoryFits}
 use Rattle.ips_words.specs.Words.{CONTROLLED, ABSENT, word, wordsFor, channelWords}
 use Rattle.ips_words_start.specs.declared.judge.Judged.{Judged}
 
--- ---- a configuration in words: the Datalink ID, the count of channels, HelloTime, silence limit, then for each channel its ID, its kind, its first sequence and the
--- length of its store
+-- ---- a configuration in words: the Datalink ID, the count of channels, HelloTime, silence limit, the setting of the statuses 8 to 15, then for each channel its ID,
+-- its kind, its first sequence and the length of its store
 abbrev pub CONFIGURATION-HEAD : ℕ
-CONFIGURATION-HEAD = 4
+CONFIGURATION-HEAD = 5
 
 abbrev pub CONFIGURATION-SLOT : ℕ
 CONFIGURATION-SLOT = 4
@@ -37,6 +37,9 @@ CONFIGURED-HELLO = 2
 
 abbrev pub CONFIGURED-LIMIT : ℕ
 CONFIGURED-LIMIT = 3
+
+abbrev pub CONFIGURED-CODES : ℕ
+CONFIGURED-CODES = 4
 
 abbrev pub START-ID : ℕ
 START-ID = 0
@@ -69,7 +72,7 @@ startsOf w count = tabulate count (startIn w)
 
 unfoldable pub configurationOf : List ℕ → Configuration
 configurationOf w = record {
-  datalink = record { 0 = word w CONFIGURED-DATALINK };
+  datalink = record { id = record { 0 = word w CONFIGURED-DATALINK }; codes = record { 0 = word w CONFIGURED-CODES } };
   hello = word w CONFIGURED-HELLO;
   limit = word w CONFIGURED-LIMIT;
   starts = startsOf w (word w CONFIGURED-COUNT);
@@ -85,22 +88,23 @@ startsSpelled w (suc n) = startsSpelled w n && startSpelled (startWord w n START
 
 unfoldable pub configurationReadable : List ℕ → Bool
 configurationReadable w =
-    eqb (length w) (configurationLength (word w CONFIGURED-COUNT)) && (ltb (word w CONFIGURED-DATALINK) 256 && startsSpelled w (word w CONFIGURED-COUNT))
+    eqb (length w) (configurationLength (word w CONFIGURED-COUNT))
+    && (ltb (word w CONFIGURED-DATALINK) 256 && (ltb (word w CONFIGURED-CODES) 256 && startsSpelled w (word w CONFIGURED-COUNT)))
 
 -- WHAT THE WORDS OF A CONFIGURATION STAND FOR: those that say nothing stand for one with no channel, which a start refuses by 19
 unfoldable pub configurationIn : List ℕ → Configuration
 configurationIn w = cond (configurationReadable w) (configurationOf w) blankConfiguration
 
 -- ---- the words of a fresh start: "A channel has a status (fresh: not reported)", no Link Instance and no Context; of the pacer "both waits first run from 0"
-abbrev pub headWords : (datalink count hello limit : ℕ) → List ℕ
-headWords datalink count hello limit = datalink ∷ count ∷ ABSENT ∷ 0 ∷ 0 ∷ ABSENT ∷ 0 ∷ 0 ∷ hello ∷ limit ∷ 0 ∷ 0 ∷ 0 ∷ []
+abbrev pub headWords : (datalink count hello limit codes : ℕ) → List ℕ
+headWords datalink count hello limit codes = datalink ∷ count ∷ ABSENT ∷ 0 ∷ 0 ∷ ABSENT ∷ 0 ∷ 0 ∷ hello ∷ limit ∷ 0 ∷ 0 ∷ 0 ∷ codes ∷ []
 
 unfoldable pub slotsOf : List Channel → List ℕ
 slotsOf [] = []
 slotsOf (c ∷ cs) = channelWords c ++ slotsOf cs
 
 unfoldable pub freshWords : Configuration → List ℕ
-freshWords k = headWords (k .datalink .0) (length (k .starts)) (k .hello) (k .limit) ++ slotsOf (map freshOf (k .starts))
+freshWords k = headWords (k .datalink .id .0) (length (k .starts)) (k .hello) (k .limit) (k .datalink .codes .0) ++ slotsOf (map freshOf (k .starts))
 
 -- ---- the call: 19, "a lent memory whose length isn't the sum of the stores" and words that are not as many as the state's too
 unfoldable pub startsInUnder : (most : ℕ) (configuration words memory : List ℕ) → Bool

@@ -6,6 +6,7 @@ ghost use Rattle.quantity.specs.Limits.{MOST-CHANNELS};
 ghost use Rattle.ips_words_start.specs.Start.{configurationLength, startFits, unfit, walked, judgedOf};
 use crate::layout::CONFIGURATION_HEAD;
 use crate::layout::CONFIGURATION_SLOT;
+use crate::layout::CONFIGURED_CODES;
 use crate::layout::CONFIGURED_COUNT;
 use crate::layout::CONFIGURED_DATALINK;
 use crate::layout::START_FIRST;
@@ -101,6 +102,9 @@ pub fn judge(configuration: &[u64]) -> Judged
         return outside();
     }
     if configuration[CONFIGURED_DATALINK] >= BYTE_VALUES {
+        return outside();
+    }
+    if configuration[CONFIGURED_CODES] >= BYTE_VALUES {
         return outside();
     }
     walk(configuration, count)

@@ -1,6 +1,6 @@
 // Where each number of a configuration stands in its words. specs/Start.antt has the same names, with `-` for `_`.
 // The words before those of the channels, and the words of one channel.
-pub const CONFIGURATION_HEAD: usize = 4;
+pub const CONFIGURATION_HEAD: usize = 5;
 
 pub const CONFIGURATION_SLOT: usize = 4;
 
@@ -11,6 +11,8 @@ pub const CONFIGURED_COUNT: usize = 1;
 pub const CONFIGURED_HELLO: usize = 2;
 
 pub const CONFIGURED_LIMIT: usize = 3;
+
+pub const CONFIGURED_CODES: usize = 4;
 
 pub const START_ID: usize = 0;
 

@@ -9,6 +9,7 @@ use crate::limits;
 use ips_words::head;
 use ips_words::layout;
 use ips_words::layout::BYTE_VALUES;
+use ips_words::layout::CODES_WORD;
 use ips_words::layout::CONTEXT_TAG;
 use ips_words::layout::COUNT_WORD;
 use ips_words::layout::DATALINK_WORD;
@@ -111,7 +112,8 @@ fn head_spelled(words: &[u64]) -> bool
     ensures { λ r. ⌜ r ≡ headSpelled (now (words .entry)) ⌝ }
 {
     words[DATALINK_WORD] < BYTE_VALUES
-        && (words[INSTANCE_TAG] <= GIVEN && words[CONTEXT_TAG] <= GIVEN)
+        && (words[INSTANCE_TAG] <= GIVEN
+            && (words[CONTEXT_TAG] <= GIVEN && words[CODES_WORD] < BYTE_VALUES))
 }
 
 // Whether the state is within the limits, the length of the memory it asks for, and where the channel of an ID and its store stand.

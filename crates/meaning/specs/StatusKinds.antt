@@ -1,14 +1,52 @@
--- Document 01, "Messages": "Status 0: not operational; 1 to 7: operational; 8 to 15: unknown, and not operational for us.", in plain numbers.
-use Prim.Native.Nat.{ℕ, _≤_}
-use mathlib.Core.Bool.{Bool, true, false}
+-- Document 01, "Messages": "Status 0: not operational; 1 to 7: operational; 8 to 15: unknown, and not operational for us.", and document 02, §6, in plain numbers.
+use Prim.Native.Nat.{ℕ, _+_, _/_, _%_, _^_, _≤_}
+use mathlib.Core.Bool.{Bool, true, false, _&&_}
+use mathlib.Core.List.{List, [], _∷_}
+use mathlib.Core.Path.{_≡_}
+use lib.Dec.{leb}
+use Rattle.facts.specs.Tables.{tabulate}
 use Rattle.meaning.specs.declared.message.Status.{Status}
+use Rattle.meaning.specs.Statuses.{operational}
 
 -- a status that is reported, and lies between two numbers
 pub data Reported (least most : ℕ) : Status → Type 0 where
   reported : {status : ℕ} → least ≤ status → status ≤ most → Reported least most (Status.Given status)
 
--- each of the sixteen, with whether it is operational and whether it is unknown
+-- "Whether a status is operational": 1 to 7, or one of 8 to 15 that the setting's bit makes so
+pub data MaySend (codes : ℕ) : Status → Type 0 where
+  always : {status : ℕ} → 1 ≤ status → status ≤ 7 → MaySend codes (Status.Given status)
+  configured : {place : ℕ} → place ≤ 7 → codes / 2 ^ place % 2 ≡ 1 → MaySend codes (Status.Given (8 + place))
+
+-- document 01's sentence, which "the default" leaves as it was
+abbrev pub operationalByDefault : Status → Bool
+operationalByDefault Status.Absent = false
+operationalByDefault (Status.Given status) = leb 1 status && leb status 7
+
+-- each of the sixteen, with whether it is operational where nothing is configured, and whether it is unknown
 pub data OneOfThree : (status : ℕ) (isOperational isUnknown : Bool) → Type 0 where
   zero-status : OneOfThree 0 false false
   one-to-seven : {status : ℕ} → 1 ≤ status → status ≤ 7 → OneOfThree status true false
   eight-to-fifteen : {status : ℕ} → 8 ≤ status → status ≤ 15 → OneOfThree status false true
+
+-- a setting with the statuses 8 to 16 under it: whether each is operational
+pub record Row : Type 0 where
+  pub codes : ℕ
+  pub from-eight : List Bool
+
+abbrev pub Right : Row → Type 0
+Right row = tabulate 9 (λ place. operational (record { 0 = row .codes }) (Status.Given (8 + place))) ≡ row .from-eight
+
+abbrev pub AllRight : List Row → Type 0
+AllRight [] = Unit {0}
+AllRight (row ∷ rows) = Right row × AllRight rows
+
+-- 2 is "status 9", 128 is 15, 5 is 8 and 10; 16 never is
+abbrev pub settings : List Row
+settings =
+    record { codes = 0; from-eight = false ∷ false ∷ false ∷ false ∷ false ∷ false ∷ false ∷ false ∷ false ∷ [] }
+    ∷ record { codes = 1; from-eight = true ∷ false ∷ false ∷ false ∷ false ∷ false ∷ false ∷ false ∷ false ∷ [] }
+    ∷ record { codes = 2; from-eight = false ∷ true ∷ false ∷ false ∷ false ∷ false ∷ false ∷ false ∷ false ∷ [] }
+    ∷ record { codes = 5; from-eight = true ∷ false ∷ true ∷ false ∷ false ∷ false ∷ false ∷ false ∷ false ∷ [] }
+    ∷ record { codes = 128; from-eight = false ∷ false ∷ false ∷ false ∷ false ∷ false ∷ false ∷ true ∷ false ∷ [] }
+    ∷ record { codes = 255; from-eight = true ∷ true ∷ true ∷ true ∷ true ∷ true ∷ true ∷ true ∷ false ∷ [] }
+    ∷ []

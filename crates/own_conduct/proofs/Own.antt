@@ -51,18 +51,18 @@ module _ (k : Configuration) (fits : configurationTaken k ≡ true) (index : ℕ
       rw (← (ap (λ (x : Terms). x .id) (ruled-in .as-ruled .terms))) (fitting-here (length (k .starts)) (freshWorld k) (ruled-in .order) index inside .unreserved)
 
   module _ (cs : List Call) (bytes : BytesIn cs) {xs : List EndpointReply} {last : World} (ran : Ran (freshWorld k) cs xs last) (ports : Ports) (reports : List Report)
-      (captured : Captured ports (k .datalink) (passedIn cs xs) reports) where
+      (captured : Captured ports (k .datalink .id) (passedIn cs xs) reports) where
     -- whatever is called from a fresh start, and however it is captured, the channel passes
-    pub own-passes : Says ports (k .datalink) reports (idAt k index) Finding.Passes
+    pub own-passes : Says ports (k .datalink .id) reports (idAt k index) Finding.Passes
     own-passes = (
-      λ u. captured-clear ports (k .datalink) u captured,
-      captured-obeys (idAt k index) ports (k .datalink) (rw (ran-replies ran) at captured) 1 Flow.Unseen Sequence.Absent
+      λ u. captured-clear ports (k .datalink .id) u captured,
+      captured-obeys (idAt k index) ports (k .datalink .id) (rw (ran-replies ran) at captured) 1 Flow.Unseen Sequence.Absent
           (run-obeys (ruled k index) (length (k .starts)) index inside controlled cs bytes (freshWorld k) (freshAt k index) (fresh-in k fits index inside) Flow.Unseen Sequence.Absent fresh-agrees),
     )
 
     -- and so it is found
-    pub own-found : (n : ℕ) → WORDS ≤ n → findingOf (judgedAll ports (k .datalink) 1 reports (replicate n 0)) (idAt k index) ≡ Finding.Passes
-    own-found n room = finding-exactly ports (k .datalink) reports (idAt k index) n known room Finding.Passes .1 own-passes
+    pub own-found : (n : ℕ) → WORDS ≤ n → findingOf (judgedAll ports (k .datalink .id) 1 reports (replicate n 0)) (idAt k index) ≡ Finding.Passes
+    own-found n room = finding-exactly ports (k .datalink .id) reports (idAt k index) n known room Finding.Passes .1 own-passes
 
 -- ---- the same of the code's own outcomes on lent words, with nothing asked of configuration, words and memory
 
@@ -71,8 +71,8 @@ module _ {configuration words memory words′ memory′ : List ℕ} (starts : St
   own = configurationIn configuration
 
   pub own-passes-in : (index : ℕ) → index < length (own .starts) → startAt own index .setting .controlled ≡ true → (cs : List Call) → BytesIn cs → (xs : List EndpointReply) (last : Lent)
-      → RanIn (lent words′ memory′) cs xs last → (ports : Ports) (reports : List Report) → Captured ports (own .datalink) (passedIn cs xs) reports
-      → Says ports (own .datalink) reports (idAt own index) Finding.Passes
+      → RanIn (lent words′ memory′) cs xs last → (ports : Ports) (reports : List Report) → Captured ports (own .datalink .id) (passedIn cs xs) reports
+      → Says ports (own .datalink .id) reports (idAt own index) Finding.Passes
   own-passes-in index inside controlled cs bytes xs last run ports reports captured =
       let begun = started-leaves configuration words memory starts refl in
       own-passes own (rw (begun .configuration-fits, begun .waits-fit)) index inside controlled (configuration-small configuration .firsts index inside) cs bytes (rw (started-in starts) at (ran-in bytes run)) ports reports captured

@@ -82,22 +82,22 @@ heard-messages id datagram = go (planeOf datagram) refl
 
 -- what passed of a radio message handed in is what the endpoint accepted of it
 radio-messages : (w : World) (time : ℕ) (datagram : List ℕ)
-    → messagesIn (w .state .datalink) (passedBy (radio time datagram) (replyOf (radio time datagram) w)) ≡ controls (acceptedBy (radio time datagram) w)
+    → messagesIn (w .state .datalink .id) (passedBy (radio time datagram) (replyOf (radio time datagram) w)) ≡ controls (acceptedBy (radio time datagram) w)
 unfolding acceptedIn
 radio-messages w time datagram = go (handed (w .state) time datagram)
   where
-    came : inTime time (w .state) ≡ true → messagesIn (w .state .datalink) (toIps datagram ∷ []) ≡ controls (acceptedBy (radio time datagram) w)
-    came f = append-nil (ifMessage (heardIn (w .state .datalink) datagram)) ∙ heard-messages (w .state .datalink) datagram ∙ ap controls (sym (accepted-in-time w time datagram f))
+    came : inTime time (w .state) ≡ true → messagesIn (w .state .datalink .id) (toIps datagram ∷ []) ≡ controls (acceptedBy (radio time datagram) w)
+    came f = append-nil (ifMessage (heardIn (w .state .datalink .id) datagram)) ∙ heard-messages (w .state .datalink .id) datagram ∙ ap controls (sym (accepted-in-time w time datagram f))
 
     either : (due : Bool) → inTime time (w .state) ≡ true
-        → messagesIn (w .state .datalink) (ifHeard (cond due RadioAnswer.Due RadioAnswer.Accepted) datagram) ≡ controls (acceptedBy (radio time datagram) w)
+        → messagesIn (w .state .datalink .id) (ifHeard (cond due RadioAnswer.Due RadioAnswer.Accepted) datagram) ≡ controls (acceptedBy (radio time datagram) w)
     either true f = came f
     either false f = came f
 
-    go : {h : AfterRadio} → Handed (w .state) time datagram h → messagesIn (w .state .datalink) (ifHeard (h .answer) datagram) ≡ controls (acceptedBy (radio time datagram) w)
+    go : {h : AfterRadio} → Handed (w .state) time datagram h → messagesIn (w .state .datalink .id) (ifHeard (h .answer) datagram) ≡ controls (acceptedBy (radio time datagram) w)
     go (outside f) = rw (accepted-late w time datagram (rw f))
     go (earlier f l) = rw (accepted-late w time datagram (rw (f, lt-ltb time (w .state .pacer .clock) l)))
-    go (unread refusal f why) = rw (accepted-in-time w time datagram f, unheard (w .state .datalink) datagram refusal why)
+    go (unread refusal f why) = rw (accepted-in-time w time datagram f, unheard (w .state .datalink .id) datagram refusal why)
     go (heard m f a) = either (dueOf (w .state .context) (m .context)) f
     go (passed f a) = came f
 
@@ -121,7 +121,7 @@ read-in : {k : Terms} {id : ℕ} {bytes : List ℕ} {carried : Sequence} {answer
 read-in {k} {carried = carried} back = rw (back .counted, back .accepted, back .carries, counted-back (k .id) carried, back .named)
 
 module _ (w : World) (id : ℕ) where
-  channel-messages : (c : ChannelCall) → messagesIn (w .state .datalink) (passedBy (on id c) (replyOf (on id c) w)) ≡ sentOf id c (calling id c w .answer)
+  channel-messages : (c : ChannelCall) → messagesIn (w .state .datalink .id) (passedBy (on id c) (replyOf (on id c) w)) ≡ sentOf id c (calling id c w .answer)
   channel-messages (offer bytes time) = go (calling id (offer bytes time) w .answer)
     where
       go : (a : Answer (Says (offer bytes time))) → [] ≡ sentOf id (offer bytes time) a
@@ -135,7 +135,7 @@ module _ (w : World) (id : ℕ) where
   channel-messages (next time out) = go (calling id (next time out) w .answer) refl
     where
       go : (a : Answer Tried) → calling id (next time out) w .answer ≡ a
-          → messagesIn (w .state .datalink) (ifSent (nextAnswer (termsIn w (indexIn w id)) a) (outputAfter (termsIn w (indexIn w id)) a out)) ≡ sentOf id (next time out) a
+          → messagesIn (w .state .datalink .id) (ifSent (nextAnswer (termsIn w (indexIn w id)) a) (outputAfter (termsIn w (indexIn w id)) a out)) ≡ sentOf id (next time out) a
       go (refused number) e = refl
       go (answered nothingWaiting) e = refl
       go (answered notOperational) e = refl
@@ -220,7 +220,7 @@ few (m ∷ (n ∷ ms)) = ⊥
 
 accepted-few : (w : World) (time : ℕ) (datagram : List ℕ) → few (acceptedBy (radio time datagram) w)
 unfolding acceptedUnder acceptedIn
-accepted-few w time datagram = go (inTime time (w .state)) (receivedIn (w .state .datalink) datagram)
+accepted-few w time datagram = go (inTime time (w .state)) (receivedIn (w .state .datalink .id) datagram)
   where
     go : (t : Bool) (r : Received) → few (cond t (run.messagesIn r) [])
     go false r = tt

@@ -51,7 +51,7 @@ differs last size content other = go (eqb (bigEndian content) (last .0)) refl (e
     go false p b q = refl
 
 module _ (s : State) (fits : stateFits s ≡ true) (time : ℕ) (timely : s .pacer .clock ≤ time) (datagram : List ℕ) (octets : Octets datagram)
-    (f : Options) (a : Accepts planes.Control ends.Radio (s .datalink) datagram f)
+    (f : Options) (a : Accepts planes.Control ends.Radio (s .datalink .id) datagram f)
     {answer : RadioAnswer} {s′ : State} (h : PerformedWithAny (radio time datagram) s (ofRadio answer) s′) where
   abbrev table : Table
   table = tableOf planes.Control ends.Radio f
@@ -60,7 +60,7 @@ module _ (s : State) (fits : stateFits s ≡ true) (time : ℕ) (timely : s .pac
   unfolding controlStated
   given =
       let is : answer ≡ handedIn time s datagram .answer = cc (h [] .reply-is) in
-      is ∙ ap (λ (r : AfterRadio). r .answer) (radio-heard s time datagram (rw (fits, le-ltb time (s .pacer .clock) timely)) (controlMeaning ends.Radio f) (brings (s .datalink) datagram f a octets))
+      is ∙ ap (λ (r : AfterRadio). r .answer) (radio-heard s time datagram (rw (fits, le-ltb time (s .pacer .clock) timely)) (controlMeaning ends.Radio f) (brings (s .datalink .id) datagram f a octets))
 
   context-left : s′ .context ≡ contextFrom (table 4 0)
   unfolding heardBy withPacer controlStated
@@ -71,22 +71,22 @@ module _ (s : State) (fits : stateFits s ≡ true) (time : ℕ) (timely : s .pac
   instance-left = ap (λ (t : State). t .instance) (left s fits time timely datagram octets f a h)
 
   context-is : (content : List ℕ) → Holds 4 content f → table 4 0 ≡ some content
-  context-is = says-once 4 datalink-context (s .datalink) datagram f a
+  context-is = says-once 4 datalink-context (s .datalink .id) datagram f a
 
   instance-is : (content : List ℕ) → Holds 3 content f → table 3 0 ≡ some content
-  instance-is = says-once 3 link-instance (s .datalink) datagram f a
+  instance-is = says-once 3 link-instance (s .datalink .id) datagram f a
 
   -- THE PROMISE
   pub answered : Answers f s answer s′
   answered = record {
-    no-context = λ never. let e = said-once 4 datalink-context (s .datalink) datagram f a never in (given ∙ rw e, context-left ∙ rw e);
+    no-context = λ never. let e = said-once 4 datalink-context (s .datalink .id) datagram f a never in (given ∙ rw e, context-left ∙ rw e);
     none-before = λ content holds none. given ∙ rw (context-is content holds, none);
     other-context = λ content holds last size before other. given ∙ rw (context-is content holds, before, differs last size content other);
     same-context = λ content holds before.
         given ∙ rw (context-is content holds, before, eq-eqb (bigEndian content) (bigEndian content) refl, eq-eqb (length content) (length content) refl);
     context-kept = λ content holds. context-left ∙ rw (context-is content holds);
     instance-kept = λ content holds. instance-left ∙ rw (instance-is content holds);
-    instance-stays = λ never. instance-left ∙ rw (said-once 3 link-instance (s .datalink) datagram f a never);
+    instance-stays = λ never. instance-left ∙ rw (said-once 3 link-instance (s .datalink .id) datagram f a never);
   }
 
 -- ---- after a gap
@@ -95,8 +95,8 @@ with-any : {time : ℕ} {datagram : List ℕ} {w w′ : World} {x : EndpointRepl
 unfolding afterUnder
 with-any {time} {datagram} {w} h memory = record { reply-is = h .reply-is; world-is = ap (λ (v : World). lending (v .state) memory) (h .world-is) ∙ go (inTime time (w .state)) }
   where
-    go : (t : Bool) → lending (cond t (withState w (received time (receivedIn (w .state .datalink) datagram) (w .state))) w .state) memory
-        ≡ cond t (withState (lending (w .state) memory) (received time (receivedIn (w .state .datalink) datagram) (w .state))) (lending (w .state) memory)
+    go : (t : Bool) → lending (cond t (withState w (received time (receivedIn (w .state .datalink .id) datagram) (w .state))) w .state) memory
+        ≡ cond t (withState (lending (w .state) memory) (received time (receivedIn (w .state .datalink .id) datagram) (w .state))) (lending (w .state) memory)
     go true = refl
     go false = refl
 

@@ -151,12 +151,12 @@ module _ (id : DatalinkId) (datagram : List ℕ) (f : Options) (a : Accepts plan
       heard-when id datagram of-plane (ap (λ r. r .verdict) read) ∙ rw read
 
 module _ (s : State) (fits : stateFits s ≡ true) (time : ℕ) (timely : s .pacer .clock ≤ time) (datagram : List ℕ) (octets : Octets datagram)
-    (f : Options) (a : Accepts planes.Control ends.Radio (s .datalink) datagram f) where
+    (f : Options) (a : Accepts planes.Control ends.Radio (s .datalink .id) datagram f) where
   module _ {x : EndpointReply} {s′ : State} (h : PerformedWithAny (radio time datagram) s x s′) where
     pub left : s′ ≡ withPacer (heardBy (controlMeaning ends.Radio f) s) (heardAt time (s .pacer))
     left =
         let there = received-in-time (lending s []) time datagram (rw (fits, le-ltb time (s .pacer .clock) timely)) in
-        ap (λ (w : World). w .state) (h [] .world-is ∙ there) ∙ rw (brings (s .datalink) datagram f a octets)
+        ap (λ (w : World). w .state) (h [] .world-is ∙ there) ∙ rw (brings (s .datalink .id) datagram f a octets)
 
     after-is : (index : ℕ) → index < length (s .channels) → getD (s′ .channels) index noChannel ≡ heardFrom (controlMeaning ends.Radio f) (getD (s .channels) index noChannel)
     unfolding channelAt withPacer
@@ -168,7 +168,7 @@ module _ (s : State) (fits : stateFits s ≡ true) (time : ℕ) (timely : s .pac
     option-by-option = record {
       each = λ index inside.
           let within = channel-fitting-at s fits index inside in
-          rw (after-is index inside) (hears (s .datalink) datagram f a (getD (s .channels) index noChannel) (within .unreserved) (within .flow-fits));
+          rw (after-is index inside) (hears (s .datalink .id) datagram f a (getD (s .channels) index noChannel) (within .unreserved) (within .flow-fits));
       count-stays = rw left (heard-count (controlMeaning ends.Radio f) s);
       datalink-stays = rw left;
     }
@@ -182,7 +182,7 @@ module _ (s : State) (fits : stateFits s ≡ true) (time : ℕ) (timely : s .pac
 
 module _ (s : State) (fits : stateFits s ≡ true) (time then : ℕ) (timely : s .pacer .clock ≤ time) (timely′ : s .pacer .clock ≤ then)
     (datagram other : List ℕ) (octets : Octets datagram) (octets′ : Octets other) (f g : Options)
-    (a : Accepts planes.Control ends.Radio (s .datalink) datagram f) (b : Accepts planes.Control ends.Radio (s .datalink) other g)
+    (a : Accepts planes.Control ends.Radio (s .datalink .id) datagram f) (b : Accepts planes.Control ends.Radio (s .datalink .id) other g)
     {x y : EndpointReply} {s′ t′ : State} (h : PerformedWithAny (radio time datagram) s x s′) (k : PerformedWithAny (radio then other) s y t′)
     (index : ℕ) (inside : index < length (s .channels)) where
   abbrev own : ℕ
@@ -194,11 +194,11 @@ module _ (s : State) (fits : stateFits s ≡ true) (time then : ℕ) (timely : s
   own-options-only same =
       let below : own < CHANNEL-IDS = channel-fitting-at s fits index inside .unreserved in
       let status : statusIn (controlMeaning ends.Radio f) own ≡ statusIn (controlMeaning ends.Radio g) own =
-      status-in (s .datalink) datagram f a own below
-      ∙ rw (said-alike 5 channel-status (s .datalink) datagram other f g a b own (same 5)) (sym (status-in (s .datalink) other g b own below)) in
+      status-in (s .datalink .id) datagram f a own below
+      ∙ rw (said-alike 5 channel-status (s .datalink .id) datagram other f g a b own (same 5)) (sym (status-in (s .datalink .id) other g b own below)) in
       let window : windowIn (controlMeaning ends.Radio f) own ≡ windowIn (controlMeaning ends.Radio g) own =
-      window-in (s .datalink) datagram f a own below
-      ∙ rw (said-alike 6 flow-window (s .datalink) datagram other f g a b own (same 6)) (sym (window-in (s .datalink) other g b own below)) in
+      window-in (s .datalink .id) datagram f a own below
+      ∙ rw (said-alike 6 flow-window (s .datalink .id) datagram other f g a b own (same 6)) (sym (window-in (s .datalink .id) other g b own below)) in
       after-is s fits time timely datagram octets f a h index inside
       ∙ ap₂ (heardOf (getD (s .channels) index noChannel)) status window
       ∙ sym (after-is s fits then timely′ other octets′ g b k index inside)

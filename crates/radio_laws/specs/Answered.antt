@@ -45,7 +45,7 @@ pub record HandedIn (options : Options) (w : World) (answer : RadioAnswer) (w′
   pub octets : Octets datagram
   pub fits : stateFits (w .state) ≡ true
   pub timely : w .state .pacer .clock ≤ time
-  pub accepts : Accepts planes.Control ends.Radio (w .state .datalink) datagram options
+  pub accepts : Accepts planes.Control ends.Radio (w .state .datalink .id) datagram options
   pub performed : Performed (radio time datagram) w (ofRadio answer) w′
 
 -- any calls of which none is an accepted control message: refused ones, radio data messages and silences among them

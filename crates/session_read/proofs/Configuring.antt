@@ -12,20 +12,29 @@ use Rattle.facts.proofs.Tables.{length-tabulate, getD-tabulate}
 use Rattle.line_rows.specs.Rows.{over}
 use Rattle.ips_words_start.specs.Start.{CONFIGURATION-HEAD, CONFIGURATION-SLOT}
 use Rattle.session_read.specs.Lines.{PLACES, CONFIGURATION-WORDS, StartFits}
-use Rattle.session_read.specs.Start.{SAID-ID, SAID-COUNT, SAID-CHANNELS, memoryPlace, pacePlace, helloOf, limitOf, headSaid, channelsSaid, configurationFrom}
+use Rattle.session_read.specs.Start.{SAID-ID, SAID-COUNT, SAID-CHANNELS, memoryPlace, behindKeyword, pacePlace, codesPlace, helloOf, limitOf, codesOf, headSaid, channelsSaid, configurationFrom}
 
 pub channels-length : (n : ℕ → ℕ) → length (channelsSaid n) ≡ CONFIGURATION-SLOT * n SAID-COUNT
 unfolding channelsSaid
 channels-length n = length-tabulate (CONFIGURATION-SLOT * n SAID-COUNT) (λ place. n (SAID-CHANNELS + place))
 
--- HELLO and LIMIT are within the numbers of a line
-pub pace-fits : {n : ℕ → ℕ} → StartFits n → pacePlace n + 2 < PLACES
-unfolding pacePlace
-pace-fits {n} f = go (eqb (n (memoryPlace n)) 1)
+-- a keyword and its numbers take no more places than that
+behind-most : (n : ℕ → ℕ) (keyword numbers : ℕ) → behindKeyword n keyword numbers ≤ keyword + 1 + numbers
+unfolding behindKeyword
+behind-most n keyword numbers = go (eqb (n keyword) 1)
   where
-    go : (t : Bool) → memoryPlace n + cond t 2 1 + 2 < PLACES
-    go true = omega (arith, f .few)
-    go false = omega (arith, f .few)
+    go : (t : Bool) → cond t (keyword + 1 + numbers) (keyword + 1) ≤ keyword + 1 + numbers
+    go true = omega arith
+    go false = omega arith
+
+-- HELLO and LIMIT are within the numbers of a line, and MASK is behind them
+pub pace-fits : {n : ℕ → ℕ} → StartFits n → pacePlace n + 5 ≤ PLACES
+unfolding pacePlace
+pace-fits {n} f = omega (arith, f .few, behind-most n (memoryPlace n) 1)
+
+pub codes-fit : {n : ℕ → ℕ} → StartFits n → codesPlace n + 1 < PLACES
+unfolding codesPlace
+codes-fit {n} f = omega (arith, pace-fits f, behind-most n (pacePlace n) 2)
 
 -- ---- the loop: the first numbers of the channels are pasted
 pub record Pasting (n : ℕ → ℕ) (words₀ words : List ℕ) (at : ℕ) : Type 0 where
@@ -52,18 +61,18 @@ module _ {n : ℕ → ℕ} {words₀ words : List ℕ} {at : ℕ} (f : StartFits
       let all : at ≡ length (channelsSaid n) = omega (arith, k .few, channels-length n) in
       k .so-far ∙ ap (λ (count : ℕ). paste words₀ CONFIGURATION-HEAD (channelsSaid n) count) all
 
-pub headed-long : (words : List ℕ) {headed : List ℕ} {datalink count hello limit : ℕ} → length words ≡ CONFIGURATION-WORDS
-    → headed ≡ (datalink ∷ count ∷ hello ∷ limit ∷ []) ++ drop CONFIGURATION-HEAD words → length headed ≡ CONFIGURATION-WORDS
+pub headed-long : (words : List ℕ) {headed : List ℕ} {datalink count hello limit codes : ℕ} → length words ≡ CONFIGURATION-WORDS
+    → headed ≡ (datalink ∷ count ∷ hello ∷ limit ∷ codes ∷ []) ++ drop CONFIGURATION-HEAD words → length headed ≡ CONFIGURATION-WORDS
 headed-long words e g = rw g (simp length-drop (omega arith))
 
 -- ---- head and channels, one behind the other
-pub configured : (n : ℕ → ℕ) (words : List ℕ) {headed words′ : List ℕ} {hello limit : ℕ} → hello ≡ helloOf n → limit ≡ limitOf n
-    → headed ≡ (n SAID-ID ∷ n SAID-COUNT ∷ hello ∷ limit ∷ []) ++ drop CONFIGURATION-HEAD words → words′ ≡ paste headed CONFIGURATION-HEAD (channelsSaid n) (length (channelsSaid n))
+pub configured : (n : ℕ → ℕ) (words : List ℕ) {headed words′ : List ℕ} {hello limit codes : ℕ} → hello ≡ helloOf n → limit ≡ limitOf n → codes ≡ codesOf n
+    → headed ≡ (n SAID-ID ∷ n SAID-COUNT ∷ hello ∷ limit ∷ codes ∷ []) ++ drop CONFIGURATION-HEAD words → words′ ≡ paste headed CONFIGURATION-HEAD (channelsSaid n) (length (channelsSaid n))
     → words′ ≡ over (configurationFrom n) words
 unfolding configurationFrom
-configured n words {headed} e f g h =
+configured n words {headed} e f m g h =
     let channels : List ℕ = channelsSaid n in
-    let head : headed ≡ headSaid n ++ drop CONFIGURATION-HEAD words = rw (e, f) at g in
+    let head : headed ≡ headSaid n ++ drop CONFIGURATION-HEAD words = rw (e, f, m) at g in
     let behind : drop (CONFIGURATION-HEAD + length channels) (headSaid n ++ drop CONFIGURATION-HEAD words) ≡ drop (CONFIGURATION-HEAD + length channels) words =
     drop-append-add (headSaid n) (drop CONFIGURATION-HEAD words) (length channels) ∙ drop-drop (length channels) CONFIGURATION-HEAD words in
     let size : length (headSaid n ++ channels) ≡ CONFIGURATION-HEAD + length channels = length-append (headSaid n) channels in

@@ -14,7 +14,7 @@ use Rattle.session_read.specs.declared.asked.Asked.{Asked}
 use Rattle.session_read.specs.declared.asked.Command.{Command}
 use Rattle.session_read.specs.declared.start.StartWords.{StartWords}
 use Rattle.session_read.specs.Lines.{shortened, endOf, askedBy, startBy, configurationBy, askedOf, startOf, configurationSaid}
-use Rattle.session_read.specs.Start.{storesOf, perhaps, memoryOf, pacePlace, helloOf, limitOf, channelsSaid, configurationFrom, startFrom}
+use Rattle.session_read.specs.Start.{storesOf, perhaps, memoryOf, behindKeyword, pacePlace, codesPlace, helloOf, limitOf, codesOf, channelsSaid, configurationFrom, startFrom}
 
 -- `read radio 7 0102`
 read : askedOf 2 (114 ∷ 101 ∷ 97 ∷ 100 ∷ 32 ∷ 114 ∷ 97 ∷ 100 ∷ 105 ∷ 111 ∷ 32 ∷ 55 ∷ 32 ∷ 48 ∷ 49 ∷ 48 ∷ 50 ∷ []) ≡ Asked.Read End.Radio 7
@@ -96,7 +96,7 @@ abbrev line : List ℕ
 line = 115 ∷ 116 ∷ 97 ∷ 114 ∷ 116 ∷ 32 ∷ 55 ∷ 32 ∷ 50 ∷ 32 ∷ 48 ∷ 32 ∷ 112 ∷ 108 ∷ 97 ∷ 105 ∷ 110 ∷ 32 ∷ 48 ∷ 32 ∷ 49 ∷ 53 ∷ 48 ∷ 48 ∷ 32 ∷ 51 ∷ 32 ∷ 102 ∷ 108 ∷ 111 ∷ 119 ∷ 32 ∷ 52 ∷ 50 ∷ 57 ∷ 52 ∷ 57 ∷ 54 ∷ 55 ∷ 48 ∷ 48 ∷ 48 ∷ 32 ∷ 51 ∷ 48 ∷ 48 ∷ 48 ∷ []
 
 abbrev started : ℕ → StartWords
-started memory = record { words = 12; channels = 2; memory = memory }
+started memory = record { words = 13; channels = 2; memory = memory }
 
 stores : startOf 0 line ≡ started 4500
 unfolding indexOf headOf tailOf digitOf stepOf followOf bySize plainOf parseOf pairsOf readableOf hexedOf spellsOf choiceOf valueOf bytesOf behindOf itemOf itemsOf listOf lastNumber itemOrListOf leftOutOf rowOf readBy goodBy namedOf itemsLeft commandOf keyOf itemsBehind saidIn keyIn shortened endOf askedBy startBy askedOf startOf storesOf perhaps memoryOf startFrom
@@ -112,22 +112,22 @@ more : askedOf 0 (line ++ (32 ∷ 49 ∷ 48 ∷ [])) ≡ Asked.Bad
 unfolding indexOf headOf tailOf digitOf stepOf followOf bySize plainOf parseOf pairsOf readableOf hexedOf spellsOf choiceOf valueOf bytesOf behindOf itemOf itemsOf listOf lastNumber itemOrListOf leftOutOf rowOf readBy goodBy namedOf itemsLeft commandOf keyOf itemsBehind saidIn keyIn shortened endOf askedBy startBy askedOf startOf storesOf perhaps memoryOf startFrom
 more = refl
 
--- the words of its configuration: HelloTime 5000 and silence limit 9000 stand before the channels
-abbrev words : (hello limit : ℕ) → List ℕ
-words hello limit = 7 ∷ 2 ∷ hello ∷ limit ∷ 0 ∷ 0 ∷ 0 ∷ 1500 ∷ 3 ∷ 1 ∷ 4294967000 ∷ 3000 ∷ []
+-- the words of its configuration: HelloTime 5000, silence limit 9000 and the default of the statuses stand before the channels
+abbrev words : (hello limit codes : ℕ) → List ℕ
+words hello limit codes = 7 ∷ 2 ∷ hello ∷ limit ∷ codes ∷ 0 ∷ 0 ∷ 0 ∷ 1500 ∷ 3 ∷ 1 ∷ 4294967000 ∷ 3000 ∷ []
 
-usual : configurationSaid 0 line ≡ words 5000 9000
-unfolding indexOf headOf tailOf digitOf stepOf followOf bySize plainOf parseOf pairsOf readableOf hexedOf spellsOf choiceOf valueOf bytesOf behindOf itemOf itemsOf listOf lastNumber itemOrListOf leftOutOf rowOf readBy goodBy namedOf itemsLeft commandOf keyOf itemsBehind saidIn keyIn shortened endOf askedBy startBy askedOf startOf storesOf perhaps memoryOf startFrom configurationBy configurationSaid pacePlace helloOf limitOf channelsSaid tabulate configurationFrom
+usual : configurationSaid 0 line ≡ words 5000 9000 0
+unfolding indexOf headOf tailOf digitOf stepOf followOf bySize plainOf parseOf pairsOf readableOf hexedOf spellsOf choiceOf valueOf bytesOf behindOf itemOf itemsOf listOf lastNumber itemOrListOf leftOutOf rowOf readBy goodBy namedOf itemsLeft commandOf keyOf itemsBehind saidIn keyIn shortened endOf askedBy startBy askedOf startOf storesOf perhaps memoryOf startFrom configurationBy configurationSaid behindKeyword pacePlace codesPlace helloOf limitOf codesOf channelsSaid tabulate configurationFrom
 usual = refl
 
 -- with ` pace 1 2` behind it
-paced : configurationSaid 0 (line ++ (32 ∷ 112 ∷ 97 ∷ 99 ∷ 101 ∷ 32 ∷ 49 ∷ 32 ∷ 50 ∷ [])) ≡ words 1 2
-unfolding indexOf headOf tailOf digitOf stepOf followOf bySize plainOf parseOf pairsOf readableOf hexedOf spellsOf choiceOf valueOf bytesOf behindOf itemOf itemsOf listOf lastNumber itemOrListOf leftOutOf rowOf readBy goodBy namedOf itemsLeft commandOf keyOf itemsBehind saidIn keyIn shortened endOf askedBy startBy askedOf startOf storesOf perhaps memoryOf startFrom configurationBy configurationSaid pacePlace helloOf limitOf channelsSaid tabulate configurationFrom
+paced : configurationSaid 0 (line ++ (32 ∷ 112 ∷ 97 ∷ 99 ∷ 101 ∷ 32 ∷ 49 ∷ 32 ∷ 50 ∷ [])) ≡ words 1 2 0
+unfolding indexOf headOf tailOf digitOf stepOf followOf bySize plainOf parseOf pairsOf readableOf hexedOf spellsOf choiceOf valueOf bytesOf behindOf itemOf itemsOf listOf lastNumber itemOrListOf leftOutOf rowOf readBy goodBy namedOf itemsLeft commandOf keyOf itemsBehind saidIn keyIn shortened endOf askedBy startBy askedOf startOf storesOf perhaps memoryOf startFrom configurationBy configurationSaid behindKeyword pacePlace codesPlace helloOf limitOf codesOf channelsSaid tabulate configurationFrom
 paced = refl
 
 -- with ` memory 10 pace 1 2`
-both : configurationSaid 0 (line ++ (32 ∷ 109 ∷ 101 ∷ 109 ∷ 111 ∷ 114 ∷ 121 ∷ 32 ∷ 49 ∷ 48 ∷ 32 ∷ 112 ∷ 97 ∷ 99 ∷ 101 ∷ 32 ∷ 49 ∷ 32 ∷ 50 ∷ [])) ≡ words 1 2
-unfolding indexOf headOf tailOf digitOf stepOf followOf bySize plainOf parseOf pairsOf readableOf hexedOf spellsOf choiceOf valueOf bytesOf behindOf itemOf itemsOf listOf lastNumber itemOrListOf leftOutOf rowOf readBy goodBy namedOf itemsLeft commandOf keyOf itemsBehind saidIn keyIn shortened endOf askedBy startBy askedOf startOf storesOf perhaps memoryOf startFrom configurationBy configurationSaid pacePlace helloOf limitOf channelsSaid tabulate configurationFrom
+both : configurationSaid 0 (line ++ (32 ∷ 109 ∷ 101 ∷ 109 ∷ 111 ∷ 114 ∷ 121 ∷ 32 ∷ 49 ∷ 48 ∷ 32 ∷ 112 ∷ 97 ∷ 99 ∷ 101 ∷ 32 ∷ 49 ∷ 32 ∷ 50 ∷ [])) ≡ words 1 2 0
+unfolding indexOf headOf tailOf digitOf stepOf followOf bySize plainOf parseOf pairsOf readableOf hexedOf spellsOf choiceOf valueOf bytesOf behindOf itemOf itemsOf listOf lastNumber itemOrListOf leftOutOf rowOf readBy goodBy namedOf itemsLeft commandOf keyOf itemsBehind saidIn keyIn shortened endOf askedBy startBy askedOf startOf storesOf perhaps memoryOf startFrom configurationBy configurationSaid behindKeyword pacePlace codesPlace helloOf limitOf codesOf channelsSaid tabulate configurationFrom
 both = refl
 
 both-memory : startOf 0 (line ++ (32 ∷ 109 ∷ 101 ∷ 109 ∷ 111 ∷ 114 ∷ 121 ∷ 32 ∷ 49 ∷ 48 ∷ 32 ∷ 112 ∷ 97 ∷ 99 ∷ 101 ∷ 32 ∷ 49 ∷ 32 ∷ 50 ∷ [])) ≡ started 10
@@ -143,3 +143,23 @@ turned = refl
 half : askedOf 0 (line ++ (32 ∷ 112 ∷ 97 ∷ 99 ∷ 101 ∷ 32 ∷ 49 ∷ [])) ≡ Asked.Bad
 unfolding indexOf headOf tailOf digitOf stepOf followOf bySize plainOf parseOf pairsOf readableOf hexedOf spellsOf choiceOf valueOf bytesOf behindOf itemOf itemsOf listOf lastNumber itemOrListOf leftOutOf rowOf readBy goodBy namedOf itemsLeft commandOf keyOf itemsBehind saidIn keyIn shortened endOf askedBy startBy askedOf startOf storesOf perhaps memoryOf startFrom
 half = refl
+
+-- with ` codes 255`
+coded : configurationSaid 0 (line ++ (32 ∷ 99 ∷ 111 ∷ 100 ∷ 101 ∷ 115 ∷ 32 ∷ 50 ∷ 53 ∷ 53 ∷ [])) ≡ words 5000 9000 255
+unfolding indexOf headOf tailOf digitOf stepOf followOf bySize plainOf parseOf pairsOf readableOf hexedOf spellsOf choiceOf valueOf bytesOf behindOf itemOf itemsOf listOf lastNumber itemOrListOf leftOutOf rowOf readBy goodBy namedOf itemsLeft commandOf keyOf itemsBehind saidIn keyIn shortened endOf askedBy startBy askedOf startOf storesOf perhaps memoryOf startFrom configurationBy configurationSaid behindKeyword pacePlace codesPlace helloOf limitOf codesOf channelsSaid tabulate configurationFrom
+coded = refl
+
+-- with ` memory 10 pace 1 2 codes 2`
+all : configurationSaid 0 (line ++ (32 ∷ 109 ∷ 101 ∷ 109 ∷ 111 ∷ 114 ∷ 121 ∷ 32 ∷ 49 ∷ 48 ∷ 32 ∷ 112 ∷ 97 ∷ 99 ∷ 101 ∷ 32 ∷ 49 ∷ 32 ∷ 50 ∷ 32 ∷ 99 ∷ 111 ∷ 100 ∷ 101 ∷ 115 ∷ 32 ∷ 50 ∷ [])) ≡ words 1 2 2
+unfolding indexOf headOf tailOf digitOf stepOf followOf bySize plainOf parseOf pairsOf readableOf hexedOf spellsOf choiceOf valueOf bytesOf behindOf itemOf itemsOf listOf lastNumber itemOrListOf leftOutOf rowOf readBy goodBy namedOf itemsLeft commandOf keyOf itemsBehind saidIn keyIn shortened endOf askedBy startBy askedOf startOf storesOf perhaps memoryOf startFrom configurationBy configurationSaid behindKeyword pacePlace codesPlace helloOf limitOf codesOf channelsSaid tabulate configurationFrom
+all = refl
+
+-- with ` codes 256`
+codes-more : askedOf 0 (line ++ (32 ∷ 99 ∷ 111 ∷ 100 ∷ 101 ∷ 115 ∷ 32 ∷ 50 ∷ 53 ∷ 54 ∷ [])) ≡ Asked.Bad
+unfolding indexOf headOf tailOf digitOf stepOf followOf bySize plainOf parseOf pairsOf readableOf hexedOf spellsOf choiceOf valueOf bytesOf behindOf itemOf itemsOf listOf lastNumber itemOrListOf leftOutOf rowOf readBy goodBy namedOf itemsLeft commandOf keyOf itemsBehind saidIn keyIn shortened endOf askedBy startBy askedOf startOf storesOf perhaps memoryOf startFrom
+codes-more = refl
+
+-- with ` codes 2 pace 1 2`, the other way round
+codes-turned : askedOf 0 (line ++ (32 ∷ 99 ∷ 111 ∷ 100 ∷ 101 ∷ 115 ∷ 32 ∷ 50 ∷ 32 ∷ 112 ∷ 97 ∷ 99 ∷ 101 ∷ 32 ∷ 49 ∷ 32 ∷ 50 ∷ [])) ≡ Asked.Bad
+unfolding indexOf headOf tailOf digitOf stepOf followOf bySize plainOf parseOf pairsOf readableOf hexedOf spellsOf choiceOf valueOf bytesOf behindOf itemOf itemsOf listOf lastNumber itemOrListOf leftOutOf rowOf readBy goodBy namedOf itemsLeft commandOf keyOf itemsBehind saidIn keyIn shortened endOf askedBy startBy askedOf startOf storesOf perhaps memoryOf startFrom
+codes-turned = refl

@@ -38,6 +38,10 @@ FLOW = keyText (102 ∷ 108 ∷ 111 ∷ 119 ∷ [])
 abbrev pub MEMORY : ℕ
 MEMORY = keyText (109 ∷ 101 ∷ 109 ∷ 111 ∷ 114 ∷ 121 ∷ [])
 
+-- `codes`
+abbrev pub CODES : ℕ
+CODES = keyText (99 ∷ 111 ∷ 100 ∷ 101 ∷ 115 ∷ [])
+
 -- `read`
 abbrev pub READ : ℕ
 READ = keyText (114 ∷ 101 ∷ 97 ∷ 100 ∷ [])
@@ -96,6 +100,10 @@ HIGHEST-ID = 255
 abbrev pub HIGHEST-SEQUENCE : ℕ
 HIGHEST-SEQUENCE = 2 ^ 32 - 1
 
+-- "`MASK`: 0 to 255"
+abbrev pub HIGHEST-MASK : ℕ
+HIGHEST-MASK = 255
+
 -- "`NOW`, `EXPIRY`, `HELLO`, `LIMIT`: 0 to 18446744073709551615"
 abbrev pub LATEST-TIME : ℕ
 LATEST-TIME = 2 ^ 64 - 1
@@ -108,9 +116,9 @@ MOST-ROOM = MOST-CHANNELS * LARGEST-STORE
 abbrev pub MOST-SETTINGS : ℕ
 MOST-SETTINGS = 80
 
--- no line says more numbers: `ID COUNT`, four for each channel, `memory LEN` and `pace HELLO LIMIT`
+-- no line says more numbers: `ID COUNT`, four for each channel, `memory LEN`, `pace HELLO LIMIT` and `codes MASK`
 abbrev pub PLACES : ℕ
-PLACES = 327
+PLACES = 329
 
 -- the words of the configuration of as many channels
 abbrev pub CONFIGURATION-WORDS : ℕ
@@ -130,15 +138,16 @@ ABOUT-MESSAGES =
     command READ (IPS ∷ RADIO ∷ NUMBER ∷ HIGHEST-ID ∷ BYTES ∷ 0 ∷ [])
     ++ command ECHO (IPS ∷ RADIO ∷ NUMBER ∷ HIGHEST-ID ∷ BYTES ∷ 0 ∷ IPS ∷ RADIO ∷ NUMBER ∷ MOST-ROOM ∷ [])
 
--- `start ID COUNT`, `CHANNEL KIND FIRST STORE` for each channel, and perhaps `memory LEN`, `pace HELLO LIMIT`; `offer CHANNEL NOW EXPIRY HEX`;
--- `next CHANNEL NOW ROOM`; `withdraw CHANNEL`; `radio NOW HEX`; `pace NOW`; `query ROOM`; `show CHANNEL`; `store CHANNEL`; `kept`; `pacer`
+-- `start ID COUNT`, `CHANNEL KIND FIRST STORE` for each channel, and perhaps `memory LEN`, `pace HELLO LIMIT`, `codes MASK`;
+-- `offer CHANNEL NOW EXPIRY HEX`; `next CHANNEL NOW ROOM`; `withdraw CHANNEL`; `radio NOW HEX`; `pace NOW`; `query ROOM`; `show CHANNEL`; `store CHANNEL`; `kept`; `pacer`
 abbrev pub ABOUT-A-STATE : List ℕ
 ABOUT-A-STATE =
     command START
     (NUMBER ∷ HIGHEST-ID ∷ NUMBER ∷ MOST-SETTINGS
     ∷ LIST ∷ 4 ∷ NUMBER ∷ HIGHEST-ID ∷ PLAIN ∷ FLOW ∷ NUMBER ∷ HIGHEST-SEQUENCE ∷ NUMBER ∷ MOST-ROOM
     ∷ OPTIONAL ∷ MEMORY ∷ LIST ∷ 1 ∷ NUMBER ∷ MOST-ROOM
-    ∷ OPTIONAL ∷ PACE ∷ LIST ∷ 2 ∷ NUMBER ∷ LATEST-TIME ∷ NUMBER ∷ LATEST-TIME ∷ [])
+    ∷ OPTIONAL ∷ PACE ∷ LIST ∷ 2 ∷ NUMBER ∷ LATEST-TIME ∷ NUMBER ∷ LATEST-TIME
+    ∷ OPTIONAL ∷ CODES ∷ LIST ∷ 1 ∷ NUMBER ∷ HIGHEST-MASK ∷ [])
     ++ command OFFER (NUMBER ∷ HIGHEST-ID ∷ NUMBER ∷ LATEST-TIME ∷ NUMBER ∷ LATEST-TIME ∷ BYTES ∷ 0 ∷ [])
     ++ command NEXT (NUMBER ∷ HIGHEST-ID ∷ NUMBER ∷ LATEST-TIME ∷ NUMBER ∷ MOST-ROOM ∷ [])
     ++ command WITHDRAW (NUMBER ∷ HIGHEST-ID ∷ [])

@@ -1,6 +1,7 @@
 -- docs/SESSION.md, `start`: "a fresh start; the memory is as long as all stores together, or `LEN`; HelloTime and silence limit are 5000 and 9000, or `HELLO` and
--- `LIMIT`; either may be missing, and they stand in this order only. Up to 80 channels are read, and it is for the endpoint to refuse more than it takes". The
--- numbers of the line are ID, COUNT, four for each channel, 1 or 0 for `memory`, LEN where it is said, 1 or 0 for `pace`, HELLO and LIMIT where they are said. Those
+-- `LIMIT`; of the statuses 8 to 15 none is operational, or those whose bit (status - 8, counted from the lowest) is set in `MASK`. Each of the three may be missing,
+-- and they stand in this order only. Up to 80 channels are read, and it is for the endpoint to refuse more than it takes". The numbers of the line are ID, COUNT, four
+-- for each channel, 1 or 0 for `memory`, LEN where it is said, 1 or 0 for `pace`, HELLO and LIMIT where they are said, 1 or 0 for `codes`, MASK where it is said. Those
 -- of a channel are its words of a configuration: `plain` is 0 and `flow` is 1.
 use mathlib.Core.Bool.{cond}
 use mathlib.Core.List.{List, [], _∷_, _++_}
@@ -26,6 +27,10 @@ USUAL-HELLO = 5000
 abbrev pub USUAL-LIMIT : ℕ
 USUAL-LIMIT = 9000
 
+-- "of the statuses 8 to 15 none is operational"
+abbrev pub USUAL-CODES : ℕ
+USUAL-CODES = 0
+
 -- the place behind the numbers of the first channels
 abbrev pub behindChannels : ℕ → ℕ
 behindChannels count = SAID-CHANNELS + CONFIGURATION-SLOT * count
@@ -39,7 +44,7 @@ unfoldable pub storesOf : (ℕ → ℕ) → ℕ → ℕ
 storesOf n zero = 0
 storesOf n (suc count) = storesOf n count + storeSaid n count
 
--- "either may be missing": the number so far behind a keyword where that is said, else the usual one
+-- "Each of the three may be missing": the number so far behind a keyword where that is said, else the usual one
 unfoldable pub perhaps : (ℕ → ℕ) → (keyword behind usual : ℕ) → ℕ
 perhaps n keyword behind usual = cond (eqb (n keyword) 1) (n (keyword + behind)) usual
 
@@ -50,9 +55,15 @@ memoryPlace n = behindChannels (n SAID-COUNT)
 unfoldable pub memoryOf : (ℕ → ℕ) → ℕ
 memoryOf n = perhaps n (memoryPlace n) 1 (storesOf n (n SAID-COUNT))
 
--- "they stand in this order only": `pace` behind `memory`, and behind `LEN` where that is said
+-- "they stand in this order only": each behind the keyword before, and behind so many numbers where that is said
+unfoldable pub behindKeyword : (ℕ → ℕ) → (keyword numbers : ℕ) → ℕ
+behindKeyword n keyword numbers = cond (eqb (n keyword) 1) (keyword + 1 + numbers) (keyword + 1)
+
 unfoldable pub pacePlace : (ℕ → ℕ) → ℕ
-pacePlace n = memoryPlace n + cond (eqb (n (memoryPlace n)) 1) 2 1
+pacePlace n = behindKeyword n (memoryPlace n) 1
+
+unfoldable pub codesPlace : (ℕ → ℕ) → ℕ
+codesPlace n = behindKeyword n (pacePlace n) 2
 
 -- "or `HELLO` and `LIMIT`"
 unfoldable pub helloOf : (ℕ → ℕ) → ℕ
@@ -61,9 +72,13 @@ helloOf n = perhaps n (pacePlace n) 1 USUAL-HELLO
 unfoldable pub limitOf : (ℕ → ℕ) → ℕ
 limitOf n = perhaps n (pacePlace n) 2 USUAL-LIMIT
 
--- ---- the words of the configuration: Datalink ID, count, HelloTime, silence limit, then those of the channels
+-- "or those whose bit .. is set in `MASK`"
+unfoldable pub codesOf : (ℕ → ℕ) → ℕ
+codesOf n = perhaps n (codesPlace n) 1 USUAL-CODES
+
+-- ---- the words of the configuration: Datalink ID, count, HelloTime, silence limit, the setting of the statuses 8 to 15, then those of the channels
 abbrev pub headSaid : (ℕ → ℕ) → List ℕ
-headSaid n = n SAID-ID ∷ n SAID-COUNT ∷ helloOf n ∷ limitOf n ∷ []
+headSaid n = n SAID-ID ∷ n SAID-COUNT ∷ helloOf n ∷ limitOf n ∷ codesOf n ∷ []
 
 unfoldable pub channelsSaid : (ℕ → ℕ) → List ℕ
 channelsSaid n = tabulate (CONFIGURATION-SLOT * n SAID-COUNT) (λ place. n (SAID-CHANNELS + place))

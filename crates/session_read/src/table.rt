@@ -21,6 +21,9 @@ pub(crate) const FLOW: u64 = 0x776f6c66;
 // memory
 pub(crate) const MEMORY: u64 = 0x79726f6d656d;
 
+// codes
+pub(crate) const CODES: u64 = 0x7365646f63;
+
 // read
 pub(crate) const READ: u64 = 0x64616572;
 
@@ -61,15 +64,17 @@ const HIGHEST_ID: u64 = 255;
 
 const HIGHEST_SEQUENCE: u64 = 4294967295;
 
+const HIGHEST_MASK: u64 = 255;
+
 // All stores that an endpoint takes.
 const MOST_ROOM: u64 = (MOST_CHANNELS * LARGEST_STORE) as u64;
 
 pub(crate) const MOST_SETTINGS: u64 = 80;
 
 // No line says more numbers.
-pub(crate) const PLACES: usize = 327;
+pub(crate) const PLACES: usize = 329;
 
-pub(crate) const COMMANDS: [u64; 98] = [
+pub(crate) const COMMANDS: [u64; 104] = [
     // read END ID HEX
     READ,
     3,
@@ -92,9 +97,9 @@ pub(crate) const COMMANDS: [u64; 98] = [
     RADIO,
     NUMBER,
     MOST_ROOM,
-    // start ID COUNT, CHANNEL KIND FIRST STORE for each channel, and perhaps memory LEN, pace HELLO LIMIT
+    // start ID COUNT, CHANNEL KIND FIRST STORE for each channel, and perhaps memory LEN, pace HELLO LIMIT, codes MASK
     START,
-    14,
+    17,
     NUMBER,
     HIGHEST_ID,
     NUMBER,
@@ -123,6 +128,12 @@ pub(crate) const COMMANDS: [u64; 98] = [
     u64::MAX,
     NUMBER,
     u64::MAX,
+    OPTIONAL,
+    CODES,
+    LIST,
+    1,
+    NUMBER,
+    HIGHEST_MASK,
     // offer CHANNEL NOW EXPIRY HEX
     OFFER,
     4,

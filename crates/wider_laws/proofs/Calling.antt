@@ -7,11 +7,11 @@ use native.Mathlib.Omega.{arith}
 use borrow.Author.Tests.{leb-true, le-ltb}
 use lib.Dec.{leb, ltb}
 use lib.ListN.{length}
-use Rattle.quantity.specs.declared.count.DatalinkId.{DatalinkId}
 use Rattle.quantity.specs.Limits.{Limits}
 use Rattle.store.specs.Packets.{Packet}
 use Rattle.ips_channel_rules.specs.Rules.{ChannelCall, offer, next, withdraw, nothingWaiting, notOperational, windowShut, sent, Says, Answer, refused, answered, Terms, Condition, messageBytes, offerAt, tryFirst, nextAt, withdrawAt, callAt}
 use Rattle.ips_channel_rules.specs.Machine.{machine}
+use Rattle.ips_channel.specs.declared.state.DatalinkSetting.{DatalinkSetting}
 use Rattle.ips_channel.specs.declared.state.Setting.{Setting}
 use Rattle.ips_channel.specs.Channel.{termsUnder}
 use Rattle.ips_channel_calls.specs.Calls.{replyTo}
@@ -34,7 +34,7 @@ over-store longest size n below = go (leb longest size) refl
     go false e = refl
 
 -- ---- on one channel
-module _ (narrow wide : ℕ) (up : narrow ≤ wide) (datalink : DatalinkId) (setting : Setting) where
+module _ (narrow wide : ℕ) (up : narrow ≤ wide) (datalink : DatalinkSetting) (setting : Setting) where
   abbrev before : Terms
   before = termsUnder narrow datalink setting
 

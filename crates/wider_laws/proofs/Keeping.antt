@@ -7,7 +7,6 @@ use mathlib.Core.Path.{_≡_, refl, sym, ap, _∙_}
 use native.Mathlib.Nat.{min-le-left}
 use native.Mathlib.Omega.{arith}
 use lib.ListN.{length, drop, length-take}
-use Rattle.quantity.specs.declared.count.DatalinkId.{DatalinkId}
 use Rattle.facts.proofs.Tests.{by-le}
 use Rattle.quantity.specs.Limits.{Limits, CURRENT-LIMITS}
 use Rattle.quantity.specs.Refusals.{NOT-IPV6, LONG-PACKET}
@@ -23,6 +22,7 @@ use Rattle.ips_channel_rules.specs.Machine.{machine}
 use Rattle.ips_channel_rules.proofs.Exact.{offer-not-ipv6, offer-long}
 use Rattle.ips_channel_rules.proofs.Limits.{machine-limited}
 use Rattle.ips_channel_rules.proofs.Leaves.{Leaves, stays, joins, looks, sends, clears, hears, leaves}
+use Rattle.ips_channel.specs.declared.state.DatalinkSetting.{DatalinkSetting}
 use Rattle.ips_channel.specs.declared.state.Setting.{Setting}
 use Rattle.ips_channel.specs.declared.state.Channel.{Channel}
 use Rattle.ips_channel.specs.Channel.{termsUnder, termsOf, conditionOf, withCondition, heardOf}
@@ -80,7 +80,7 @@ module _ (longest : ℕ) where
   unfolding withCondition entryOf
   held-short c st all = rw (waiting-of (st .keeping)) (each-map (NoLonger longest) entryOf (st .keeping) all)
 
-  module _ (datalink : DatalinkId) (call : ChannelCall) (short : ShortOn longest call) (c : Channel) (store : List ℕ) (all : ShortQueue longest c) where
+  module _ (datalink : DatalinkSetting) (call : ChannelCall) (short : ShortOn longest call) (c : Channel) (store : List ℕ) (all : ShortQueue longest c) where
     abbrev r : Result machine (Says call)
     r = resultOf datalink call c store
 
@@ -107,7 +107,7 @@ module _ (longest : ℕ) where
   silenced-short c all = all
 
 -- ---- a packet longer than the longest is refused: 13 if it isn't IPv6, else 14
-module _ (longest : ℕ) (datalink : DatalinkId) (setting : Setting) (p : Packet) (time : ℕ) (over : longest < length (p .bytes)) (st : Condition machine) where
+module _ (longest : ℕ) (datalink : DatalinkSetting) (setting : Setting) (p : Packet) (time : ℕ) (over : longest < length (p .bytes)) (st : Condition machine) where
   long-refused : {A : Type 0} → ((number : ℕ) → offerAt machine (termsUnder longest datalink setting) p time st ≡ refusal machine number st → A) → A
   long-refused {A} f = go (isIpv6 (p .bytes)) refl
     where
@@ -140,8 +140,8 @@ module _ (count : ℕ) (w : World) (o : InOrder count w) where
   order-kept (on id c) bytes = called-order count w o id c (judged id c w)
   order-kept (radio time datagram) bytes = go (inTime time (w .state))
     where
-      go : (t : Bool) → InOrder count (cond t (withState w (received time (receivedIn (w .state .datalink) datagram) (w .state))) w)
-      go true = received-order time (brings (w .state .datalink) datagram bytes)
+      go : (t : Bool) → InOrder count (cond t (withState w (received time (receivedIn (w .state .datalink .id) datagram) (w .state))) w)
+      go true = received-order time (brings (w .state .datalink .id) datagram bytes)
       go false = o
   order-kept (pace time) bytes = go (inTime time (w .state))
     where
@@ -194,8 +194,8 @@ module _ (narrow : Limits) where
   bounded-kept (on id c) short w b = called-bounded w b id c short (judged id c w)
   bounded-kept (radio time datagram) short w b = go (inTime time (w .state))
     where
-      go : (t : Bool) → Bounded narrow (cond t (withState w (received time (receivedIn (w .state .datalink) datagram) (w .state))) w .state)
-      go true = received-bounded time (receivedIn (w .state .datalink) datagram) (w .state) b
+      go : (t : Bool) → Bounded narrow (cond t (withState w (received time (receivedIn (w .state .datalink .id) datagram) (w .state))) w .state)
+      go true = received-bounded time (receivedIn (w .state .datalink .id) datagram) (w .state) b
       go false = b
   bounded-kept (pace time) short w b = go (inTime time (w .state))
     where

@@ -9,7 +9,6 @@ use native.Mathlib.Omega.{arith}
 use borrow.Author.Tests.{leb-true, le-leb}
 use lib.Dec.{leb}
 use lib.ListN.{length}
-use Rattle.quantity.specs.declared.count.DatalinkId.{DatalinkId}
 use Rattle.quantity.specs.Limits.{FEWEST-CHANNELS, Limits, CURRENT-LIMITS}
 use Rattle.ipv6.specs.FixedHeader.{FixedHeader}
 use Rattle.store.specs.Packets.{Packet, alive}
@@ -18,6 +17,7 @@ use Rattle.ips_channel_rules.specs.Rules.{Taken, taken, refused, answered, long
 use Rattle.ips_channel_rules.specs.Machine.{machine}
 use Rattle.ips_channel_rules.proofs.Limits.{machine-limited}
 use Rattle.ips_channel_rules.proofs.CallCases.{offer-fourteen, offer-where-none-waits}
+use Rattle.ips_channel.specs.declared.state.DatalinkSetting.{DatalinkSetting}
 use Rattle.ips_channel.specs.declared.state.Setting.{Setting}
 use Rattle.ips_channel.specs.Channel.{termsUnder, termsOf, freshChannel}
 use Rattle.ips_state.specs.State.{ChannelStart, Configuration, State, channelAt, freshOf, freshState}
@@ -159,7 +159,7 @@ module _ (configuration words memory : List ℕ) (starts : startsInUnder 16 conf
       }
 
 -- ---- the border in numbers: on a store with room for it, a packet of 1,501 bytes was 14, and is taken where nothing waits
-module _ (datalink : DatalinkId) (setting : Setting) (room : 1501 ≤ setting .size .0) (p : Packet) (header : FixedHeader (p .bytes)) (long : length (p .bytes) ≡ 1501)
+module _ (datalink : DatalinkSetting) (setting : Setting) (room : 1501 ≤ setting .size .0) (p : Packet) (header : FixedHeader (p .bytes)) (long : length (p .bytes) ≡ 1501)
     (time : ℕ) (st : Condition machine) where
   pub earlier-fourteen : offerAt machine (termsUnder (EARLIER-LIMITS .packet) datalink setting) p time st .answer ≡ refused 14
   earlier-fourteen = ap (λ (r : Result machine Taken). r .answer) (offer-fourteen machine machine-limited (termsUnder (EARLIER-LIMITS .packet) datalink setting) p time st header (inl (omega (arith, long))))

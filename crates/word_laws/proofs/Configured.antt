@@ -24,10 +24,10 @@ module _ (w : List ℕ) (readable : configurationReadable w ≡ true) where
   said = rw readable
 
   start-says : (i : ℕ) → i < getD w 1 0
-      → startAt (configurationIn w) i ≡ startWith (getD w (4 + 4 * i) 0) (getD w (4 + 4 * i + 1) 0) (getD w (4 + 4 * i + 2) 0) (getD w (4 + 4 * i + 3) 0)
+      → startAt (configurationIn w) i ≡ startWith (getD w (5 + 4 * i) 0) (getD w (5 + 4 * i + 1) 0) (getD w (5 + 4 * i + 2) 0) (getD w (5 + 4 * i + 3) 0)
   unfolding configurationOf startIn
   start-says i inside =
-      let first : 4 + 4 * i + 0 ≡ 4 + 4 * i = omega arith in
+      let first : 5 + 4 * i + 0 ≡ 5 + 4 * i = omega arith in
       rw said (starts-at w (getD w 1 0) i inside ∙ rw first)
 
   -- WHAT THE WORDS OF A CONFIGURATION SAY
@@ -37,6 +37,7 @@ module _ (w : List ℕ) (readable : configurationReadable w ≡ true) where
     datalink = rw said;
     hello = rw said;
     limit = rw said;
+    codes = rw said;
     many = rw said (starts-length w (getD w 1 0));
     ids = λ i inside. rw (start-says i inside);
     plain = λ i inside zero. rw (start-says i inside, zero);
@@ -51,7 +52,7 @@ unfolding startsInUnder
 started-says w words memory x = configuration-says w (fits-readable w (and-eq-true-iff (configurationFits (configurationIn w)) _ .0 (exactly-starts w words memory x) .0))
 
 -- ---- how many words a state of so many channels needs
-pub needed-exactly : (n : ℕ) → (1 ≤ n → n ≤ 64 → wordsNeeded n ≡ 13 + 74 * n) × ((n < 1) ⊎ (64 < n) → wordsNeeded n ≡ 0)
+pub needed-exactly : (n : ℕ) → (1 ≤ n → n ≤ 64 → wordsNeeded n ≡ 14 + 74 * n) × ((n < 1) ⊎ (64 < n) → wordsNeeded n ≡ 0)
 unfolding wordsNeeded
 needed-exactly n = (λ some few. rw (le-leb FEWEST-CHANNELS n some, le-leb n MOST-CHANNELS few), none)
   where

@@ -22,7 +22,7 @@ use Rattle.ips_words.proofs.Whole.{slot-length, slot-word, slot-room, fit-reada
 use Rattle.ips_words_radio.specs.HeardWords.{toldSlot, heardSlots, instanceHeard, contextHeard, heardWords, receivedWords}
 use Rattle.ips_words_radio.proofs.Parts.{part-before, part-behind, instance-before, context-before, tag-written, value-written, size-written}
 use Rattle.ips_words_radio.proofs.Hearing.{head-there, all-passed, slots-room, instance-room}
-use Rattle.ips_words_radio.proofs.Heard.{heard-pacer, heard-slot, heard-length}
+use Rattle.ips_words_radio.proofs.Heard.{heard-pacer, heard-codes, heard-slot, heard-length}
 use Rattle.ips_words.proofs.Pacers.{paced-length, paced-before, paced-behind}
 use Rattle.endpoint.specs.Lent.{Lent, lent, afterInUnder}
 use Rattle.endpoint.specs.Calls.{PerformedIn}
@@ -33,13 +33,13 @@ pub none-left : (l : Lent) → ChannelsLeft l l
 none-left l = record { long = refl; setting = λ i j h b. refl; rest = λ i j h a b. refl; memory = refl }
 
 nothing-leaves : (l : Lent) → RadioLeaves l l
-nothing-leaves l = record { channels = none-left l; head = λ k h. refl; waits = λ k h b. refl; due = refl }
+nothing-leaves l = record { channels = none-left l; head = λ k h. refl; waits = λ k h b. refl; due = refl; codes = refl }
 
 -- ---- words in which each channel was told something
 module _ (words words′ : List ℕ) (fits : stateFits (stateIn words) ≡ true) (same-long : length words′ ≡ length words) (status : ℕ → Status) (window : ℕ → Window)
     (told : (i : ℕ) → i < getD words 1 0 → slot words′ i ≡ toldSlot status window (slot words i)) where
   -- a word of a channel that stands in its slot stands among all the words
-  pub in-slot : (i j : ℕ) → i < getD words 1 0 → j < 74 → {n : ℕ} → getD (toldSlot status window (slot words i)) j 0 ≡ n → getD words′ (13 + 74 * i + j) 0 ≡ n
+  pub in-slot : (i j : ℕ) → i < getD words 1 0 → j < 74 → {n : ℕ} → getD (toldSlot status window (slot words i)) j 0 ≡ n → getD words′ (14 + 74 * i + j) 0 ≡ n
   in-slot i j h b e = sym (slot-word words′ i j (omega arith)) ∙ ap (λ (w : List ℕ). getD w j 0) (told i h) ∙ e
 
   pub long-slot : (i : ℕ) → i < getD words 1 0 → length (slot words i) ≡ 74
@@ -58,8 +58,8 @@ module _ (words : List ℕ) (p : Pacer) where
   pub paced-channels : (l : Lent) (memory : List ℕ) → ChannelsLeft l (lent words memory) → ChannelsLeft l (lent (putPacer words p) memory)
   paced-channels l memory c = record {
     long = paced-length words p ∙ c .long;
-    setting = λ i j h b. paced-behind words p (13 + 74 * i + j) (omega arith) ∙ c .setting i j h b;
-    rest = λ i j h a b. paced-behind words p (13 + 74 * i + j) (omega arith) ∙ c .rest i j h a b;
+    setting = λ i j h b. paced-behind words p (14 + 74 * i + j) (omega arith) ∙ c .setting i j h b;
+    rest = λ i j h a b. paced-behind words p (14 + 74 * i + j) (omega arith) ∙ c .rest i j h a b;
     memory = c .memory;
   }
 
@@ -83,7 +83,7 @@ module _ (message : Control) (words : List ℕ) (fits : stateFits (stateIn words
       before : List ℕ
       before = instanceHeard (message .instance) (heardSlots message words (getD words 1 0))
 
-      room : 13 ≤ length before
+      room : 14 ≤ length before
       room = instance-room (message .instance) (heardSlots message words (getD words 1 0)) before (slots-room message words _ fits refl) refl
 
       left-by : (given : Context) → ContextLeft (contextHeard given before) given
@@ -108,9 +108,10 @@ module _ (message : Control) (words : List ℕ) (fits : stateFits (stateIn words
         head = λ k h. paced-before (heardWords message words) p k (omega arith) ∙ head-stands k h;
         waits = λ k low high. paced-before (heardWords message words) p k (omega arith) ∙ waits-stand k low high;
         due = due-written (heardWords message words) p (room-heard time);
+        codes = paced-behind (heardWords message words) p 13 (omega arith) ∙ heard-codes message words fits;
       }
     where
-      room-heard : ℕ → 13 ≤ length (heardWords message words)
+      room-heard : ℕ → 14 ≤ length (heardWords message words)
       room-heard time = omega (arith, heard-length message words fits, head-there words fits)
 
 -- ---- a data message writes the clock alone
@@ -123,6 +124,7 @@ data-leaves words memory time fits =
       head = λ k h. paced-before words p k (omega arith);
       waits = λ k low high. paced-before words p k (omega arith);
       due = due-written words p (head-there words fits);
+      codes = paced-behind words p 13 (omega arith);
     }
 
 received-leaves : (words memory : List ℕ) (time : ℕ) → stateFits (stateIn words) ≡ true → (r : Received) → RadioLeaves (lent words memory) (lent (receivedWords time r words) memory)
@@ -136,8 +138,8 @@ unfolding afterInUnder
 radio-other-words {time} {datagram} {l} h = rw (h .lent-is) (go (inTime time (stateIn (l .words))) refl)
   where
     go : (b : Bool) → inTime time (stateIn (l .words)) ≡ b
-        → RadioLeaves l (lent (cond b (receivedWords time (receivedIn (stateIn (l .words) .datalink) datagram) (l .words)) (l .words)) (l .memory))
-    go true f = received-leaves (l .words) (l .memory) time (and-eq-true-iff (stateFits (stateIn (l .words))) _ .0 f .0) (receivedIn (stateIn (l .words) .datalink) datagram)
+        → RadioLeaves l (lent (cond b (receivedWords time (receivedIn (stateIn (l .words) .datalink .id) datagram) (l .words)) (l .words)) (l .memory))
+    go true f = received-leaves (l .words) (l .memory) time (and-eq-true-iff (stateFits (stateIn (l .words))) _ .0 f .0) (receivedIn (stateIn (l .words) .datalink .id) datagram)
     go false f = nothing-leaves l
 
 -- ---- an accepted control message: its own Context is kept, or none; the pacer's clock and last heard are its time
@@ -146,12 +148,12 @@ module _ {time : ℕ} {datagram : List ℕ} {l l′ : Lent} {x : EndpointReply} 
   timely : inTime time (stateIn (l .words)) ≡ true
   timely = timely-by (l .words) time fitting on-time
 
-  module _ (m : Control) (e : receivedIn (stateIn (l .words) .datalink) datagram ≡ stated m) where
+  module _ (m : Control) (e : receivedIn (stateIn (l .words) .datalink .id) datagram ≡ stated m) where
     words-heard : l′ .words ≡ putPacer (heardWords m (l .words)) (heardAt time (pacerIn (l .words)))
     unfolding afterInUnder
     words-heard = ap (λ (x : Lent). x .words) (h .lent-is) ∙ rw (timely, e)
 
-    heard-room : 13 ≤ length (heardWords m (l .words))
+    heard-room : 14 ≤ length (heardWords m (l .words))
     heard-room = omega (arith, heard-length m (l .words) fitting, head-there (l .words) fitting)
 
     context-stands : {words : List ℕ} (p : Pacer) {given : Context} → ContextLeft words given → ContextLeft (putPacer words p) given

@@ -68,13 +68,13 @@ module _ (w : List ℕ) (long : length w ≡ 74) where
 
 -- ---- all the words
 module _ (words : List ℕ) (fits : stateFits (stateIn words) ≡ true) where
-  silent-slot : (i j : ℕ) → i < getD words 1 0 → j < 74 → {n : ℕ} → getD (silencedSlot (slot words i)) j 0 ≡ n → getD (silencedWords words) (13 + 74 * i + j) 0 ≡ n
+  silent-slot : (i j : ℕ) → i < getD words 1 0 → j < 74 → {n : ℕ} → getD (silencedSlot (slot words i)) j 0 ≡ n → getD (silencedWords words) (14 + 74 * i + j) 0 ≡ n
   silent-slot i j h b e = in-slot words (silencedWords words) fits (silenced-length words fits) (λ id. Status.Absent) (λ id. Window.Empty) (silenced-slot words fits) i j h b e
 
   slot-long : (i : ℕ) → i < getD words 1 0 → length (slot words i) ≡ 74
   slot-long i h = long-slot words (silencedWords words) fits (silenced-length words fits) (λ id. Status.Absent) (λ id. Window.Empty) (silenced-slot words fits) i h
 
-  kind-at : (i n : ℕ) → getD words (13 + 74 * i + 1) 0 ≡ n → getD (slot words i) 1 0 ≡ n
+  kind-at : (i n : ℕ) → getD words (14 + 74 * i + 1) 0 ≡ n → getD (slot words i) 1 0 ≡ n
   kind-at i n e = slot-word words i 1 (omega arith) ∙ e
 
   silence-writes : Silent words (silencedWords words)
@@ -93,11 +93,11 @@ module _ (words : List ℕ) (fits : stateFits (stateIn words) ≡ true) where
   abbrev fallen : Bool → List ℕ
   fallen silent = cond silent (silencedWords words) words
 
-  fallen-room : (silent : Bool) → 13 ≤ length (fallen silent)
+  fallen-room : (silent : Bool) → 14 ≤ length (fallen silent)
   fallen-room true = omega (arith, silenced-length words fits, head-there words fits)
   fallen-room false = head-there words fits
 
-  fallen-head : (silent : Bool) (k : ℕ) → k < 13 → getD (fallen silent) k 0 ≡ getD words k 0
+  fallen-head : (silent : Bool) (k : ℕ) → k < 14 → getD (fallen silent) k 0 ≡ getD words k 0
   fallen-head true k h = silenced-head words fits k h
   fallen-head false k h = refl
 
@@ -107,7 +107,7 @@ module _ (words : List ℕ) (fits : stateFits (stateIn words) ≡ true) where
 
 -- THE LAW: of any words, any time and any answer
 nothing-paced : (l : Lent) → PaceLeaves l l
-nothing-paced l = record { channels = none-left l; head = λ k h. refl; heard = refl }
+nothing-paced l = record { channels = none-left l; head = λ k h. refl; heard = refl; codes = refl }
 
 asked-leaves : (words memory : List ℕ) (time : ℕ) → stateFits (stateIn words) ≡ true → PaceLeaves (lent words memory) (lent (pacedWords time words) memory)
 unfolding pacedWords asked
@@ -118,6 +118,7 @@ asked-leaves words memory time fits =
       channels = paced-channels (fallen words fits silent) p (lent words memory) memory (fallen-channels words fits silent memory);
       head = λ k h. paced-before (fallen words fits silent) p k (omega arith) ∙ fallen-head words fits silent k (omega arith);
       heard = heard-written (fallen words fits silent) p (fallen-room words fits silent);
+      codes = paced-behind (fallen words fits silent) p 13 (omega arith) ∙ fallen-head words fits silent 13 (omega arith);
     }
 
 pub pace-other-words : {time : ℕ} {l l′ : Lent} {x : EndpointReply} → PerformedIn (pace time) l x l′ → PaceLeaves l l′
@@ -165,9 +166,9 @@ module _ {time : ℕ} {l l′ : Lent} {x : EndpointReply} (h : PerformedIn (pace
       let s = silence-writes (l .words) fitting in
       let at : (k : ℕ) → 12 < k → getD (l′ .words) k 0 ≡ getD (silencedWords (l .words)) k 0 = λ k low. behind k low ∙ rw is in
       record {
-        unreported = λ i inside. (at (13 + 74 * i + 3) (omega arith) ∙ s .unreported i inside .0, at (13 + 74 * i + 4) (omega arith) ∙ s .unreported i inside .1);
-        no-window = λ i inside kind. (at (13 + 74 * i + 5) (omega arith) ∙ s .no-window i inside kind .0, at (13 + 74 * i + 6) (omega arith) ∙ s .no-window i inside kind .1);
-        plain = λ i j inside kind low high. at (13 + 74 * i + j) (omega arith) ∙ s .plain i j inside kind low high;
+        unreported = λ i inside. (at (14 + 74 * i + 3) (omega arith) ∙ s .unreported i inside .0, at (14 + 74 * i + 4) (omega arith) ∙ s .unreported i inside .1);
+        no-window = λ i inside kind. (at (14 + 74 * i + 5) (omega arith) ∙ s .no-window i inside kind .0, at (14 + 74 * i + 6) (omega arith) ∙ s .no-window i inside kind .1);
+        plain = λ i j inside kind low high. at (14 + 74 * i + j) (omega arith) ∙ s .plain i j inside kind low high;
       }
 
   pub pace-quiet-words : time < getD (l .words) 12 0 + getD (l .words) 9 0 → Unsilenced (l .words) (l′ .words)

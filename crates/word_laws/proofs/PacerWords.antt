@@ -19,7 +19,7 @@ eight-or-nine k low high =
     let least : 8 ≤ k = omega arith in
     ⊎-elim (λ (e : 8 ≡ k). inl (omega arith)) (λ (l : 8 < k). inr (omega arith)) (eq-or-lt-of-le least)
 
-module _ (words : List ℕ) (p : Pacer) (room : 13 ≤ length words) where
+module _ (words : List ℕ) (p : Pacer) (room : 14 ≤ length words) where
   pub clock-written : getD (putPacer words p) 10 0 ≡ p .clock
   unfolding putPacer
   clock-written = three-first words CLOCK-WORD (p .clock) (p .due) (p .heard) (omega arith)

@@ -220,12 +220,12 @@ module _ (words : List ℕ) (b : ℕ) where
 
 -- ---- all the words
 module _ (words : List ℕ) where
-  out-of-slot : (i j : ℕ) → j < 74 → getD (slot words i) (0 + j) 0 ≡ getD words (13 + 74 * i + j) 0
+  out-of-slot : (i j : ℕ) → j < 74 → getD (slot words i) (0 + j) 0 ≡ getD words (14 + 74 * i + j) 0
   out-of-slot i j h = let none : 0 + j ≡ j = omega arith in rw none (slot-word words i j (omega arith))
 
-  id-said : (i : ℕ) → i < getD words 1 0 → channelAt (stateOf words) i .setting .id ≡ getD words (13 + 74 * i) 0
+  id-said : (i : ℕ) → i < getD words 1 0 → channelAt (stateOf words) i .setting .id ≡ getD words (14 + 74 * i) 0
   unfolding channelIn
-  id-said i h = ap (λ (c : Channel). c .setting .id) (channel-at words i h) ∙ same-first (slot words i) words 0 (13 + 74 * i) (out-of-slot i)
+  id-said i h = ap (λ (c : Channel). c .setting .id) (channel-at words i h) ∙ same-first (slot words i) words 0 (14 + 74 * i) (out-of-slot i)
 
   -- a state within the limits
   module _ (e : readable words ≡ true) (w : WithinLimits (stateOf words)) where
@@ -247,8 +247,9 @@ module _ (words : List ℕ) where
           context-within = name-words words 5 (r .head .context) (λ t. w .context-within (record { 0 = getD words 6 0 }) (getD words 7 0) (tag-given (getD words 5 0) Context.Absent context t));
           hello = w .hello;
           limit = w .limit;
+          codes = r .head .codes;
           each = λ i h.
-              moved-within (slot words i) words 0 (13 + 74 * i) (out-of-slot i)
+              moved-within (slot words i) words 0 (14 + 74 * i) (out-of-slot i)
               (part-within (slot words i) (r .each i h) (rw (channel-at words i h) at (w .each i (counted i h))));
           apart = λ i j h l p. w .apart i j (counted i h) (counted j l) (id-said i h ∙ p ∙ sym (id-said j l));
           primary = w .primary;
@@ -259,12 +260,12 @@ module _ (words : List ℕ) where
   -- words within
   module _ (w : WordsWithin words) where
     slot-within : (i : ℕ) → i < getD words 1 0 → ChannelWordsWithin (slot words i) 0
-    slot-within i h = moved-within words (slot words i) (13 + 74 * i) 0 (λ j l. sym (out-of-slot i j l)) (w .each i h)
+    slot-within i h = moved-within words (slot words i) (14 + 74 * i) 0 (λ j l. sym (out-of-slot i j l)) (w .each i h)
 
     words-readable : readable words ≡ true
     words-readable = readable-by words (record {
       long = w .long;
-      head = record { datalink = w .datalink; instance = w .instance-within .tag; context = w .context-within .tag };
+      head = record { datalink = w .datalink; instance = w .instance-within .tag; context = w .context-within .tag; codes = w .codes };
       each = λ i h. part-spelled (slot words i) (slot-within i h);
     })
 
@@ -306,12 +307,12 @@ module _ (words : List ℕ) where
 
   -- WHAT SUCH WORDS SAY
   module _ (w : WordsWithin words) where
-    pub channel-says : (i : ℕ) → i < getD words 1 0 → ChannelSaid words (13 + 74 * i) (channelAt (stateIn words) i)
+    pub channel-says : (i : ℕ) → i < getD words 1 0 → ChannelSaid words (14 + 74 * i) (channelAt (stateIn words) i)
     unfolding channelIn queueIn
     channel-says i h =
         let few : getD (slot words i) 9 0 ≤ 32 = slot-within w i h .few in
         rw (says words (words-readable w), channel-at words i h)
-        (moved-said (slot words i) words 0 (13 + 74 * i) (out-of-slot i) (channelIn (slot words i)) few (part-said (slot words i) few))
+        (moved-said (slot words i) words 0 (14 + 74 * i) (out-of-slot i) (channelIn (slot words i)) few (part-said (slot words i) few))
 
     pub words-say : StateSaid words (stateIn words)
     unfolding stateOf instanceOf contextOf
@@ -329,5 +330,6 @@ module _ (words : List ℕ) where
           clock = rw is;
           due = rw is;
           heard = rw is;
+          codes = rw is;
           channel = channel-says;
         }

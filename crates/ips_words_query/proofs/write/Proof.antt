@@ -15,7 +15,7 @@ judged : (c : tie.After-no-room) → let start = c .before .before .before .befo
     Judged true (controlWritten (queryOf (stateIn (start .args .words .now)))) (start .args .out .now) (c .no-room .result)
 judged c = query-judged _ _ _ _ (c .before .before .before .gather .ensures) (c .before .size .ensures) (c .no-room .ensures)
 
-datalink-is : (c : tie.After-datalink) → c .datalink .result ≡ stateIn (c .before .before .before .before .before .before .before .before .before .before .args .words .now) .datalink
+datalink-is : (c : tie.After-datalink) → c .datalink .result ≡ stateIn (c .before .before .before .before .before .before .before .before .before .before .args .words .now) .datalink .id
 datalink-is c = said-datalink _ (c .before .before .before .before .before .before .before .before .before .before .pre) (c .datalink .ensures)
 
 returns : tie.Need-returns

@@ -6,7 +6,7 @@ use borrow.Author.Needs.{needs}
 use lib.ListN.{length}
 use Rattle.ips_state.specs.State.{State}
 use Rattle.ips_words.specs.Words.{stateIn}
-use Rattle.ips_words_query.proofs.Gathering.{said-head}
+use Rattle.ips_words_query.proofs.Gathering.{said-setting}
 use Rattle.endpoint.proofs.Placing.{says-so}
 use Rattle.endpoint.proofs.Calling.{state-fits, placed, store-ends, ready, kept-at, saved-at}
 use Rattle.endpoint.proofs.call.next_at.Statement.{statement}
@@ -15,11 +15,11 @@ use Rattle.endpoint.proofs.call.next_at.Tie as tie
 abbrev start : tie.After-load → tie.Start
 start c = c .before .before .before .before .before .before .before
 
-datalink-requires : tie.Need-datalink-requires
-datalink-requires c κs = said-head _ (state-fits _ _ (c .before .before .before .before .pre))
+setting-requires : tie.Need-setting-requires
+setting-requires c κs = said-setting _ (state-fits _ _ (c .before .before .before .before .pre))
 
-named : (c : tie.After-datalink) → let start = c .before .before .before .before .before in c .datalink .result ≡ stateIn (start .args .words .now) .datalink
-named c = says-so _ (state-fits _ _ (c .before .before .before .before .before .pre)) (λ (s : State). s .datalink) _ (c .datalink .ensures)
+named : (c : tie.After-setting) → let start = c .before .before .before .before .before in c .setting .result ≡ stateIn (start .args .words .now) .datalink
+named c = says-so _ (state-fits _ _ (c .before .before .before .before .before .pre)) (λ (s : State). s .datalink) _ (c .setting .ensures)
 
 load-requires : tie.Need-load-requires
 load-requires c κs = placed _ _ (c .before .before .before .before .before .before .pre)
@@ -61,7 +61,7 @@ pub next-at-spec : {M : Type 1} → statement M
 next-at-spec =
     tie.close
     (tie.spec
-    datalink-requires
+    setting-requires
     load-requires
     add-end
     (λ c. search needs)

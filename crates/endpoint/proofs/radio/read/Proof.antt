@@ -13,8 +13,8 @@ use Rattle.endpoint.proofs.radio.read.Tie as tie
 datalink-requires : tie.Need-datalink-requires
 datalink-requires c κs = said-head _ (c .before .before .before .pre)
 
-named : (c : tie.After-datalink) → c .datalink .result ≡ stateIn (now (c .before .before .before .before .args .words)) .datalink
-named c = says-so _ (c .before .before .before .before .pre) (λ (s : State). s .datalink) _ (c .datalink .ensures)
+named : (c : tie.After-datalink) → c .datalink .result ≡ stateIn (now (c .before .before .before .before .args .words)) .datalink .id
+named c = says-so _ (c .before .before .before .before .pre) (λ (s : State). s .datalink .id) _ (c .datalink .ensures)
 
 control-requires : tie.Need-control-requires
 control-requires c κs = c .before .before .before .before .before .before .before .before .before .pre

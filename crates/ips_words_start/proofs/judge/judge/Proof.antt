@@ -3,7 +3,7 @@ use mathlib.Core.Path.{refl, _∙_}
 use borrow.Author.Tests.{lt-leb}
 use Rattle.quantity.specs.Limits.{FEWEST-CHANNELS, MOST-CHANNELS}
 use mathlib.Core.Bool.{and-false}
-use Rattle.ips_words_start.proofs.Judging.{judge-short, judge-count, judge-long, judge-datalink, judge-walk}
+use Rattle.ips_words_start.proofs.Judging.{judge-short, judge-count, judge-long, judge-datalink, judge-codes, judge-walk}
 use borrow.Author.Needs.{needs}
 use Rattle.ips_words_start.proofs.judge.judge.Statement.{statement}
 use Rattle.ips_words_start.proofs.judge.judge.Tie as tie
@@ -24,7 +24,13 @@ returns-5 : tie.Need-returns-5
 returns-5 c = c .outside5 .ensures ∙ judge-datalink _ _ (c .before .before .before .before .before .before .narrow .ensures) (c .before .if5 .taken)
 
 returns-6 : tie.Need-returns-6
-returns-6 c = c .walk .ensures ∙ judge-walk _ _ (c .before .before .before .before .before .before .narrow .ensures) (c .before .before .before .if4 .left) (c .before .if5 .left) (c .before .before .before .before .before .if2 .left) (c .before .before .before .before .if3 .left)
+returns-6 c = c .outside6 .ensures ∙ judge-codes _ _ (c .before .before .before .before .before .before .before .before .narrow .ensures) (c .before .if6 .taken)
+
+returns-7 : tie.Need-returns-7
+returns-7 c =
+    let named = c .before .before .before in
+    let long = named .before .before in
+    c .walk .ensures ∙ judge-walk _ _ (long .before .before .before .narrow .ensures) (long .if4 .left) (named .if5 .left) (c .before .if6 .left) (long .before .before .if2 .left) (long .before .if3 .left)
 
 pub judge-spec : {M : Type 1} → statement M
 judge-spec =
@@ -45,5 +51,8 @@ judge-spec =
     (λ c. search needs)
     (λ c κs. search needs)
     returns-5
+    (λ c. search needs)
     (λ c κs. search needs)
-    returns-6)
+    returns-6
+    (λ c κs. search needs)
+    returns-7)

@@ -18,9 +18,12 @@ element-write-words-3 c = search needs
 element-write-words-4 : tie.Need-element-write-words-4
 element-write-words-4 c = search needs
 
+element-write-words-5 : tie.Need-element-write-words-5
+element-write-words-5 c = search needs
+
 returns : tie.Need-returns
 returns c =
-    sets-eq (c .args .datalink ∷ c .args .count ∷ c .args .hello ∷ c .args .limit ∷ []) (c .args .words .now) 0 (omega (arith, c .pre))
+    sets-eq (c .args .datalink ∷ c .args .count ∷ c .args .hello ∷ c .args .limit ∷ c .args .codes ∷ []) (c .args .words .now) 0 (omega (arith, c .pre))
 
 pub write-head-spec : {M : Type 1} → statement M
 write-head-spec =
@@ -30,4 +33,5 @@ write-head-spec =
     element-write-words-2
     element-write-words-3
     element-write-words-4
+    element-write-words-5
     returns)
