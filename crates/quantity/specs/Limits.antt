@@ -49,6 +49,10 @@ SHORTEST-NAME = 1
 abbrev pub LONGEST-NAME : ℕ
 LONGEST-NAME = 8
 
+-- document 02, §3: "cut at 2^31 - 1", "watermark or throughput above 2^31 - 1"
+abbrev pub MOST-ALLOWANCE : ℕ
+MOST-ALLOWANCE = 2147483647
+
 -- ---- the two limits that document 02 raised, as a parameter: so the limits before and those in force are two instances of one definition
 pub record Limits : Type 0 where
   pub channels : ℕ

@@ -89,6 +89,10 @@ EARLIER-PACE = 21
 abbrev pub NO-WAIT : ℕ
 NO-WAIT = 22
 
+-- document 02, §3: watermark or throughput above 2^31 - 1
+abbrev pub LARGE-ALLOWANCE : ℕ
+LARGE-ALLOWANCE = 23
+
 -- document 02, §9: bad file header or another link type
 abbrev pub FILE-HEAD : ℕ
 FILE-HEAD = 25

@@ -27,3 +27,6 @@ pub const HIGHEST_STATUS: u8 = 15;
 pub const SHORTEST_NAME: usize = 1;
 
 pub const LONGEST_NAME: usize = 8;
+
+// How far a window may lie above the highest sequence heard; a watermark and a throughput, too, are at most this.
+pub const MOST_ALLOWANCE: usize = 2147483647;

@@ -43,6 +43,8 @@ pub const EARLIER_PACE: u8 = 21;
 
 pub const NO_WAIT: u8 = 22;
 
+pub const LARGE_ALLOWANCE: u8 = 23;
+
 pub const FILE_HEAD: u8 = 25;
 
 pub const RECORD: u8 = 26;

@@ -1,0 +1,3 @@
+-- The laws of the state: `UpTo` of a test on each number below another, `Fit` of number 19 as facts.
+pub mod UpTo
+pub mod Fit

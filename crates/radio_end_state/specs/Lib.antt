@@ -1,0 +1,5 @@
+pub mod Channel
+pub mod State
+pub mod Limits
+pub mod Message
+pub mod Calls

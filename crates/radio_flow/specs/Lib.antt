@@ -1,0 +1,3 @@
+pub mod Granting
+pub mod Numbers
+pub mod Rows
