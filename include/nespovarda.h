@@ -151,7 +151,7 @@ typedef struct {
 #define NESPOVARDA_CONFIGURED_COUNT 1    /* how many channels, FEWEST_CHANNELS to MOST_CHANNELS */
 #define NESPOVARDA_CONFIGURED_HELLO 2    /* HelloTime: how long from a query to the next, in milliseconds, not 0 */
 #define NESPOVARDA_CONFIGURED_LIMIT 3    /* the silence limit: how long without a control message, not 0 */
-#define NESPOVARDA_CONFIGURED_CODES 4    /* which statuses 8 to 15 are operational: bit status - 8; 0: none */
+#define NESPOVARDA_CONFIGURED_CODES 4    /* which statuses 8 to 15 are operational, of 8 bits: bit status - 8; 0: none */
 #define NESPOVARDA_CONFIGURATION_HEAD 5  /* how many first words */
 #define NESPOVARDA_START_ID 0            /* the Channel ID; one of the channels is 0, and none comes twice */
 #define NESPOVARDA_START_KIND 1          /* NESPOVARDA_PLAIN or NESPOVARDA_CONTROLLED */

@@ -29,6 +29,7 @@ The verdict is about the recording. These make a good endpoint look bad, or hide
 - **More than one session in a capture.** Addresses and source ports aren't looked at: two routers, or one that was started anew, are judged as one. Cut the capture apart first (`tcpdump -r FILE -w PART host ADDRESS`).
 - **Another order than the IPS end's.** The capture has to hold the messages in the order in which the IPS end saw them. Recorded at the radio, a window that was on its way while a packet was sent stands before that packet: a smaller or withdrawn one then looks like a breach, a larger one hides one.
 - **Records that are missing.** A data message that the capture lost makes the next one a breach, by its sequence. A lost radio control message leaves the window before it in force.
+- **Radio messages that the IPS end didn't take.** One that was lost behind the place of the recording, or that the endpoint refused for a reason which the bytes don't show (ours refuses one whose time is before its clock, number 21), is heard here: if it granted less, a packet within the window before it looks like a breach.
 - **A capture that begins in the middle.** Data messages before the first radio control message are breaches.
 - **A channel that the IPS end takes as plain.** Where the radio grants it windows, every packet without a Flow Sequence is a breach, whichever end is configured wrongly.
 - **Other ports or another Datalink ID.** Messages under another are passed over, and a channel without data messages passes. `report` counts what was read.
