@@ -24,7 +24,8 @@ def draw_endpoint(dice):
     configurations = [ciri.Configuration(channel, chance(dice, 70), dice.choice(first), STORE) for channel in channels]
     memory = bytearray(STORE * len(channels))
     pacer = ciri.Pacer(dice.randrange(1, 40), dice.randrange(1, 60))
-    return ciri.start_endpoint(dice.setting.datalink_id, configurations, pacer, memory), memory
+    codes = dice.choice((0, 2, 255))
+    return ciri.start_endpoint(dice.setting.datalink_id, configurations, codes, pacer, memory), memory
 
 
 def draw_packet(dice):
