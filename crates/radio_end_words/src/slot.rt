@@ -57,7 +57,7 @@ fn highest_of(tag: u64, value: u64) -> Highest
     Highest::At(FlowSequence(half(value)))
 }
 
-fn highest_tag(highest: Highest) -> u64
+pub fn highest_tag(highest: Highest) -> u64
     ensures { λ r. ⌜ r ≡ highestTag highest ⌝ }
 {
     match highest {
@@ -66,7 +66,7 @@ fn highest_tag(highest: Highest) -> u64
     }
 }
 
-fn highest_value(highest: Highest) -> u64
+pub fn highest_value(highest: Highest) -> u64
     ensures { λ r. ⌜ r ≡ highestValue highest ⌝ }
 {
     match highest {

@@ -1,0 +1,12 @@
+-- The laws of the calls: `Keeps` of refusals, `Limits` of number 19, `Message` of what the message says, `Differs` of where it is written, `Exactly` and `Heard` of each
+-- answer, `Kept` of the limits; `Places`, `Ordered` and `Changed` serve them.
+pub mod Keeps
+pub mod Places
+pub mod Limits
+pub mod Message
+pub mod Differs
+pub mod Ordered
+pub mod Changed
+pub mod Exactly
+pub mod Heard
+pub mod Kept
