@@ -7,7 +7,7 @@
     compare.py capture PROGRAM FILE WORD..          one capture, with the program's words
     compare.py cases                                the small captures of judge_cases.py, the samples of `judge` among them
 
-`random` is for `distance` and `session`, the captures for `report` and `judge`.
+`random` is for `distance`, `session` and `station`, the captures for `report` and `judge`.
 """
 
 import os
@@ -27,7 +27,7 @@ from own_captures import draw_recording
 SECOND = pathlib.Path(__file__).resolve().parent
 ROOT = SECOND.parent
 # Each proved program that answers line by line, with the number of lines that it writes before the answers.
-PROGRAMS = {"distance": 1, "session": 0}
+PROGRAMS = {"distance": 1, "session": 0, "station": 0}
 # Each program that reads a capture, with what draws captures for it.
 CAPTURES = {"report": (draw_capture,), "judge": (draw_session, draw_session, draw_session, draw_capture, draw_recording)}
 # Programs whose stored output is compared line by line.
@@ -35,9 +35,12 @@ STORED = PROGRAMS | dict.fromkeys(CAPTURES, 0)
 # Each made file, with the script that prints it, and the script's words.
 MADE = {
     "crates/session/stdin": "stored.py",
+    "crates/station/stdin": "stored_station.py",
     "crates/report/stdin": "stored_capture.py",
     "crates/judge/stdin": "stored_judge.py",
     "docs/FLIGHT.md": "flight_page.py",
+    "docs/BOTH-ENDS.md": "both_ends.py",
+    "docs/samples/station": "both_ends.py lines station",
     "docs/samples/report": "sample_capture.py",
     "docs/REPORT.md": "report_page.py",
     "docs/samples/judge": "sample_judge.py",

@@ -1,0 +1,43 @@
+-- `hear_line` meets its contract. Assumes nothing.
+use borrow.Author.Needs.{needs}
+use Rattle.station_print.specs.Answers.{ANSWER, HEARD}
+use Rattle.station.proofs.Laws.{calls}
+use Rattle.station.proofs.hear_line.Statement.{statement}
+use Rattle.station.proofs.hear_line.Tie as tie
+
+hear-requires : tie.Need-hear-requires
+hear-requires c κs = search needs
+
+slice-aggregate-answered : tie.Need-slice-aggregate-answered
+slice-aggregate-answered c = search needs
+
+slice-aggregate-answered-2 : tie.Need-slice-aggregate-answered-2
+slice-aggregate-answered-2 c = search needs
+
+answered-requires : tie.Need-answered-requires
+answered-requires c κs = search needs
+
+same-length : tie.Need-same-length
+same-length c = search needs
+
+same-length-2 : tie.Need-same-length-2
+same-length-2 c = search needs
+
+same-length-3 : tie.Need-same-length-3
+same-length-3 c = search needs
+
+returns : tie.Need-returns
+returns c = calls ANSWER HEARD (c .before .before .before .before .before .before .before .before .before .before .before .hear .ensures) (c .before .before .answered .ensures)
+
+pub hear-line-spec : {M : Type 1} → statement M
+hear-line-spec =
+    tie.close
+    (tie.spec
+    hear-requires
+    slice-aggregate-answered
+    slice-aggregate-answered-2
+    answered-requires
+    same-length
+    same-length-2
+    same-length-3
+    returns)
