@@ -2,23 +2,17 @@
  * replay: answers a script of the session page (docs/SESSION.md) as the program `session` does, each line by calls of the
  * library alone. c/replay-stored compares the two on the stored script.
  */
-#define _POSIX_C_SOURCE 200809L /* getline */
-
 #include <inttypes.h>
 #include <stdbool.h>
 #include <stdio.h>
 #include <stdlib.h>
-#include <string.h>
 
+#include "lines.h"
 #include "nespovarda.h"
 
 /* What a line may hold. */
-#define LONGEST_LINE 140000
-#define LARGEST_ID 255
 #define LARGEST_SEQUENCE 4294967295u
 #define LARGEST_MASK 255
-#define LARGEST_LENGTH (NESPOVARDA_MOST_CHANNELS * NESPOVARDA_LARGEST_STORE)
-#define MOST_READ 80 /* channels of a start */
 #define START_WORDS 2
 #define MEMORY_WORDS 2
 #define PACE_WORDS 3
@@ -28,16 +22,6 @@
 #define HELLO 5000 /* where a start says nothing of the pacer */
 #define LIMIT 9000
 
-struct word {
-    const char *text;
-    size_t length;
-};
-
-struct bytes {
-    uint8_t *at;
-    size_t length;
-};
-
 /* A state and its memory: no words before the first start. */
 struct session {
     uint64_t *words;
@@ -46,133 +30,15 @@ struct session {
     size_t memory_length;
 };
 
-/* ---- Memory for one line, each piece as long as asked and no longer, so that a memory checker sees a byte too far ---- */
-
-#define MOST_LENT 4
-
-static void *lent[MOST_LENT];
-static size_t lent_count;
-
-static void *allocate(size_t size)
-{
-    void *memory = malloc(size == 0 ? 1 : size);
-    if (memory == NULL) {
-        fputs("replay: no memory\n", stderr);
-        exit(2);
-    }
-    return memory;
-}
-
-static void *lend(size_t size)
-{
-    if (lent_count == MOST_LENT)
-        abort();
-    return lent[lent_count++] = allocate(size);
-}
-
-static void take_back(void)
-{
-    while (lent_count > 0)
-        free(lent[--lent_count]);
-}
-
-/* ---- Words of a line: false where a word isn't as the page has it ---- */
-
-static bool is(struct word word, const char *text)
-{
-    return word.length == strlen(text) && memcmp(word.text, text, word.length) == 0;
-}
-
-/* A decimal number from 0 to the largest, without needless zeros in front. */
-static bool read_number(struct word word, uint64_t largest, uint64_t *number)
-{
-    if (word.length == 0 || (word.length > 1 && word.text[0] == '0'))
-        return false;
-    *number = 0;
-    for (size_t i = 0; i < word.length; i++) {
-        if (word.text[i] < '0' || word.text[i] > '9')
-            return false;
-        uint64_t digit = (uint64_t)(word.text[i] - '0');
-        if (digit > largest || *number > (largest - digit) / 10)
-            return false;
-        *number = *number * 10 + digit;
-    }
-    return true;
-}
-
-static bool read_id(struct word word, uint8_t *id)
-{
-    uint64_t number;
-    if (!read_number(word, LARGEST_ID, &number))
-        return false;
-    *id = (uint8_t)number;
-    return true;
-}
-
-/* The value of a hexadecimal digit, or -1. */
-static int digit_of(char character)
-{
-    if (character >= '0' && character <= '9')
-        return character - '0';
-    if (character >= 'a' && character <= 'f')
-        return character - 'a' + 10;
-    return -1;
-}
-
-static bool read_bytes(struct word word, struct bytes *bytes)
-{
-    bool none = is(word, "-");
-    if (!none && (word.length == 0 || word.length % 2 != 0))
-        return false;
-    bytes->length = none ? 0 : word.length / 2;
-    bytes->at = lend(bytes->length);
-    for (size_t i = 0; i < bytes->length; i++) {
-        int high = digit_of(word.text[2 * i]);
-        int low = digit_of(word.text[2 * i + 1]);
-        if (high < 0 || low < 0)
-            return false;
-        bytes->at[i] = (uint8_t)(16 * high + low);
-    }
-    return true;
-}
-
-/* An output of so many bytes. */
-static bool read_room(struct word word, struct bytes *out)
-{
-    uint64_t room;
-    if (!read_number(word, LARGEST_LENGTH, &room))
-        return false;
-    out->length = (size_t)room;
-    out->at = lend(out->length);
-    return true;
-}
-
 static bool read_end(struct word word, uint8_t *end)
 {
     *end = is(word, "radio") ? NESPOVARDA_RADIO_END : NESPOVARDA_IPS_END;
     return is(word, "ips") || is(word, "radio");
 }
 
-static bool read_kind(struct word word, uint64_t *kind)
-{
-    *kind = is(word, "flow") ? NESPOVARDA_CONTROLLED : NESPOVARDA_PLAIN;
-    return is(word, "plain") || is(word, "flow");
-}
-
 /* ---- Answers ---- */
 
-static void say_bytes(const uint8_t *bytes, size_t length)
-{
-    static const char digits[] = "0123456789abcdef";
-    if (length == 0)
-        putchar('-');
-    for (size_t i = 0; i < length; i++) {
-        putchar(digits[bytes[i] >> 4]);
-        putchar(digits[bytes[i] & 15]);
-    }
-}
-
-/* An answer without a message; one that no line has an answer for shows as its numbers. */
+/* An answer without a message. */
 static void say(nespovarda_answer answer)
 {
     static const char *const words[] = {
@@ -189,23 +55,19 @@ static void say(nespovarda_answer answer)
         [NESPOVARDA_SILENT] = "silent",
         [NESPOVARDA_QUERY_DUE_SILENT] = "due silent",
     };
-    if (answer.kind > NESPOVARDA_REFUSED)
-        printf("refused %" PRIu64 " %" PRIu64, answer.kind - NESPOVARDA_REFUSED, answer.value);
-    else if (answer.kind < sizeof words / sizeof *words && words[answer.kind] != NULL && answer.value == 0)
+    if (answer.kind < sizeof words / sizeof *words && words[answer.kind] != NULL && answer.value == 0)
         fputs(words[answer.kind], stdout);
     else
-        printf("answer %" PRIu64 " %" PRIu64, answer.kind, answer.value);
+        say_refusal(answer);
 }
 
 /* An answer of a kind that has a message in the output, behind a word; or another one. */
-static void say_message(nespovarda_answer answer, uint64_t kind, const char *word, struct bytes out)
+static void say_written(nespovarda_answer answer, uint64_t kind, const char *word, struct bytes out)
 {
-    if (answer.kind != kind || answer.value > out.length) {
+    if (answer.kind == kind)
+        say_message(word, out, answer.value);
+    else
         say(answer);
-        return;
-    }
-    printf("%s ", word);
-    say_bytes(out.at, (size_t)answer.value);
 }
 
 static void say_link(uint64_t length, uint64_t value)
@@ -346,7 +208,7 @@ static bool answer_echo(struct session *session, const struct word *words, size_
     nespovarda_answer answer = read_message(&message);
     if (answer.kind == NESPOVARDA_ACCEPTED)
         answer = write_message(&message, end, out);
-    say_message(answer, NESPOVARDA_WROTE, "written", out);
+    say_written(answer, NESPOVARDA_WROTE, "written", out);
     return true;
 }
 
@@ -465,7 +327,7 @@ static bool answer_next(struct session *session, const struct word *words, size_
         return false;
     nespovarda_answer answer = nespovarda_next(session->words, session->words_length, session->memory,
                                                session->memory_length, channel, now, out.at, out.length);
-    say_message(answer, NESPOVARDA_SENT, "sent", out);
+    say_written(answer, NESPOVARDA_SENT, "sent", out);
     return true;
 }
 
@@ -511,7 +373,7 @@ static bool answer_query(struct session *session, const struct word *words, size
     if (!read_room(words[0], &out))
         return false;
     nespovarda_answer answer = nespovarda_query(session->words, session->words_length, out.at, out.length);
-    say_message(answer, NESPOVARDA_WROTE, "query", out);
+    say_written(answer, NESPOVARDA_WROTE, "query", out);
     return true;
 }
 
@@ -619,13 +481,7 @@ static bool answer_pacer(struct session *session, const struct word *words, size
 
 /* ---- The session ---- */
 
-/* A line's first word, how many may stand behind it, and its answer, which is false for a bad line. */
-static const struct {
-    const char *first;
-    size_t least, most;
-    bool needs_state;
-    bool (*answer)(struct session *session, const struct word *words, size_t count);
-} LINES[] = {
+static const struct line LINES[] = {
     {"read", 3, 3, false, answer_read},
     {"echo", 5, 5, false, answer_echo},
     {"start", START_WORDS, MOST_WORDS, false, answer_start},
@@ -641,53 +497,15 @@ static const struct {
     {"pacer", 0, 0, true, answer_pacer},
 };
 
-/* The words of a line, one space between two; those behind the last place aren't gone through. */
-static size_t split(const char *line, size_t length, struct word *words, size_t places)
+static bool is_started(const struct session *session)
 {
-    const char *end = line + length;
-    size_t count = 0;
-    while (count < places) {
-        const char *space = memchr(line, ' ', (size_t)(end - line));
-        const char *stop = space == NULL ? end : space;
-        words[count++] = (struct word){line, (size_t)(stop - line)};
-        if (space == NULL)
-            break;
-        line = space + 1;
-    }
-    return count;
-}
-
-static bool answer_line(struct session *session, const char *line, size_t length)
-{
-    struct word words[1 + MOST_WORDS + 1];
-    if (length > LONGEST_LINE)
-        return false;
-    size_t behind = split(line, length, words, sizeof words / sizeof *words) - 1;
-    for (size_t i = 0; i < sizeof LINES / sizeof *LINES; i++) {
-        if (!is(words[0], LINES[i].first))
-            continue;
-        if (behind < LINES[i].least || behind > LINES[i].most || (LINES[i].needs_state && session->words == NULL))
-            return false;
-        return LINES[i].answer(session, words + 1, behind);
-    }
-    return false;
+    return session->words != NULL;
 }
 
 int main(void)
 {
     struct session session = {0};
-    char *line = NULL;
-    size_t room = 0;
-    ssize_t length;
-    while ((length = getline(&line, &room, stdin)) > 0) {
-        if (line[length - 1] == '\n')
-            length--;
-        if (!answer_line(&session, line, (size_t)length))
-            fputs("bad line", stdout);
-        putchar('\n');
-        take_back();
-    }
-    free(line);
+    int failed = answer_lines(LINES, sizeof LINES / sizeof *LINES, &session, is_started);
     forget(&session);
-    return ferror(stdin) || fflush(stdout) != 0 || ferror(stdout);
+    return failed;
 }

@@ -15,7 +15,9 @@
  * Refusals and limits are those of documents 01 and 02, in their words; sections are those
  * of the draft of ARINC 858 Part 3 (docs/DECISIONS.md says what these papers are).
  *
- * `include/check` compares this file with the sources that the library is built from.
+ * The radio's end is a second library (nespovarda_station.h), whose answers, refusals and limits stand here, too.
+ *
+ * `include/check` compares both files with the sources that the libraries are built from.
  */
 #ifndef NESPOVARDA_H
 #define NESPOVARDA_H
@@ -58,6 +60,9 @@ typedef struct {
 #define NESPOVARDA_SILENT 17         /* no radio control message was accepted for the silence limit or longer */
 #define NESPOVARDA_QUERY_DUE_SILENT 18 /* both */
 #define NESPOVARDA_PACER_SHOWN 19      /* the pacer's numbers are given */
+#define NESPOVARDA_ANSWERED 20         /* the radio's message was written as the answer; value: its length */
+#define NESPOVARDA_UNASKED 21          /* the radio's message was written unasked; value: its length */
+#define NESPOVARDA_NO_MESSAGE 22       /* the radio's end accepted it, and there is nothing to send */
 
 /*
  * From here on a kind is a refusal: this and the papers' number, so `kind - NESPOVARDA_REFUSED` is the number. The
@@ -122,6 +127,8 @@ typedef struct {
 #define NESPOVARDA_REFUSED_EARLIER_PACE (NESPOVARDA_REFUSED + 21)
 /* 22: configuration: HelloTime or silence limit of 0 */
 #define NESPOVARDA_REFUSED_NO_WAIT (NESPOVARDA_REFUSED + 22)
+/* 23: configuration of the radio's end: watermark or throughput above MOST_ALLOWANCE, of a plain channel too */
+#define NESPOVARDA_REFUSED_LARGE_ALLOWANCE (NESPOVARDA_REFUSED + 23)
 
 /* ---- Limits ---- */
 
@@ -138,6 +145,7 @@ typedef struct {
 #define NESPOVARDA_HIGHEST_STATUS 15    /* 0: not operational; 1 to 7: operational; 8 to 15: as configured */
 #define NESPOVARDA_SHORTEST_NAME 1      /* bytes of a Link Instance or of a Datalink Context */
 #define NESPOVARDA_LONGEST_NAME 8
+#define NESPOVARDA_MOST_ALLOWANCE 2147483647 /* bytes of the radio's watermark or throughput, and of a grant */
 
 /* ---- The state ---- */
 

@@ -1,74 +1,14 @@
 //! Answers a script of the session page (docs/SESSION.md) through the safe interface alone: one call a line from standard input, one answer a line.
+mod lines;
+use lines::{answer_lines, byte, bytes, hexadecimal, kind, length, number, wide, Answered, Fault, MOST_READ, WORDS_OF_A_CHANNEL};
 use nespovarda::{control, data};
-use nespovarda::{words_for, Configuration, Context, DatalinkId, End, Endpoint, Flow, FlowSequence, Heard, Kind, LinkInstance};
-use nespovarda::{Next, Offered, Paced, Read, Refusal, StatusCodes, Waits, Withdrawn, Written};
-use std::fmt::Write as _;
-use std::io::{self, BufRead, Write};
+use nespovarda::{words_for, Configuration, Context, DatalinkId, End, Endpoint, Flow, FlowSequence, Heard, LinkInstance};
+use nespovarda::{Next, Offered, Paced, Read, StatusCodes, Waits, Withdrawn, Written};
+use std::fmt::Write;
+use std::io;
 
-const LONGEST_LINE: usize = 140_000;
-// The stores of 64 channels; a start may name more channels than there may be, to be refused.
-const LARGEST_LENGTH: u64 = 64 * 65_536;
-const MOST_READ: u64 = 80;
-const WORDS_OF_A_CHANNEL: usize = 4;
 // Where a start says nothing of the pacer.
 const WAITS: Waits = Waits { hello: 5000, limit: 9000 };
-
-/// Why a line has no other answer.
-enum Fault {
-    BadLine,
-    Refused(Refusal),
-}
-
-impl From<Refusal> for Fault {
-    fn from(refusal: Refusal) -> Fault {
-        Fault::Refused(refusal)
-    }
-}
-
-type Answered = Result<String, Fault>;
-
-// ---- Words ----
-
-/// A decimal number up to the largest, with no needless zero in front.
-fn number(word: &[u8], largest: u64) -> Result<u64, Fault> {
-    let plain = !word.is_empty() && word.iter().all(u8::is_ascii_digit) && (word.len() == 1 || word[0] != b'0');
-    let text = std::str::from_utf8(word).map_err(|_| Fault::BadLine)?;
-    match text.parse() {
-        Ok(value) if plain && value <= largest => Ok(value),
-        _ => Err(Fault::BadLine),
-    }
-}
-
-fn byte(word: &[u8]) -> Result<u8, Fault> {
-    number(word, u64::from(u8::MAX)).map(|value| value as u8)
-}
-
-fn time(word: &[u8]) -> Result<u64, Fault> {
-    number(word, u64::MAX)
-}
-
-fn length(word: &[u8]) -> Result<usize, Fault> {
-    number(word, LARGEST_LENGTH).map(|value| value as usize)
-}
-
-fn digit(letter: u8) -> Result<u8, Fault> {
-    match letter {
-        b'0'..=b'9' => Ok(letter - b'0'),
-        b'a'..=b'f' => Ok(letter - b'a' + 10),
-        _ => Err(Fault::BadLine),
-    }
-}
-
-/// Pairs of lowercase hexadecimal digits; `-` is the empty byte string.
-fn bytes(word: &[u8]) -> Result<Vec<u8>, Fault> {
-    if word == b"-" {
-        return Ok(Vec::new());
-    }
-    if word.is_empty() || word.len() % 2 != 0 {
-        return Err(Fault::BadLine);
-    }
-    word.chunks_exact(2).map(|pair| Ok(digit(pair[0])? << 4 | digit(pair[1])?)).collect()
-}
 
 fn end(word: &[u8]) -> Result<End, Fault> {
     match word {
@@ -76,24 +16,6 @@ fn end(word: &[u8]) -> Result<End, Fault> {
         b"radio" => Ok(End::Radio),
         _ => Err(Fault::BadLine),
     }
-}
-
-fn kind(word: &[u8]) -> Result<Kind, Fault> {
-    match word {
-        b"plain" => Ok(Kind::Plain),
-        b"flow" => Ok(Kind::FlowControlled),
-        _ => Err(Fault::BadLine),
-    }
-}
-
-fn hexadecimal(bytes: &[u8]) -> String {
-    if bytes.is_empty() {
-        return "-".to_string();
-    }
-    bytes.iter().fold(String::with_capacity(2 * bytes.len()), |mut text, byte| {
-        let _ = write!(text, "{byte:02x}");
-        text
-    })
 }
 
 /// Each where there is one.
@@ -202,7 +124,7 @@ fn behind_channels(words: &[&[u8]]) -> Result<(Option<usize>, Waits, StatusCodes
         ref behind => (None, behind),
     };
     let (waits, behind) = match *behind {
-        [b"pace", hello, limit, ref behind @ ..] => (Waits { hello: time(hello)?, limit: time(limit)? }, behind),
+        [b"pace", hello, limit, ref behind @ ..] => (Waits { hello: wide(hello)?, limit: wide(limit)? }, behind),
         ref behind => (WAITS, behind),
     };
     match *behind {
@@ -235,7 +157,7 @@ fn start(words: &[&[u8]]) -> Result<State, Fault> {
 
 fn offer(endpoint: &mut Endpoint<'_>, words: [&[u8]; 4]) -> Answered {
     let [channel, now, expiry, packet] = words;
-    let (channel, now, expiry, packet) = (byte(channel)?, time(now)?, time(expiry)?, bytes(packet)?);
+    let (channel, now, expiry, packet) = (byte(channel)?, wide(now)?, wide(expiry)?, bytes(packet)?);
     match endpoint.offer(channel, &packet, expiry, now) {
         Offered::Taken => Ok("taken".to_string()),
         Offered::Refused(refusal) => Err(refusal.into()),
@@ -244,7 +166,7 @@ fn offer(endpoint: &mut Endpoint<'_>, words: [&[u8]; 4]) -> Answered {
 
 fn next(endpoint: &mut Endpoint<'_>, words: [&[u8]; 3]) -> Answered {
     let [channel, now, room] = words;
-    let (channel, now, room) = (byte(channel)?, time(now)?, length(room)?);
+    let (channel, now, room) = (byte(channel)?, wide(now)?, length(room)?);
     match endpoint.next(channel, now, &mut vec![0; room]) {
         Next::Sent(message) => Ok(format!("sent {}", hexadecimal(message))),
         Next::NothingWaiting => Ok("nothing waiting".to_string()),
@@ -263,7 +185,7 @@ fn withdraw(endpoint: &mut Endpoint<'_>, channel: &[u8]) -> Answered {
 
 fn radio(endpoint: &mut Endpoint<'_>, words: [&[u8]; 2]) -> Answered {
     let [now, datagram] = words;
-    match endpoint.radio(time(now)?, &bytes(datagram)?) {
+    match endpoint.radio(wide(now)?, &bytes(datagram)?) {
         Heard::Accepted => Ok("accepted".to_string()),
         Heard::Due => Ok("accepted due".to_string()),
         Heard::Refused(refusal) => Err(refusal.into()),
@@ -271,7 +193,7 @@ fn radio(endpoint: &mut Endpoint<'_>, words: [&[u8]; 2]) -> Answered {
 }
 
 fn pace(endpoint: &mut Endpoint<'_>, now: &[u8]) -> Answered {
-    match endpoint.pace(time(now)?) {
+    match endpoint.pace(wide(now)?) {
         Paced::Quiet => Ok("quiet".to_string()),
         Paced::QueryDue => Ok("due".to_string()),
         Paced::Silent => Ok("silent".to_string()),
@@ -339,36 +261,20 @@ fn on_state(state: &mut State, words: &[&[u8]]) -> Answered {
     }
 }
 
-/// The answer to a line without its newline. A refused start leaves the state before it.
-fn answer(state: &mut Option<State>, line: &[u8]) -> Answered {
-    if line.len() > LONGEST_LINE {
-        return Err(Fault::BadLine);
-    }
-    let words: Vec<&[u8]> = line.split(|&letter| letter == b' ').collect();
-    match words[..] {
+/// The answer to a line. A refused start leaves the state before it.
+fn answer(state: &mut Option<State>, words: &[&[u8]]) -> Answered {
+    match *words {
         [b"read", from, datalink, datagram] => read([from, datalink, datagram]),
         [b"echo", from, datalink, datagram, to, room] => echo([from, datalink, datagram, to, room]),
         [b"start", ref behind @ ..] => {
             *state = Some(start(behind)?);
             Ok("started".to_string())
         }
-        _ => on_state(state.as_mut().ok_or(Fault::BadLine)?, &words),
+        _ => on_state(state.as_mut().ok_or(Fault::BadLine)?, words),
     }
 }
 
 fn main() -> io::Result<()> {
-    let mut input = io::stdin().lock();
-    let mut output = io::BufWriter::new(io::stdout().lock());
     let mut state = None;
-    let mut line = Vec::new();
-    while input.read_until(b'\n', &mut line)? > 0 {
-        let words = line.strip_suffix(b"\n").unwrap_or(&line);
-        match answer(&mut state, words) {
-            Ok(answer) => writeln!(output, "{answer}")?,
-            Err(Fault::BadLine) => writeln!(output, "bad line")?,
-            Err(Fault::Refused(refusal)) => writeln!(output, "refused {} {}", refusal.number(), refusal.place())?,
-        }
-        line.clear();
-    }
-    output.flush()
+    answer_lines(|words| answer(&mut state, words))
 }

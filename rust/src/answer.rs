@@ -72,7 +72,7 @@ pub enum Paced {
 pub enum Written<'o> {
     /// This message, which stands at the output's start.
     Wrote(&'o [u8]),
-    /// A query by 19 or 18, a meaning by 20 or 18.
+    /// A query, and what a station tells, by 19 or 18; a meaning by 20 or 18.
     Refused(Refusal),
 }
 

@@ -1,7 +1,8 @@
-//! The Airborne IPS System's end of CIRI (ARINC 858 Part 3): safe calls on the proved library.
+//! Both ends of CIRI (ARINC 858 Part 3): safe calls on the proved libraries.
 //!
-//! An [`Endpoint`] works on words and on a memory that the caller owns; there is no heap and nothing is kept between two calls but what stands in those.
-//! A refused call changes neither. [`control`] and [`data`] read and write single messages of either end.
+//! An [`Endpoint`], the Airborne IPS System's end, works on words and on a memory that the caller owns; there is no heap and nothing is kept between two calls
+//! but what stands in those. A refused call changes neither. [`station`] is the radio's end, in words alone. [`control`] and [`data`] read and write single
+//! messages of either end.
 //!
 //! ```
 //! use nespovarda::{words_for, Configuration, DatalinkId, Endpoint, FlowSequence, Heard, Kind, Next, Offered, Paced, Waits};
@@ -48,6 +49,7 @@ mod endpoint;
 mod library;
 mod quantity;
 mod refusal;
+pub mod station;
 
 pub use answer::{Heard, Next, Offered, Paced, Read, Withdrawn, Written};
 pub use configuration::{Configuration, Kind, NoRoom, Waits};

@@ -1,7 +1,9 @@
-//! The proved library's functions, and a safe call of each: the only unsafe code of this crate.
+//! The proved libraries' functions, and a safe call of each: the only unsafe code of this crate.
 //!
-//! The library asks nothing of its callers but that each pointer and length are those of memory that the caller owns, and that mutable memory overlaps nothing
+//! A library asks nothing of its callers but that each pointer and length are those of memory that the caller owns, and that mutable memory overlaps nothing
 //! else that is lent. A slice is such memory, and Rust lends a mutable one to one borrower alone.
+
+pub(crate) mod station;
 
 /// A kind and its value: a message's length, a refusal's place, or 0.
 #[repr(C)]
@@ -30,6 +32,9 @@ pub(crate) const QUERY_DUE: u64 = 16;
 pub(crate) const SILENT: u64 = 17;
 pub(crate) const QUERY_DUE_SILENT: u64 = 18;
 pub(crate) const PACER_SHOWN: u64 = 19;
+pub(crate) const ANSWERED: u64 = 20;
+pub(crate) const UNASKED: u64 = 21;
+pub(crate) const NO_MESSAGE: u64 = 22;
 /// From here on a kind is a refusal: this and its number.
 pub(crate) const REFUSED: u64 = 256;
 

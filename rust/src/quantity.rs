@@ -28,7 +28,7 @@ pub struct FlowWindow(pub u32);
 /// A Link Instance ID, and the length in bytes that it is written in.
 #[derive(Clone, Copy, Debug, PartialEq, Eq)]
 pub struct LinkInstance {
-    /// 1 to 8; another is refused by 20 when written.
+    /// 1 to 8; another is refused by 20 when written, or by a station that is to keep it.
     pub length: u64,
     /// The number, which must fit that length.
     pub id: u64,
@@ -45,7 +45,7 @@ pub struct Context {
 }
 
 impl Context {
-    /// A Context of these bytes; none of more than 8 bytes. An empty one is refused by 20 when written.
+    /// A Context of these bytes; none of more than 8 bytes. An empty one is refused by 20 when written, or by a station.
     pub fn new(bytes: &[u8]) -> Option<Context> {
         let mut held = [0; LONGEST_CONTEXT];
         held.get_mut(..bytes.len())?.copy_from_slice(bytes);

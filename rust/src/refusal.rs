@@ -77,6 +77,8 @@ pub enum Refusal {
     PacerTimeBeforeLatest,
     /// 22: HelloTime or silence limit of 0.
     WaitOfZero,
+    /// 23: watermark or throughput above 2^31 - 1, of a plain channel too.
+    AllowanceTooLarge,
     /// An answer that this crate doesn't know: the library linked is of another version.
     Unknown {
         /// The answer's kind.
@@ -114,6 +116,7 @@ impl Refusal {
             20 => Refusal::NotWritable,
             21 => Refusal::PacerTimeBeforeLatest,
             22 => Refusal::WaitOfZero,
+            23 => Refusal::AllowanceTooLarge,
             _ => Refusal::Unknown { kind, value },
         }
     }
@@ -143,6 +146,7 @@ impl Refusal {
             Refusal::NotWritable => 20,
             Refusal::PacerTimeBeforeLatest => 21,
             Refusal::WaitOfZero => 22,
+            Refusal::AllowanceTooLarge => 23,
             Refusal::Unknown { kind, .. } => kind.saturating_sub(REFUSED),
         }
     }

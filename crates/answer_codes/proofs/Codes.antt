@@ -8,20 +8,22 @@ use borrow.Author.Tests.{le-leb}
 use native.Mathlib.Omega.{arith}
 use lib.ListN.{getD}
 use Rattle.answer_codes.specs.declared.Answer.{Answer}
-use Rattle.answer_codes.specs.Codes.{Outcome, codeOf, REFUSED, SENT, WROTE}
-use Rattle.answer_codes.specs.Codes.Outcome.{refused, started, taken, sent, nothing-waiting, not-operational, window-shut, withdrawn, accepted, due, other-plane, wrote, shown, kept, none-there, quiet, query-due, silent, query-due-silent, pacer-shown}
+use Rattle.answer_codes.specs.Codes.{Outcome, codeOf, REFUSED, SENT, WROTE, ANSWERED, UNASKED}
+use Rattle.answer_codes.specs.Codes.Outcome.{refused, started, taken, sent, nothing-waiting, not-operational, window-shut, withdrawn, accepted, due, other-plane, wrote, shown, kept, none-there, quiet, query-due, silent, query-due-silent, pacer-shown, answered, unasked, no-message}
 
 -- the outcomes without a number, each at its kind
 abbrev plain : List Outcome
 plain =
     kept ∷ started ∷ taken ∷ kept ∷ nothing-waiting ∷ not-operational ∷ window-shut ∷ withdrawn ∷ accepted ∷ due ∷ other-plane ∷ kept ∷ shown ∷ kept ∷ none-there
-    ∷ quiet ∷ query-due ∷ silent ∷ query-due-silent ∷ pacer-shown ∷ []
+    ∷ quiet ∷ query-due ∷ silent ∷ query-due-silent ∷ pacer-shown ∷ kept ∷ kept ∷ no-message ∷ []
 
 -- the outcome that an answer's numbers say
 abbrev pub outcomeOf : Answer → Outcome
 outcomeOf a =
     cond (leb REFUSED (a .kind)) (refused (a .kind - REFUSED) (a .value))
-    (cond (eqb (a .kind) SENT) (sent (a .value)) (cond (eqb (a .kind) WROTE) (wrote (a .value)) (getD plain (a .kind) kept)))
+    (cond (eqb (a .kind) SENT) (sent (a .value))
+    (cond (eqb (a .kind) WROTE) (wrote (a .value))
+    (cond (eqb (a .kind) ANSWERED) (answered (a .value)) (cond (eqb (a .kind) UNASKED) (unasked (a .value)) (getD plain (a .kind) kept)))))
 
 pub outcome-back : (a : Outcome) → outcomeOf (codeOf a) ≡ a
 outcome-back (refused number place) =
@@ -46,6 +48,9 @@ outcome-back query-due = refl
 outcome-back silent = refl
 outcome-back query-due-silent = refl
 outcome-back pacer-shown = refl
+outcome-back (answered bytes) = refl
+outcome-back (unasked bytes) = refl
+outcome-back no-message = refl
 
 pub codes-one : (a b : Outcome) → codeOf a ≡ codeOf b → a ≡ b
 codes-one a b same = sym (outcome-back a) ∙ ap outcomeOf same ∙ outcome-back b

@@ -30,6 +30,10 @@ pub data Outcome : Type 0 where
   silent : Outcome
   query-due-silent : Outcome
   pacer-shown : Outcome
+  -- the radio's end: a message was written as the answer to what was asked, or unasked; there is nothing to send
+  answered : (bytes : ℕ) → Outcome
+  unasked : (bytes : ℕ) → Outcome
+  no-message : Outcome
 
 abbrev pub STARTED : ℕ
 STARTED = 1
@@ -88,6 +92,15 @@ QUERY-DUE-SILENT = 18
 abbrev pub PACER-SHOWN : ℕ
 PACER-SHOWN = 19
 
+abbrev pub ANSWERED : ℕ
+ANSWERED = 20
+
+abbrev pub UNASKED : ℕ
+UNASKED = 21
+
+abbrev pub NO-MESSAGE : ℕ
+NO-MESSAGE = 22
+
 -- a refusal's kind is this and its number
 abbrev pub REFUSED : ℕ
 REFUSED = 256
@@ -121,6 +134,9 @@ codeOf query-due = plainly QUERY-DUE
 codeOf silent = plainly SILENT
 codeOf query-due-silent = plainly QUERY-DUE-SILENT
 codeOf pacer-shown = plainly PACER-SHOWN
+codeOf (answered bytes) = counting ANSWERED bytes
+codeOf (unasked bytes) = counting UNASKED bytes
+codeOf no-message = plainly NO-MESSAGE
 
 -- a refusal, and a writer's answer, as an outcome
 abbrev pub refusedAs : Refusal → Outcome

@@ -42,6 +42,12 @@ pub const QUERY_DUE_SILENT: u64 = 18;
 
 pub const PACER_SHOWN: u64 = 19;
 
+pub const ANSWERED: u64 = 20;
+
+pub const UNASKED: u64 = 21;
+
+pub const NO_MESSAGE: u64 = 22;
+
 // From here on a kind is a refusal: this and its number.
 pub const REFUSED: u64 = 256;
 

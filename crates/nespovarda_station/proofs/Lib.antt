@@ -1,0 +1,4 @@
+pub mod Exporting
+pub mod Coincide
+pub mod Numbers
+pub mod Showing

@@ -1,0 +1,72 @@
+-- The numbers that a caller sees are those of the table, in literals. Assumes nothing.
+use Prim.Native.Nat.{ℕ, _+_}
+use mathlib.Core.Bool.{Bool, true, false, _&&_}
+use mathlib.Core.List.{List, [], _∷_}
+use mathlib.Core.Path.{_≡_, refl, ap, _∙_}
+use lib.Dec.{eqb}
+use native.Mathlib.Omega.{arith}
+use borrow.Author.Tests.{ne-eqb}
+use Rattle.meaning.specs.declared.message.Instance.{Instance}
+use Rattle.meaning.specs.declared.message.Context.{Context}
+use Rattle.meaning.specs.declared.message.Window.{Window}
+use Rattle.lent_messages.specs.Stated.{windowStated}
+use Rattle.radio_flow.specs.declared.Highest.{Highest}
+use Rattle.radio_end_words.specs.Words.{highestTag, highestValue}
+use Rattle.radio_end_state.specs.declared.channel.Channel.{Channel}
+use Rattle.radio_end_state.specs.Channel.{windowNow}
+use Rattle.radio_end.specs.Shown.{wordsNeeded}
+use Rattle.nespovarda_station.specs.Named.{saysNone, instanceSaid, contextSaid}
+use Rattle.nespovarda_station.specs.Shown.{channelNumbers}
+use Rattle.nespovarda_station.specs.Numbers.{Numbers, wordsNumber, windowNumbers, highestNumbers, sixNumbers, NamedExactly}
+
+pub numbers-exactly : Numbers
+numbers-exactly = record {
+  started = refl;
+  start-refused = λ number place. refl;
+  answered = λ bytes. refl;
+  unasked = λ bytes. refl;
+  no-message = refl;
+  call-refused = λ number place. refl;
+  shown = refl;
+}
+
+pub words-exactly : (channels : ℕ) → wordsNeeded channels ≡ wordsNumber channels
+unfolding wordsNeeded
+words-exactly channels = refl
+
+window-exactly : (window : Window) (rest : List ℕ) → windowStated window .tag ∷ windowStated window .first ∷ rest ≡ windowNumbers window rest
+window-exactly Window.Absent rest = refl
+window-exactly Window.Empty rest = refl
+window-exactly (Window.Given window) rest = refl
+
+highest-exactly : (highest : Highest) (rest : List ℕ) → highestTag highest ∷ highestValue highest ∷ rest ≡ highestNumbers highest rest
+highest-exactly Highest.Unheard rest = refl
+highest-exactly (Highest.At sequence) rest = refl
+
+pub shown-exactly : (c : Channel) → channelNumbers c ≡ sixNumbers c
+shown-exactly c =
+    ap (λ (xs : List ℕ). c .status ∷ xs)
+    (window-exactly (windowNow c) (highestTag (c .highest) ∷ highestValue (c .highest) ∷ c .queued .0 ∷ [])
+    ∙ ap (λ (xs : List ℕ). windowNumbers (windowNow c) xs) (highest-exactly (c .highest) (c .queued .0 ∷ [])))
+
+and-false : (a : Bool) → (a && false) ≡ false
+and-false true = refl
+and-false false = refl
+
+-- a length that isn't 0 says something
+said : (value length : ℕ) → saysNone value (1 + length) ≡ false
+said value length =
+    let some : eqb (1 + length) 0 ≡ false = ne-eqb (1 + length) 0 (λ e. omega (arith, e)) in
+    rw some (and-false (eqb value 0))
+
+instance-given : (value length : ℕ) → instanceSaid value (1 + length) ≡ Instance.Given (record { 0 = value }) (1 + length)
+unfolding instanceSaid
+instance-given value length = rw (said value length)
+
+context-given : (value length : ℕ) → contextSaid value (1 + length) ≡ Context.Given (record { 0 = value }) (1 + length)
+unfolding contextSaid
+context-given value length = rw (said value length)
+
+pub named-exactly : NamedExactly
+unfolding instanceSaid contextSaid
+named-exactly = record { no-instance = refl; instance = instance-given; no-context = refl; context = context-given }

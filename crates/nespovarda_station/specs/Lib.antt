@@ -1,0 +1,5 @@
+pub mod Outcomes
+pub mod Named
+pub mod Exports
+pub mod Shown
+pub mod Numbers
