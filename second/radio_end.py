@@ -90,7 +90,7 @@ def is_channel_allowed(channel):
     return (
         fits_bits(channel.status, 4)
         and fits_bits(channel.queued, 64)
-        and (channel.highest is None or (channel.setting.is_flow_controlled and fits_bits(channel.highest, 32)))
+        and (channel.highest is None or fits_bits(channel.highest, 32))
     )
 
 

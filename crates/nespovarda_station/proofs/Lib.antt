@@ -2,3 +2,4 @@ pub mod Exporting
 pub mod Coincide
 pub mod Numbers
 pub mod Showing
+pub mod Ran

@@ -59,6 +59,12 @@ said value length =
     let some : eqb (1 + length) 0 ≡ false = ne-eqb (1 + length) 0 (λ e. omega (arith, e)) in
     rw some (and-false (eqb value 0))
 
+-- nor does a value that isn't 0
+valued : (value : ℕ) → saysNone (1 + value) 0 ≡ false
+valued value =
+    let some : eqb (1 + value) 0 ≡ false = ne-eqb (1 + value) 0 (λ e. omega (arith, e)) in
+    rw some
+
 instance-given : (value length : ℕ) → instanceSaid value (1 + length) ≡ Instance.Given (record { 0 = value }) (1 + length)
 unfolding instanceSaid
 instance-given value length = rw (said value length)
@@ -67,6 +73,21 @@ context-given : (value length : ℕ) → contextSaid value (1 + length) ≡ Cont
 unfolding contextSaid
 context-given value length = rw (said value length)
 
+instance-unwritten : (value : ℕ) → instanceSaid (1 + value) 0 ≡ Instance.Given (record { 0 = 1 + value }) 0
+unfolding instanceSaid
+instance-unwritten value = rw (valued value)
+
+context-unwritten : (value : ℕ) → contextSaid (1 + value) 0 ≡ Context.Given (record { 0 = 1 + value }) 0
+unfolding contextSaid
+context-unwritten value = rw (valued value)
+
 pub named-exactly : NamedExactly
 unfolding instanceSaid contextSaid
-named-exactly = record { no-instance = refl; instance = instance-given; no-context = refl; context = context-given }
+named-exactly = record {
+  no-instance = refl;
+  instance = instance-given;
+  instance-unwritten = instance-unwritten;
+  no-context = refl;
+  context = context-given;
+  context-unwritten = context-unwritten;
+}

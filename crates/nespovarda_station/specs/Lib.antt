@@ -3,3 +3,4 @@ pub mod Named
 pub mod Exports
 pub mod Shown
 pub mod Numbers
+pub mod Ran

@@ -51,9 +51,11 @@ highestNumbers (Highest.At sequence) rest = 1 ∷ sequence .0 ∷ rest
 abbrev pub sixNumbers : Channel → List ℕ
 sixNumbers c = c .status ∷ windowNumbers (windowNow c) (highestNumbers (c .highest) (c .queued .0 ∷ []))
 
--- ---- what two numbers say of a Link Instance and of a Context (`named-exactly`): 0 and 0 none; else the value at its length
+-- ---- what two numbers say of a Link Instance and of a Context (`named-exactly`): 0 and 0 none; else the value at its length, a length of 0 too, which 20 refuses
 pub record NamedExactly : Type 0 where
   pub no-instance : instanceSaid 0 0 ≡ Instance.Absent
   pub instance : (value length : ℕ) → instanceSaid value (1 + length) ≡ Instance.Given (record { 0 = value }) (1 + length)
+  pub instance-unwritten : (value : ℕ) → instanceSaid (1 + value) 0 ≡ Instance.Given (record { 0 = 1 + value }) 0
   pub no-context : contextSaid 0 0 ≡ Context.Absent
   pub context : (value length : ℕ) → contextSaid value (1 + length) ≡ Context.Given (record { 0 = value }) (1 + length)
+  pub context-unwritten : (value : ℕ) → contextSaid (1 + value) 0 ≡ Context.Given (record { 0 = 1 + value }) 0

@@ -22,7 +22,7 @@ use Rattle.meaning.specs.declared.message.Data.{Data}
 use Rattle.writer.specs.Written.{noRoom}
 use Rattle.reader.specs.Readings.{Verdict, ControlReading, DataReading, readControl, readData, planeOf, packetOf}
 use Rattle.reader.specs.declared.answer.PlaneAnswer.{PlaneAnswer}
-use Rattle.acceptance.proofs.Verdicts.{control-own, data-own}
+use Rattle.acceptance.proofs.Verdicts.{control-numbers, data-numbers, plane-numbers, control-own, data-own}
 use Rattle.radio_flow.specs.Granting.{queuedOn}
 use Rattle.radio_end_state.specs.declared.answer.Answer.{Answer}
 use Rattle.radio_end_state.specs.declared.channel.Channel.{Channel}
@@ -147,7 +147,8 @@ module _ (s : State) (datagram out : List ℕ) where
   heard-unread fits refusal (by-control p v) = rw (fits, p, v)
   heard-unread fits refusal (by-data p v) = rw (fits, p, v)
 
-  heard-outside : stateFits s ≡ false → heard s datagram out .answer ≡ numbered 19
+  -- ---- 19
+  heard-outside : stateFits s ≡ false → heard s datagram out ≡ record { answer = numbered 19; state = s; output = out }
   unfolding heard
   heard-outside e = rw e
 
@@ -167,6 +168,25 @@ given-high say speaks message out a (given-18 x y z u v) refusal e = high 18 ref
 given-high say speaks message out a (given-message x y z u v) refusal e = absurd (speaks .not-refused _ refusal e)
 given-high say speaks message out a (given-quiet x y z u) refusal e = clash (cc)
 
+-- and reading has no higher one
+reading-low : (datalink : DatalinkId) (datagram : List ℕ) (refusal : Refusal) → ReadingRefuses datalink datagram refusal → refusal .number ≤ 11
+reading-low datalink datagram refusal (by-header p) = plane-numbers datagram refusal p .1
+reading-low datalink datagram refusal (by-control p v) = control-numbers ends.Ips datalink datagram refusal v .1
+reading-low datalink datagram refusal (by-data p v) = data-numbers ends.Ips datalink datagram refusal v .1
+
+-- 19 is the state's alone
+one-number : (number other : ℕ) → numbered number ≡ numbered other → number ≡ other
+one-number number other e = ap (λ (r : Refusal). r .number) (one-refusal e)
+
+alone : {Fits Named Writable Told : Type 0} (say : ByteCount → Answer) → Speaks say → (message out : List ℕ) (a : Answer) → Given Fits Named Writable Told say message out a
+    → a ≡ numbered 19 → Fits → ⊥
+alone say speaks message out a (given-19 x) e = x
+alone say speaks message out a (given-12 x y) e = λ fits. omega (arith, one-number 12 19 e)
+alone say speaks message out a (given-20 x y z) e = λ fits. omega (arith, one-number 20 19 e)
+alone say speaks message out a (given-18 x y z u v) e = λ fits. omega (arith, one-number 18 19 e)
+alone say speaks message out a (given-message x y z u v) e = λ fits. speaks .not-refused _ _ e
+alone say speaks message out a (given-quiet x y z u) e = clash (cc)
+
 module _ (s : State) (datagram out : List ℕ) where
   -- REFUSED BY 1 TO 11 exactly as reading refuses it, by that number and at that place
   pub heard-reading : (refusal : Refusal) → refusal .number ≤ 11 → (heard s datagram out .answer ≡ Answer.Refused refusal) ↔ (WithinLimits s × ReadingRefuses (s .datalink) datagram refusal)
@@ -184,4 +204,19 @@ module _ (s : State) (datagram out : List ℕ) where
 
       fitting : (f : Bool) → stateFits s ≡ f → heard s datagram out .answer ≡ Answer.Refused refusal → WithinLimits s × ReadingRefuses (s .datalink) datagram refusal
       fitting true f e = (limits-exactly s .0 f, by-reading f (reads (s .datalink) datagram) e)
-      fitting false f e = let h = high 19 refusal (omega arith) (sym (heard-outside s datagram out f) ∙ e) in absurd (omega (arith, h, low))
+      fitting false f e = let h = high 19 refusal (omega arith) (sym (ap (λ (r : After). r .answer) (heard-outside s datagram out f)) ∙ e) in absurd (omega (arith, h, low))
+
+  -- REFUSED BY 19 exactly if the state is outside the limits, whatever the datagram is; then state and output are as they were
+  pub heard-nineteen : ((heard s datagram out .answer ≡ numbered 19) ↔ (WithinLimits s → ⊥))
+      × ((WithinLimits s → ⊥) → heard s datagram out ≡ record { answer = numbered 19; state = s; output = out })
+  heard-nineteen = ((λ e within. of-reading within (reads (s .datalink) datagram) e, λ never. ap (λ (r : After). r .answer) (outside never)), outside)
+    where
+      outside : (WithinLimits s → ⊥) → heard s datagram out ≡ record { answer = numbered 19; state = s; output = out }
+      outside never = heard-outside s datagram out (off (stateFits s) (limits-exactly s) never)
+
+      of-reading : WithinLimits s → Reading (s .datalink) datagram → heard s datagram out .answer ≡ numbered 19 → ⊥
+      of-reading within (unread other w) e =
+          let same = one-refusal (sym (ap (λ (r : After). r .answer) (heard-unread s datagram out (limits-exactly s .1 within) other w)) ∙ e) in
+          omega (arith, reading-low (s .datalink) datagram other w, ap (λ (r : Refusal). r .number) same)
+      of-reading within (control-read m a) e = alone (λ n. Answer.Answered n) answered-speaks _ out _ (heard-control-exactly s datagram out m a .given _ .0 e) refl within
+      of-reading within (data-read m a) e = alone (λ n. Answer.Unasked n) unasked-speaks _ out _ (heard-data-exactly s datagram out m a .given _ .0 e) refl within

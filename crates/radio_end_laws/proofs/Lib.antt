@@ -1,5 +1,5 @@
 -- The laws of the calls: `Keeps` of refusals, `Limits` of number 19, `Message` of what the message says, `Differs` of where it is written, `Exactly` and `Heard` of each
--- answer, `Kept` of the limits; `Places`, `Ordered` and `Changed` serve them.
+-- answer, `Kept` of the limits, `Fresh` of the message after a start, `Words` of words, `Rows` in literal bytes; `Places`, `Ordered` and `Changed` serve them.
 pub mod Keeps
 pub mod Places
 pub mod Limits
@@ -10,3 +10,6 @@ pub mod Changed
 pub mod Exactly
 pub mod Heard
 pub mod Kept
+pub mod Fresh
+pub mod Rows
+pub mod Words

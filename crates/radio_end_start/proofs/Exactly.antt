@@ -1,4 +1,4 @@
--- Each answer of a start exactly when `AnswersExactly` says so, fact by fact; what a start leaves; and that two outcomes coincide. Assumes nothing.
+-- Each answer of a start exactly when `AnswersExactly` says so, fact by fact; what a start is made of and leaves; and that two outcomes coincide. Assumes nothing.
 use Prim.Native.Nat.{ℕ, zero, suc, _+_, _*_, _≤_, _<_}
 use mathlib.Core.Bool.{Bool, true, false, and-eq-true-iff}
 use mathlib.Core.List.{List, [], _∷_}
@@ -12,14 +12,15 @@ use Rattle.facts.proofs.Tests.{clash, by-le}
 use Rattle.quantity.specs.Limits.{MOST-ALLOWANCE, RESERVED-CHANNEL}
 use Rattle.quantity.specs.Refusals.{OUTSIDE-LIMITS, LARGE-ALLOWANCE}
 use Rattle.quantity.specs.declared.refusal.Refusal.{Refusal}
+use Rattle.radio_end_state.specs.declared.channel.Setting.{Setting}
 use Rattle.radio_end_state.specs.State.{noSetting, freshState}
 use Rattle.radio_end_state.specs.Limits.{upTo, indexOf, hasId, standsFirst, idsFit, settingFits, allowanceFits, settingsFit, settingIds, allowancesFit, configurationFits, stateFits}
 use Rattle.radio_end_state.proofs.UpTo.{up-to-at, up-to-by}
 use Rattle.radio_end_words.specs.Words.{CONTROLLED, word, wordsFor, stateWords, stateIn}
 use Rattle.radio_end_start.specs.declared.StartAnswer.{StartAnswer}
-use Rattle.radio_end_start.specs.Start.{CONFIGURED-COUNT, START-KIND, startWord, settingsOf, configurationOf, kindsSpelled, configurationIn, walked, startsIn, notStarted, StartedIn}
-use Rattle.radio_end_start.specs.Exactly.{StartsExactly, AllowancesExactly, LargeExactly, AnswersExactly}
-use Rattle.radio_end_start.proofs.Settings.{settings-length, numbers-length, number-at}
+use Rattle.radio_end_start.specs.Start.{CONFIGURED-COUNT, START-KIND, startWord, settingIn, settingsOf, configurationOf, kindsSpelled, configurationIn, walked, startsIn, notStarted, StartedIn}
+use Rattle.radio_end_start.specs.Exactly.{StartsExactly, AllowancesExactly, LargeExactly, AnswersExactly, ConfigurationSays}
+use Rattle.radio_end_start.proofs.Settings.{settings-length, settings-at, numbers-length, number-at}
 use Rattle.radio_end_start.proofs.Walking.{fits-at}
 use Rattle.radio_end_start.proofs.Looking.{says, in-walk}
 use Rattle.radio_end_start.proofs.Allowing.{allowedIn, allowed-at}
@@ -134,6 +135,23 @@ module _ (w words : List ℕ) where
         room = starts-parts e .1 ∙ ap wordsFor (count-is w fits);
       }
 
+  -- ---- what the words of a configuration within the limits say
+  module _ (fits : configurationFits (configurationIn w) ≡ true) where
+    said-at : (i : ℕ) → i < number → getD (configurationIn w .settings) i noSetting ≡ settingIn w i
+    said-at i h = ap (λ (ks : List Setting). getD ks i noSetting) (settings-are w fits) ∙ settings-at w number i h
+
+    words-say : ConfigurationSays w (configurationIn w)
+    unfolding settingIn configurationOf
+    words-say = record {
+      datalink = rw (says w (fits-readable w fits));
+      many = count-is w fits;
+      ids = λ i h. let none : 2 + 4 * i + 0 ≡ 2 + 4 * i = omega arith in rw (said-at i h, none);
+      plain = λ i h t. rw (said-at i h, t);
+      controlled = λ i h t. rw (said-at i h, t);
+      watermarks = λ i h. rw (said-at i h);
+      throughputs = λ i h. rw (said-at i h);
+    }
+
   -- ---- and the tests from facts
   module _ (x : StartsExactly w words) where
     setting-by : (i : ℕ) → i < length (settingsOf w number) → settingFits (getD (settingsOf w number) i noSetting) ≡ true
@@ -246,6 +264,10 @@ module _ (w words : List ℕ) where
             let words-are : words′ ≡ stateWords (freshState (configurationIn w)) = rw (s, t) at (started .words-are) in
             let state-is : stateIn words′ ≡ freshState (configurationIn w) = rw words-are (fresh-said (configurationIn w)) in
             record { words-are = words-are; state-is = state-is; state-fits = rw state-is (fresh-fits (configurationIn w) (starts-parts s .0) t) }
+
+    -- and the configuration that it is made of
+    pub start-says : answer ≡ StartAnswer.Started → ConfigurationSays w (configurationIn w)
+    start-says e = by-way (λ s t a. words-say (starts-parts s .0)) (λ s t a. apart-answers _ _ e a (λ n. omega arith)) (λ s a. apart-answers _ _ e a (λ n. omega arith))
 
     pub refused-leaves : (refusal : Refusal) → answer ≡ StartAnswer.Refused refusal
         → ((refusal ≡ record { number = OUTSIDE-LIMITS; place = 0 }) ⊎ (refusal ≡ record { number = LARGE-ALLOWANCE; place = 0 })) × (words′ ≡ words)

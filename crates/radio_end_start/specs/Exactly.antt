@@ -1,10 +1,12 @@
--- Numbers 19 and 23 of a start without an order of tests, in literal numbers. The configuration has the Datalink ID, the count of channels, and of each channel
+-- Numbers 19 and 23 of a start without an order of tests, and what it starts with, in literal numbers. The configuration has the Datalink ID, the count of channels, and of each channel
 -- its ID, its kind, its watermark and its throughput per period.
 use Prim.Native.Nat.{ℕ, _+_, _*_, _≤_, _<_}
+use mathlib.Core.Bool.{true, false}
 use mathlib.Core.List.{List}
 use mathlib.Core.Logic.{_⊎_}
 use mathlib.Core.Path.{_≡_}
 use lib.ListN.{length, getD}
+use Rattle.radio_end_state.specs.State.{Configuration, noSetting}
 use Rattle.radio_end_start.specs.declared.StartAnswer.{StartAnswer}
 
 -- not "channel count, ID 255, an ID twice, no channel 0"; words as many as the state's
@@ -40,3 +42,13 @@ pub record AnswersExactly (w words : List ℕ) (answer : StartAnswer) : Type 0 w
   pub larges : StartsExactly w words → LargeExactly w → answer ≡ StartAnswer.Refused (record { number = 23; place = 0 })
   pub outside : answer ≡ StartAnswer.Refused (record { number = 19; place = 0 }) → StartsExactly w words → ⊥
   pub outsides : (StartsExactly w words → ⊥) → answer ≡ StartAnswer.Refused (record { number = 19; place = 0 })
+
+-- WHAT THE WORDS OF A CONFIGURATION SAY: word 0 is the Datalink ID, word 1 how many channels; of each its ID, its kind (0 plain, 1 flow-controlled), watermark, throughput
+pub record ConfigurationSays (w : List ℕ) (k : Configuration) : Type 0 where
+  pub datalink : k .datalink .0 ≡ getD w 0 0
+  pub many : length (k .settings) ≡ getD w 1 0
+  pub ids : (i : ℕ) → i < getD w 1 0 → getD (k .settings) i noSetting .id ≡ getD w (2 + 4 * i) 0
+  pub plain : (i : ℕ) → i < getD w 1 0 → getD w (2 + 4 * i + 1) 0 ≡ 0 → getD (k .settings) i noSetting .controlled ≡ false
+  pub controlled : (i : ℕ) → i < getD w 1 0 → getD w (2 + 4 * i + 1) 0 ≡ 1 → getD (k .settings) i noSetting .controlled ≡ true
+  pub watermarks : (i : ℕ) → i < getD w 1 0 → getD (k .settings) i noSetting .watermark .0 ≡ getD w (2 + 4 * i + 2) 0
+  pub throughputs : (i : ℕ) → i < getD w 1 0 → getD (k .settings) i noSetting .throughput .0 ≡ getD w (2 + 4 * i + 3) 0
