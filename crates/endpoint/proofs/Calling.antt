@@ -7,9 +7,10 @@ use native.Mathlib.Omega.{arith}
 use borrow.Rule.Slice.PartMut.{putMid}
 use lib.ListN.{length, take, drop}
 use lib.Seq.{drop-drop}
+use Rattle.quantity.specs.declared.count.ByteCount.{ByteCount}
 use Rattle.ips_channel_rules.specs.Rules.{ChannelCall, offer, next, withdraw, taken, nothingWaiting, notOperational, windowShut, sent, emptied, Says, Answer, refused, answered, unlessRefused, Terms}
 use Rattle.ips_channel.specs.declared.state.Channel.{Channel}
-use Rattle.ips_channel_calls.specs.Calls.{Reply, replyTo, channelAfter, Ready, Serves}
+use Rattle.ips_channel_calls.specs.Calls.{Reply, replyTo, channelAfter, Ready, Serves, Moves}
 use Rattle.ips_state.specs.Limits.{stateFits}
 use Rattle.ips_state.specs.Memory.{memoryFits, storeAt, withStore, World, indexIn, channelIn, storeIn}
 use Rattle.ips_state.proofs.Channels.{ChannelFit}
@@ -23,7 +24,7 @@ use Rattle.ips_words_survey.specs.declared.place.Place.{Place}
 use Rattle.ips_words_survey.specs.Places.{placeOf, Located}
 use Rattle.ips_words_survey.proofs.Finding.{Finds}
 use Rattle.endpoint.specs.Lent.{Lent, lent, worldIn, wordsCalledUnder, afterInUnder}
-use Rattle.endpoint.specs.Calls.{PerformedIn, PerformedInAt, Placed, atWords, isRefused}
+use Rattle.endpoint.specs.Calls.{PerformedIn, PerformedInAt, MovedAt, movedAt, Placed, atWords, isRefused}
 use Rattle.endpoint.proofs.Finding.{calls-found, calls-refused}
 
 -- the code's answers: only a refusal of the rules is told as one
@@ -81,6 +82,11 @@ module _ (l : Lent) (found : Found) (located : Located (worldIn l) found) where
     put-back : (store : List ℕ) → back store ≡ withStore (w .state) (found .index) (l .memory) store
     unfolding withStore
     put-back store = rw (size-is, located .starts, drop-drop)
+
+    -- the bytes that a call moved within the store
+    pub moved-at : (call : ChannelCall) (moved : ByteCount) → Moves (w .state .datalink) call c lentStore moved → MovedAt call w (found .index) moved
+    unfolding movedAt
+    moved-at call moved h = h ∙ rw (store-is, is)
 
     -- what a call leaves of the channel and its store, put back; of the channel unless the answer is a refusal
     module _ (call : ChannelCall) (x : Reply) (c′ : Channel) (store′ : List ℕ) (h : Serves (w .state .datalink) call c lentStore x c′ store′) where

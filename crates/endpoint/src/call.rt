@@ -7,7 +7,7 @@ ghost use Rattle.ips_run.specs.Run.{on};
 ghost use Rattle.ips_calls.specs.Replies.{ofChannel};
 ghost use Rattle.ips_words_survey.specs.Places.{Located};
 ghost use Rattle.endpoint.specs.Lent.{lent, worldIn};
-ghost use Rattle.endpoint.specs.Calls.{PerformedIn, PerformedInAt, offerRefused, nextRefused};
+ghost use Rattle.endpoint.specs.Calls.{PerformedIn, PerformedInAt, MovedAt, offerRefused, nextRefused};
 use crate::channel;
 use ips_channel_calls::asking;
 use ips_channel_calls::asking::NextAnswer;
@@ -18,6 +18,7 @@ use ips_words::head;
 use ips_words_survey::place;
 use ips_words_survey::place::Found;
 use ips_words_survey::place::Place;
+use quantity::count::ByteCount;
 use quantity::refusal::Refusal;
 
 fn offer_refused(answer: OfferAnswer) -> bool
@@ -29,17 +30,24 @@ fn offer_refused(answer: OfferAnswer) -> bool
     }
 }
 
+// The answer to a packet offered, and how many bytes were moved within the store.
+pub struct PacketOffered {
+    pub answer: OfferAnswer,
+    pub moved: ByteCount,
+}
+
 // On the channel that was found, with its store lent. Words behind the waiting packets may hold anything, so a refused call saves nothing.
-fn offer_at(
+pub fn offer_at(
     words: &mut [u64],
     memory: &mut [u8],
     found: Found,
     packet: &[u8],
     expiry: u64,
     time: u64,
-) -> OfferAnswer
+) -> PacketOffered
     requires { ⌜ Located (worldIn (lent (now words) (now memory))) found ⌝ }
-    ensures { λ r. ⌜ PerformedInAt (rules.offer (packetFor (now (packet .entry)) expiry) time) (lent (now (words .entry)) (now (memory .entry))) (found .index) (offered r) (lent (now (words .exit)) (now (memory .exit))) ⌝ }
+    ensures { λ r. ⌜ PerformedInAt (rules.offer (packetFor (now (packet .entry)) expiry) time) (lent (now (words .entry)) (now (memory .entry))) (found .index) (offered (r .answer)) (lent (now (words .exit)) (now (memory .exit))) ⌝ }
+    ensures { λ r. ⌜ MovedAt (rules.offer (packetFor (now (packet .entry)) expiry) time) (worldIn (lent (now (words .entry)) (now (memory .entry)))) (found .index) (r .moved) ⌝ }
 {
     let index = found.index;
     let start = found.start;
@@ -48,12 +56,13 @@ fn offer_at(
     let end = start + size.0;
     let offered = offering::offer(before, &mut memory[start..end], packet, expiry, time);
     let answer = offered.answer;
+    let moved = offered.moved;
     if offer_refused(answer) {
-        return answer;
+        return PacketOffered { answer, moved };
     }
     let after = offered.channel;
     channel::save(words, index, after);
-    answer
+    PacketOffered { answer, moved }
 }
 
 // Offers a packet: 19, 12, then as the channel judges it.
@@ -68,7 +77,7 @@ pub fn offer(
     ensures { λ r. ⌜ PerformedIn (on id (rules.offer (packetFor (now (packet .entry)) expiry) time)) (lent (now (words .entry)) (now (memory .entry))) (ofChannel (offered r)) (lent (now (words .exit)) (now (memory .exit))) ⌝ }
 {
     match place::find(words, id, memory.len()) {
-        Place::At(found) => offer_at(words, memory, found, packet, expiry, time),
+        Place::At(found) => offer_at(words, memory, found, packet, expiry, time).answer,
         Place::Refused(number) => OfferAnswer::Refused(Refusal { number, place: 0 }),
     }
 }

@@ -23,6 +23,10 @@ LONGEST-PACKET = 9000
 abbrev pub MOST-WAITING : ℕ
 MOST-WAITING = 32
 
+-- document 02, §5: "up to 32 packets at once"
+abbrev pub MOST-AT-ONCE : ℕ
+MOST-AT-ONCE = 32
+
 -- "one store of 1,500 to 65,536 bytes for each channel"
 abbrev pub SMALLEST-STORE : ℕ
 SMALLEST-STORE = 1500

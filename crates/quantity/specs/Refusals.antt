@@ -93,6 +93,10 @@ NO-WAIT = 22
 abbrev pub LARGE-ALLOWANCE : ℕ
 LARGE-ALLOWANCE = 23
 
+-- document 02, §5: "more than 32", "lists (answers too) of unequal count", "lengths whose sum isn't the buffer's length"
+abbrev pub NOT-A-HANDFUL : ℕ
+NOT-A-HANDFUL = 24
+
 -- document 02, §9: bad file header or another link type
 abbrev pub FILE-HEAD : ℕ
 FILE-HEAD = 25

@@ -11,6 +11,9 @@ pub const LONGEST_PACKET: usize = 9000;
 
 pub const MOST_WAITING: usize = 32;
 
+// How many packets may be offered in one call.
+pub const MOST_AT_ONCE: usize = 32;
+
 pub const SMALLEST_STORE: usize = 1500;
 
 pub const LARGEST_STORE: usize = 65536;

@@ -45,6 +45,8 @@ pub const NO_WAIT: u8 = 22;
 
 pub const LARGE_ALLOWANCE: u8 = 23;
 
+pub const NOT_A_HANDFUL: u8 = 24;
+
 pub const FILE_HEAD: u8 = 25;
 
 pub const RECORD: u8 = 26;

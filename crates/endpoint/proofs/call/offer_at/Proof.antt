@@ -4,7 +4,7 @@ use mathlib.Core.Path.{sym, _∙_}
 use native.Mathlib.Omega.{arith}
 use borrow.Author.Needs.{needs}
 use lib.ListN.{length}
-use Rattle.endpoint.proofs.Calling.{placed, store-ends, ready, kept-at, saved-at}
+use Rattle.endpoint.proofs.Calling.{placed, store-ends, ready, kept-at, saved-at, moved-at}
 use Rattle.endpoint.proofs.call.offer_at.Statement.{statement}
 use Rattle.endpoint.proofs.call.offer_at.Tie as tie
 
@@ -29,21 +29,21 @@ offer-requires c κs = let loaded = c .before .before .before in ready _ _ (star
 returns : tie.Need-returns
 returns c =
     let told = c .before in
-    let offered = told .before .before .before in
+    let offered = told .before .before .before .before in
     let loaded = offered .before .before .before .before in
-    kept-at _ _ (start loaded .pre) _ (loaded .load .ensures) _ _ _ _ (offered .offer .ensures .0 _) (sym (told .offer-refused .ensures) ∙ c .if1 .taken)
+    (kept-at _ _ (start loaded .pre) _ (loaded .load .ensures) _ _ _ _ (offered .offer .ensures .0 _) (sym (told .offer-refused .ensures) ∙ c .if1 .taken), moved-at _ _ (start loaded .pre) _ (loaded .load .ensures) _ _ (offered .offer .ensures .1 _))
 
 save-requires : tie.Need-save-requires
-save-requires c κs = placed _ _ (start (c .before .before .before .before .before .before .before .before .before .before) .pre)
+save-requires c κs = placed _ _ (start (c .before .before .before .before .before .before .before .before .before .before .before) .pre)
 
 returns-2 : tie.Need-returns-2
 returns-2 c =
     let saved = c .before .before in
     let other = saved .before .before .before in
     let told = other .before in
-    let offered = told .before .before .before in
+    let offered = told .before .before .before .before in
     let loaded = offered .before .before .before .before in
-    saved-at _ _ (start loaded .pre) _ (loaded .load .ensures) _ _ _ _ (offered .offer .ensures .0 _) (sym (told .offer-refused .ensures) ∙ other .if1 .left) _ (saved .save .ensures)
+    (saved-at _ _ (start loaded .pre) _ (loaded .load .ensures) _ _ _ _ (offered .offer .ensures .0 _) (sym (told .offer-refused .ensures) ∙ other .if1 .left) _ (saved .save .ensures), moved-at _ _ (start loaded .pre) _ (loaded .load .ensures) _ _ (offered .offer .ensures .1 _))
 
 pub offer-at-spec : {M : Type 1} → statement M
 offer-at-spec =

@@ -1,0 +1,2 @@
+pub mod Handful
+pub mod Offering
