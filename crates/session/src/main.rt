@@ -10,6 +10,7 @@ use endpoint::PacerAnswer;
 use endpoint::Place;
 use endpoint::Refusal;
 use endpoint::StartAnswer;
+use handful::HandfulAnswer;
 use libc::STDOUT_FILENO;
 use lines::Found;
 use message_words::whole::refused;
@@ -21,6 +22,8 @@ use session_read::Asked;
 use session_read::CONFIGURATION_WORDS;
 use session_read::Command;
 use session_read::Line;
+use session_read::ListCounts;
+use session_read::MOST_LISTED;
 use session_read::StartWords;
 
 // The longest line of 140,000 bytes stands in the buffer with its newline.
@@ -121,6 +124,65 @@ fn offer_line(
     session_print::offered(out, 0, answer)
 }
 
+// So many of the words from a place on.
+fn listed(words: &[u64], from: usize, count: usize) -> &[u64] {
+    let start = least(from, words.len());
+    let size = least(count, words.len() - start);
+    &words[start..start + size]
+}
+
+// Channels as bytes: a line says none above 255.
+fn lay_bytes(words: &[u64], bytes: &mut [u8; MOST_LISTED]) {
+    let mut index = 0;
+    while index < words.len() && index < MOST_LISTED {
+        bytes[index] = (words[index] % 256) as u8;
+        index += 1;
+    }
+}
+
+// The first bytes of a list.
+fn first_listed(bytes: &[u8; MOST_LISTED], count: usize) -> &[u8] {
+    let all = &bytes[..];
+    let size = least(count, all.len());
+    &all[0..size]
+}
+
+// `offers NOW ..`: the three lists stand one behind the other.
+fn offers_line(
+    words: &mut [u64],
+    memory: &mut [u8],
+    time: u64,
+    counts: ListCounts,
+    lists: &[u64; CONFIGURATION_WORDS],
+    packets: &[u8],
+    out: &mut [u8],
+) -> usize {
+    let mut channels = [0u8; MOST_LISTED];
+    let mut answers = [0u8; MOST_LISTED];
+    let answer_count = least(counts.answers, MOST_LISTED);
+    let channel_count = least(counts.channels, MOST_LISTED);
+    let behind = channel_count + least(counts.expiries, MOST_LISTED);
+    lay_bytes(listed(lists, 0, counts.channels), &mut channels);
+    let answer = handful::offers(
+        words,
+        memory,
+        first_listed(&channels, counts.channels),
+        listed(lists, channel_count, counts.expiries),
+        listed(lists, behind, counts.lengths),
+        packets,
+        time,
+        &mut answers[0..answer_count],
+    );
+    match answer {
+        HandfulAnswer::Offered => session_print::handed(
+            out,
+            0,
+            first_listed(&answers, counts.answers),
+        ),
+        HandfulAnswer::Refused(refusal) => refused(out, 0, refusal),
+    }
+}
+
 // `next CHANNEL NOW ROOM`
 fn next_line(
     words: &mut [u64],
@@ -210,12 +272,16 @@ fn command_line(
     words: &mut [u64],
     memory: &mut [u8],
     command: Command,
+    lists: &[u64; CONFIGURATION_WORDS],
     bytes: &[u8],
     output: &mut [u8],
     out: &mut [u8],
 ) -> usize {
     match command {
         Command::Offer(id, time, expiry) => offer_line(words, memory, id, time, expiry, bytes, out),
+        Command::Offers(time, counts) => {
+            offers_line(words, memory, time, counts, lists, bytes, out)
+        }
         Command::Next(id, time, room) => next_line(words, memory, id, time, room, output, out),
         Command::Withdraw(id) => withdraw_line(words, memory, id, out),
         Command::Radio(time) => radio_line(words, time, bytes, out),
@@ -252,6 +318,7 @@ fn state_line(
         &mut words[0..words_lent],
         &mut memory[0..memory_lent],
         command,
+        configuration,
         bytes,
         output,
         out,

@@ -3,3 +3,4 @@ pub mod Showing
 pub mod Planes
 pub mod Writing
 pub mod Lines
+pub mod Handing

@@ -1,6 +1,8 @@
 -- docs/SESSION.md, "About a state": the answers.
 use Prim.Native.Nat.{ℕ}
-use mathlib.Core.List.{List, [], _∷_}
+use mathlib.Core.Bool.{cond}
+use mathlib.Core.List.{List, [], _∷_, _++_}
+use lib.Dec.{eqb}
 use lib.ListN.{take}
 use Rattle.text.specs.Strings.{bytesText}
 use Rattle.writer.specs.declared.answer.WriteAnswer.{WriteAnswer}
@@ -10,7 +12,7 @@ use Rattle.ips_state.specs.declared.StartAnswer.{StartAnswer}
 use Rattle.ips_channel_calls.specs.declared.offering.WithdrawAnswer.{WithdrawAnswer}
 use Rattle.ips_radio.specs.declared.RadioAnswer.{RadioAnswer}
 use Rattle.pacer.specs.declared.PaceAnswer.{PaceAnswer}
-use Rattle.message_words.specs.Phrases.{refusedTexts}
+use Rattle.message_words.specs.Phrases.{SPACE, refusedTexts}
 
 -- `started`
 abbrev pub STARTED : List ℕ
@@ -19,6 +21,10 @@ STARTED = 115 ∷ 116 ∷ 97 ∷ 114 ∷ 116 ∷ 101 ∷ 100 ∷ []
 -- `taken`
 abbrev pub TAKEN : List ℕ
 TAKEN = 116 ∷ 97 ∷ 107 ∷ 101 ∷ 110 ∷ []
+
+-- `offered`
+abbrev pub OFFERED : List ℕ
+OFFERED = 111 ∷ 102 ∷ 102 ∷ 101 ∷ 114 ∷ 101 ∷ 100 ∷ []
 
 -- `sent `
 abbrev pub SENT : List ℕ
@@ -75,6 +81,21 @@ startTexts (StartAnswer.Refused refusal) = refusedTexts refusal
 abbrev pub offerTexts : OfferAnswer → List (List ℕ)
 offerTexts OfferAnswer.Taken = TAKEN ∷ []
 offerTexts (OfferAnswer.Refused refusal) = refusedTexts refusal
+
+-- "`offered`, and then for each packet, in their order, `taken` or `refused NUMBER 0`, as `offer` would answer it": an answer is a byte, 0 where the packet is taken,
+-- else its number of refusal
+unfoldable pub answerOf : ℕ → OfferAnswer
+answerOf number = cond (eqb number 0) OfferAnswer.Taken (OfferAnswer.Refused (record { number = number; place = 0 }))
+
+abbrev pub anotherTexts : ℕ → List (List ℕ)
+anotherTexts number = SPACE ∷ offerTexts (answerOf number)
+
+unfoldable pub answersTexts : List ℕ → List (List ℕ)
+answersTexts [] = []
+answersTexts (number ∷ numbers) = anotherTexts number ++ answersTexts numbers
+
+abbrev pub offersTexts : List ℕ → List (List ℕ)
+offersTexts answers = OFFERED ∷ answersTexts answers
 
 -- `sent HEX`, `nothing waiting`, `not operational` or `window shut`; the message stands at the start of the output
 abbrev pub nextTexts : NextAnswer → List ℕ → List (List ℕ)

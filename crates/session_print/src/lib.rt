@@ -2,6 +2,7 @@
 mod answers;
 mod echo;
 mod messages;
+mod offers;
 mod reading;
 mod shown;
 
@@ -15,6 +16,7 @@ pub use answers::started;
 pub use messages::about_state;
 pub use messages::bad_line;
 pub use messages::message;
+pub use offers::handed;
 pub use shown::channel;
 pub use shown::held;
 pub use shown::kept;

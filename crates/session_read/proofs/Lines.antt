@@ -12,7 +12,7 @@ use Rattle.line_rows.specs.Places.{keyedOf, rowOfKey, writtenOut, Within}
 use Rattle.line_rows.proofs.Places.{reads-within, reads-numbers}
 use Rattle.session_read.specs.declared.asked.Asked.{Asked}
 use Rattle.session_read.specs.declared.start.StartWords.{StartWords}
-use Rattle.session_read.specs.Lines.{PLACES, CONFIGURATION-WORDS, COMMANDS, shortened, askedBy, startBy, configurationBy, numbersIn, saidBy, keyBy, askedOf, startOf, configurationSaid, Asks, Bounded}
+use Rattle.session_read.specs.Lines.{PLACES, CONFIGURATION-WORDS, COMMANDS, shortened, askedBy, startBy, wordsBy, numbersIn, saidBy, keyBy, askedOf, startOf, wordsOf, Asks, Bounded}
 
 -- numbers that are all 0 before a line is read
 abbrev blank : List ℕ
@@ -39,15 +39,15 @@ module _ (line : List ℕ) {given lent : List ℕ} {told : Told} {numbers lent�
   read-bounded = record { within = subst (λ (n : ℕ → ℕ). Within (writtenOut 0 0 (rowOfKey (told .key) COMMANDS) n) n) (sym said-as) (reads-within read-as refl no-command) }
 
   module _ {words′ : List ℕ} {asked : Asked} {start : StartWords} where
-    pub read-asks : asked ≡ askedBy (told .key) (numbersIn numbers) → start ≡ startBy (told .key) (numbersIn numbers) → words′ ≡ over (configurationBy (told .key) (numbersIn numbers)) (replicate CONFIGURATION-WORDS 0)
+    pub read-asks : asked ≡ askedBy (told .key) (numbersIn numbers) → start ≡ startBy (told .key) (numbersIn numbers) → words′ ≡ over (wordsBy (told .key) (numbersIn numbers)) (replicate CONFIGURATION-WORDS 0)
         → Asks lent line (record { asked = asked; bytes = told .bytes; start = start }) words′ lent′
-    unfolding askedOf startOf configurationSaid
+    unfolding askedOf startOf wordsOf
     read-asks f g h =
         let key : told .key ≡ keyBy (length lent) line = read-as .key in
         record {
           asked = rw (said-as, key) at f;
           count = read-as .count;
           start = rw (said-as, key) at g;
-          configuration = rw (said-as, key) at h;
+          words = rw (said-as, key) at h;
           bytes = read-as .bytes;
         }

@@ -1,2 +1,4 @@
-pub mod Lines
+pub mod Words
 pub mod Start
+pub mod Offers
+pub mod Lines

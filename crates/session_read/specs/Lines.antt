@@ -16,6 +16,7 @@ use Rattle.session_read.specs.declared.start.StartWords.{StartWords}
 use Rattle.session_read.specs.declared.line.Line.{Line}
 use Rattle.ips_words_start.specs.Start.{configurationLength}
 use Rattle.session_read.specs.Start.{SAID-COUNT, storeSaid, startFrom, noStart, configurationFrom}
+use Rattle.session_read.specs.Offers.{SAID-TIME, channelCount, expiryCount, lengthCount, countsFrom, listsFrom}
 
 -- ---- the words that a line may have
 -- `ips`
@@ -42,6 +43,22 @@ MEMORY = keyText (109 ∷ 101 ∷ 109 ∷ 111 ∷ 114 ∷ 121 ∷ [])
 abbrev pub CODES : ℕ
 CODES = keyText (99 ∷ 111 ∷ 100 ∷ 101 ∷ 115 ∷ [])
 
+-- `channels`
+abbrev pub CHANNELS : ℕ
+CHANNELS = keyText (99 ∷ 104 ∷ 97 ∷ 110 ∷ 110 ∷ 101 ∷ 108 ∷ 115 ∷ [])
+
+-- `expiries`
+abbrev pub EXPIRIES : ℕ
+EXPIRIES = keyText (101 ∷ 120 ∷ 112 ∷ 105 ∷ 114 ∷ 105 ∷ 101 ∷ 115 ∷ [])
+
+-- `lengths`
+abbrev pub LENGTHS : ℕ
+LENGTHS = keyText (108 ∷ 101 ∷ 110 ∷ 103 ∷ 116 ∷ 104 ∷ 115 ∷ [])
+
+-- `answers`
+abbrev pub ANSWERS : ℕ
+ANSWERS = keyText (97 ∷ 110 ∷ 115 ∷ 119 ∷ 101 ∷ 114 ∷ 115 ∷ [])
+
 -- `read`
 abbrev pub READ : ℕ
 READ = keyText (114 ∷ 101 ∷ 97 ∷ 100 ∷ [])
@@ -57,6 +74,10 @@ START = keyText (115 ∷ 116 ∷ 97 ∷ 114 ∷ 116 ∷ [])
 -- `offer`
 abbrev pub OFFER : ℕ
 OFFER = keyText (111 ∷ 102 ∷ 102 ∷ 101 ∷ 114 ∷ [])
+
+-- `offers`
+abbrev pub OFFERS : ℕ
+OFFERS = keyText (111 ∷ 102 ∷ 102 ∷ 101 ∷ 114 ∷ 115 ∷ [])
 
 -- `next`
 abbrev pub NEXT : ℕ
@@ -92,7 +113,7 @@ PACER = keyText (112 ∷ 97 ∷ 99 ∷ 101 ∷ 114 ∷ [])
 
 -- ---- "the values"
 
--- "`ID`, `CHANNEL`: 0 to 255"
+-- "`ID`, `CHANNEL`: 0 to 255", and "`C` is as `CHANNEL`, `E` as `EXPIRY`, `L` as `LEN`"
 abbrev pub HIGHEST-ID : ℕ
 HIGHEST-ID = 255
 
@@ -112,7 +133,7 @@ LATEST-TIME = 2 ^ 64 - 1
 abbrev pub MOST-ROOM : ℕ
 MOST-ROOM = MOST-CHANNELS * LARGEST-STORE
 
--- "Up to 80 channels are read"
+-- "Up to 80 channels are read", and of a list too: "Each `N` is 0 to 80"
 abbrev pub MOST-SETTINGS : ℕ
 MOST-SETTINGS = 80
 
@@ -139,7 +160,7 @@ ABOUT-MESSAGES =
     ++ command ECHO (IPS ∷ RADIO ∷ NUMBER ∷ HIGHEST-ID ∷ BYTES ∷ 0 ∷ IPS ∷ RADIO ∷ NUMBER ∷ MOST-ROOM ∷ [])
 
 -- `start ID COUNT`, `CHANNEL KIND FIRST STORE` for each channel, and perhaps `memory LEN`, `pace HELLO LIMIT`, `codes MASK`;
--- `offer CHANNEL NOW EXPIRY HEX`; `next CHANNEL NOW ROOM`; `withdraw CHANNEL`; `radio NOW HEX`; `pace NOW`; `query ROOM`; `show CHANNEL`; `store CHANNEL`; `kept`; `pacer`
+-- `offer CHANNEL NOW EXPIRY HEX`; `offers NOW channels N C.. expiries N E.. lengths N L.. answers N HEX`; `next CHANNEL NOW ROOM`; `withdraw CHANNEL`; `radio NOW HEX`; `pace NOW`; `query ROOM`; `show CHANNEL`; `store CHANNEL`; `kept`; `pacer`
 abbrev pub ABOUT-A-STATE : List ℕ
 ABOUT-A-STATE =
     command START
@@ -149,6 +170,12 @@ ABOUT-A-STATE =
     ∷ OPTIONAL ∷ PACE ∷ LIST ∷ 2 ∷ NUMBER ∷ LATEST-TIME ∷ NUMBER ∷ LATEST-TIME
     ∷ OPTIONAL ∷ CODES ∷ LIST ∷ 1 ∷ NUMBER ∷ HIGHEST-MASK ∷ [])
     ++ command OFFER (NUMBER ∷ HIGHEST-ID ∷ NUMBER ∷ LATEST-TIME ∷ NUMBER ∷ LATEST-TIME ∷ BYTES ∷ 0 ∷ [])
+    ++ command OFFERS
+    (NUMBER ∷ LATEST-TIME
+    ∷ CHANNELS ∷ CHANNELS ∷ NUMBER ∷ MOST-SETTINGS ∷ LIST ∷ 1 ∷ NUMBER ∷ HIGHEST-ID
+    ∷ EXPIRIES ∷ EXPIRIES ∷ NUMBER ∷ MOST-SETTINGS ∷ LIST ∷ 1 ∷ NUMBER ∷ LATEST-TIME
+    ∷ LENGTHS ∷ LENGTHS ∷ NUMBER ∷ MOST-SETTINGS ∷ LIST ∷ 1 ∷ NUMBER ∷ MOST-ROOM
+    ∷ ANSWERS ∷ ANSWERS ∷ NUMBER ∷ MOST-SETTINGS ∷ BYTES ∷ 0 ∷ [])
     ++ command NEXT (NUMBER ∷ HIGHEST-ID ∷ NUMBER ∷ LATEST-TIME ∷ NUMBER ∷ MOST-ROOM ∷ [])
     ++ command WITHDRAW (NUMBER ∷ HIGHEST-ID ∷ [])
     ++ command RADIO (NUMBER ∷ LATEST-TIME ∷ BYTES ∷ 0 ∷ [])
@@ -174,6 +201,7 @@ askedBy key n =
     (cond (eqb key ECHO) (Asked.Echo (endOf (n 0)) (n 1) (endOf (n 3)) (n 4))
     (cond (eqb key START) Asked.Start
     (cond (eqb key OFFER) (Asked.State (Command.Offer (n 0) (n 1) (n 2)))
+    (cond (eqb key OFFERS) (Asked.State (Command.Offers (n SAID-TIME) (countsFrom n)))
     (cond (eqb key NEXT) (Asked.State (Command.Next (n 0) (n 1) (n 2)))
     (cond (eqb key WITHDRAW) (Asked.State (Command.Withdraw (n 0)))
     (cond (eqb key RADIO) (Asked.State (Command.Radio (n 0)))
@@ -183,14 +211,15 @@ askedBy key n =
     (cond (eqb key STORE) (Asked.State (Command.Store (n 0)))
     (cond (eqb key KEPT) (Asked.State Command.Kept)
     (cond (eqb key PACER) (Asked.State Command.Pacer)
-    Asked.Bad))))))))))))
+    Asked.Bad)))))))))))))
 
--- what the numbers of a `start` are, and the words of its configuration; nothing for another line
+-- what the numbers of a `start` are; nothing for another line
 unfoldable pub startBy : ℕ → (ℕ → ℕ) → StartWords
 startBy key n = cond (eqb key START) (startFrom n) noStart
 
-unfoldable pub configurationBy : ℕ → (ℕ → ℕ) → List ℕ
-configurationBy key n = cond (eqb key START) (configurationFrom n) []
+-- the words that a line says: the configuration of a `start`, the three lists of an `offers`; none for another line
+unfoldable pub wordsBy : ℕ → (ℕ → ℕ) → List ℕ
+wordsBy key n = cond (eqb key START) (configurationFrom n) (cond (eqb key OFFERS) (listsFrom n) [])
 
 abbrev pub numbersIn : List ℕ → ℕ → ℕ
 numbersIn numbers = λ i. getD numbers i 0
@@ -208,16 +237,16 @@ askedOf size line = askedBy (keyBy size line) (numbersIn (saidBy size line .numb
 unfoldable pub startOf : ℕ → List ℕ → StartWords
 startOf size line = startBy (keyBy size line) (numbersIn (saidBy size line .numbers))
 
-unfoldable pub configurationSaid : ℕ → List ℕ → List ℕ
-configurationSaid size line = configurationBy (keyBy size line) (numbersIn (saidBy size line .numbers))
+unfoldable pub wordsOf : ℕ → List ℕ → List ℕ
+wordsOf size line = wordsBy (keyBy size line) (numbersIn (saidBy size line .numbers))
 
--- what a line asks for; the words of the configuration that it says stand at the start of the lent words, with zeros behind them, and the bytes at the start of
--- the lent memory, which is as it was behind them
+-- what a line asks for; the words that it says stand at the start of the lent words, with zeros behind them, and the bytes at the start of the lent memory, which
+-- is as it was behind them
 pub record Asks (lent line : List ℕ) (r : Line) (words′ lent′ : List ℕ) : Type 0 where
   pub asked : r .asked ≡ askedOf (length lent) line
   pub count : r .bytes ≡ length (saidBy (length lent) line .bytes)
   pub start : r .start ≡ startOf (length lent) line
-  pub configuration : words′ ≡ over (configurationSaid (length lent) line) (replicate CONFIGURATION-WORDS 0)
+  pub words : words′ ≡ over (wordsOf (length lent) line) (replicate CONFIGURATION-WORDS 0)
   pub bytes : lent′ ≡ over (saidBy (length lent) line .bytes) lent
 
 -- the numbers of a command are within their bounds
@@ -227,3 +256,8 @@ pub record Bounded (key : ℕ) (numbers : List ℕ) : Type 0 where
 pub record StartFits (n : ℕ → ℕ) : Type 0 where
   pub few : n SAID-COUNT ≤ MOST-SETTINGS
   pub each : (index : ℕ) → index < n SAID-COUNT → storeSaid n index ≤ MOST-ROOM
+
+pub record OffersFit (n : ℕ → ℕ) : Type 0 where
+  pub channels : channelCount n ≤ MOST-SETTINGS
+  pub expiries : expiryCount n ≤ MOST-SETTINGS
+  pub lengths : lengthCount n ≤ MOST-SETTINGS

@@ -7,9 +7,9 @@ use mathlib.Core.Bool.{cond}
 use mathlib.Core.List.{List, [], _∷_, _++_}
 use Prim.Native.Nat.{ℕ, zero, suc, _+_, _*_}
 use lib.Dec.{eqb}
-use Rattle.facts.specs.Tables.{tabulate}
 use Rattle.ips_words_start.specs.Start.{CONFIGURATION-SLOT, START-SIZE, configurationLength}
 use Rattle.session_read.specs.declared.start.StartWords.{StartWords}
+use Rattle.session_read.specs.Words.{saidFrom}
 
 abbrev pub SAID-ID : ℕ
 SAID-ID = 0
@@ -80,8 +80,8 @@ codesOf n = perhaps n (codesPlace n) 1 USUAL-CODES
 abbrev pub headSaid : (ℕ → ℕ) → List ℕ
 headSaid n = n SAID-ID ∷ n SAID-COUNT ∷ helloOf n ∷ limitOf n ∷ codesOf n ∷ []
 
-unfoldable pub channelsSaid : (ℕ → ℕ) → List ℕ
-channelsSaid n = tabulate (CONFIGURATION-SLOT * n SAID-COUNT) (λ place. n (SAID-CHANNELS + place))
+abbrev pub channelsSaid : (ℕ → ℕ) → List ℕ
+channelsSaid n = saidFrom n SAID-CHANNELS (CONFIGURATION-SLOT * n SAID-COUNT)
 
 unfoldable pub configurationFrom : (ℕ → ℕ) → List ℕ
 configurationFrom n = headSaid n ++ channelsSaid n

@@ -2,13 +2,18 @@
 ghost use mathlib.Core.Path.{_≡_};
 ghost use Prim.Native.Nat.{_<_};
 ghost use lib.ListN.{getD};
-ghost use Rattle.session_read.specs.Lines.{endOf, askedBy, numbersIn, Bounded};
+ghost use Rattle.session_read.specs.Lines.{endOf, askedBy, numbersIn, Bounded, OffersFit};
+ghost use Rattle.session_read.specs.Offers.{countsFrom};
 ghost use Rattle.session_read.specs.declared.asked.Asked.{Asked};
 ghost use Rattle.session_read.specs.declared.asked.Command.{Command};
+use crate::offers::ListCounts;
+use crate::offers::SAID_TIME;
+use crate::offers::counts;
 use crate::table::ECHO;
 use crate::table::KEPT;
 use crate::table::NEXT;
 use crate::table::OFFER;
+use crate::table::OFFERS;
 use crate::table::PACE;
 use crate::table::PACER;
 use crate::table::PLACES;
@@ -21,7 +26,7 @@ use crate::table::STORE;
 use crate::table::WITHDRAW;
 use meaning::message::End;
 
-// The words of each line in their order; the bytes that it says, and what `start` says, stand beside.
+// The words of each line in their order; the bytes that it says, the words, and what `start` says, stand beside.
 pub enum Asked {
     Bad,
     Read(End, u8),
@@ -33,6 +38,7 @@ pub enum Asked {
 // A line that asks for a state that was started.
 pub enum Command {
     Offer(u8, u64, u64),
+    Offers(u64, ListCounts),
     Next(u8, u64, usize),
     Withdraw(u8),
     Radio(u64),
@@ -74,6 +80,13 @@ fn offer(n: &[u64; PLACES]) -> Asked
     Asked::State(Command::Offer(n[0] as u8, n[1], n[2]))
 }
 
+fn offers(n: &[u64; PLACES]) -> Asked
+    requires { ⌜ OffersFit (numbersIn (now n)) ⌝ }
+    ensures { λ r. ⌜ r ≡ Asked.State (Command.Offers (getD (now (n .entry)) 0 0) (countsFrom (numbersIn (now (n .entry))))) ⌝ }
+{
+    Asked::State(Command::Offers(n[SAID_TIME], counts(n)))
+}
+
 fn next(n: &[u64; PLACES]) -> Asked
     requires { ⌜ getD (now n) 0 0 < 256 ⌝ }
     ensures { λ r. ⌜ r ≡ Asked.State (Command.Next (getD (now (n .entry)) 0 0) (getD (now (n .entry)) 1 0) (getD (now (n .entry)) 2 0)) ⌝ }
@@ -106,6 +119,7 @@ pub(crate) fn asks(key: u64, n: &[u64; PLACES]) -> Asked
         ECHO => echo(n),
         START => Asked::Start,
         OFFER => offer(n),
+        OFFERS => offers(n),
         NEXT => next(n),
         WITHDRAW => Asked::State(Command::Withdraw(channel(n))),
         RADIO => Asked::State(Command::Radio(n[0])),

@@ -3,11 +3,10 @@ ghost use mathlib.Core.Path.{_≡_};
 ghost use Prim.Native.Nat.{_+_, _<_};
 ghost use mathlib.Core.List.{[], _∷_, _++_};
 ghost use lib.ListN.{length, drop};
-ghost use lib.Seq.{paste};
 ghost use Rattle.line_rows.specs.Rows.{over};
 ghost use Rattle.ips_words_start.specs.Start.{CONFIGURATION-HEAD};
 ghost use Rattle.session_read.specs.Lines.{PLACES, CONFIGURATION-WORDS, numbersIn, StartFits};
-ghost use Rattle.session_read.specs.Start.{behindKeyword, pacePlace, codesOf, channelsSaid, configurationFrom};
+ghost use Rattle.session_read.specs.Start.{behindKeyword, pacePlace, codesOf, configurationFrom};
 use crate::start::SAID_CHANNELS;
 use crate::start::SAID_COUNT;
 use crate::start::SAID_ID;
@@ -15,6 +14,7 @@ use crate::start::memory_place;
 use crate::start::perhaps;
 use crate::table::MOST_SETTINGS;
 use crate::table::PLACES;
+use crate::words::lay;
 use ips_words_start::layout::CONFIGURATION_HEAD;
 use ips_words_start::layout::CONFIGURATION_SLOT;
 use ips_words_start::layout::CONFIGURED_CODES;
@@ -81,20 +81,6 @@ fn write_head(
     words[CONFIGURED_CODES] = codes;
 }
 
-// The numbers of the channels are their words.
-fn write_channels(words: &mut [u64; CONFIGURATION_WORDS], n: &[u64; PLACES])
-    requires { ⌜ StartFits (numbersIn (now n)) ⌝ }
-    requires { ⌜ length (now words) ≡ CONFIGURATION-WORDS ⌝ }
-    ensures { λ _. ⌜ now (words .exit) ≡ paste (now (words .entry)) CONFIGURATION-HEAD (channelsSaid (numbersIn (now (n .entry)))) (length (channelsSaid (numbersIn (now (n .entry))))) ⌝ }
-{
-    let count = CONFIGURATION_SLOT * n[SAID_COUNT] as usize;
-    let mut at = 0;
-    while at < count {
-        words[CONFIGURATION_HEAD + at] = n[SAID_CHANNELS + at];
-        at += 1;
-    }
-}
-
 // The configuration stands at the start of the lent words, which are as they were behind it.
 pub(crate) fn configure(n: &[u64; PLACES], words: &mut [u64; CONFIGURATION_WORDS])
     requires { ⌜ StartFits (numbersIn (now n)) ⌝ }
@@ -105,6 +91,13 @@ pub(crate) fn configure(n: &[u64; PLACES], words: &mut [u64; CONFIGURATION_WORDS
     let pace = pace_place(n);
     let hello = perhaps(n, pace, 1, USUAL_HELLO);
     let limit = perhaps(n, pace, 2, USUAL_LIMIT);
+    // The numbers of the channels are their words.
     write_head(words, n[SAID_ID], n[SAID_COUNT], hello, limit, codes);
-    write_channels(words, n);
+    lay(
+        words,
+        CONFIGURATION_HEAD,
+        n,
+        SAID_CHANNELS,
+        CONFIGURATION_SLOT * n[SAID_COUNT] as usize,
+    );
 }

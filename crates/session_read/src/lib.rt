@@ -2,12 +2,16 @@
 mod asked;
 mod configuration;
 mod line;
+mod offers;
 mod start;
 mod table;
+mod words;
 
 pub use asked::Asked;
 pub use asked::Command;
 pub use configuration::CONFIGURATION_WORDS;
 pub use line::Line;
 pub use line::read;
+pub use offers::ListCounts;
+pub use offers::MOST_LISTED;
 pub use start::StartWords;

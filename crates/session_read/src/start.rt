@@ -1,12 +1,8 @@
 // What the numbers of a `start` line are: how long the lent memory is, and how many words its configuration has.
 ghost use mathlib.Core.Path.{_≡_};
 ghost use Prim.Native.Nat.{_+_, _<_};
-ghost use lib.ListN.{length};
-ghost use Rattle.line_rows.specs.Rows.{over};
-ghost use Rattle.session_read.specs.Lines.{PLACES, CONFIGURATION-WORDS, numbersIn, startBy, configurationBy, Bounded, StartFits};
+ghost use Rattle.session_read.specs.Lines.{PLACES, numbersIn, startBy, Bounded, StartFits};
 ghost use Rattle.session_read.specs.Start.{SAID-COUNT, perhaps, storesOf, memoryPlace, memoryOf, startFrom, noStart};
-use crate::configuration::CONFIGURATION_WORDS;
-use crate::configuration::configure;
 use crate::table::PLACES;
 use crate::table::START;
 use ips_words_start::layout::CONFIGURATION_HEAD;
@@ -92,19 +88,12 @@ fn not_started() -> StartWords
     }
 }
 
-// What `start` says with its numbers, and its configuration's words; nothing for another command.
-pub(crate) fn starts(
-    key: u64,
-    n: &[u64; PLACES],
-    words: &mut [u64; CONFIGURATION_WORDS],
-) -> StartWords
+// What `start` says with its numbers; nothing for another command.
+pub(crate) fn starts(key: u64, n: &[u64; PLACES]) -> StartWords
     requires { ⌜ Bounded key (now n) ⌝ }
-    requires { ⌜ length (now words) ≡ CONFIGURATION-WORDS ⌝ }
     ensures { λ r. ⌜ r ≡ startBy key (numbersIn (now (n .entry))) ⌝ }
-    ensures { λ r. ⌜ now (words .exit) ≡ over (configurationBy key (numbersIn (now (n .entry)))) (now (words .entry)) ⌝ }
 {
     if key == START {
-        configure(n, words);
         return started(n);
     }
     not_started()

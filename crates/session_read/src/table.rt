@@ -24,6 +24,18 @@ pub(crate) const MEMORY: u64 = 0x79726f6d656d;
 // codes
 pub(crate) const CODES: u64 = 0x7365646f63;
 
+// channels
+pub(crate) const CHANNELS: u64 = 0x736c656e6e616863;
+
+// expiries
+pub(crate) const EXPIRIES: u64 = 0x7365697269707865;
+
+// lengths
+pub(crate) const LENGTHS: u64 = 0x736874676e656c;
+
+// answers
+pub(crate) const ANSWERS: u64 = 0x73726577736e61;
+
 // read
 pub(crate) const READ: u64 = 0x64616572;
 
@@ -35,6 +47,9 @@ pub(crate) const START: u64 = 0x7472617473;
 
 // offer
 pub(crate) const OFFER: u64 = 0x726566666f;
+
+// offers
+pub(crate) const OFFERS: u64 = 0x73726566666f;
 
 // next
 pub(crate) const NEXT: u64 = 0x7478656e;
@@ -74,7 +89,7 @@ pub(crate) const MOST_SETTINGS: u64 = 80;
 // No line says more numbers.
 pub(crate) const PLACES: usize = 329;
 
-pub(crate) const COMMANDS: [u64; 104] = [
+pub(crate) const COMMANDS: [u64; 138] = [
     // read END ID HEX
     READ,
     3,
@@ -143,6 +158,41 @@ pub(crate) const COMMANDS: [u64; 104] = [
     u64::MAX,
     NUMBER,
     u64::MAX,
+    BYTES,
+    0,
+    // offers NOW, channels N and C for each, expiries N and E for each, lengths N and L for each, answers N, HEX
+    OFFERS,
+    16,
+    NUMBER,
+    u64::MAX,
+    CHANNELS,
+    CHANNELS,
+    NUMBER,
+    MOST_SETTINGS,
+    LIST,
+    1,
+    NUMBER,
+    HIGHEST_ID,
+    EXPIRIES,
+    EXPIRIES,
+    NUMBER,
+    MOST_SETTINGS,
+    LIST,
+    1,
+    NUMBER,
+    u64::MAX,
+    LENGTHS,
+    LENGTHS,
+    NUMBER,
+    MOST_SETTINGS,
+    LIST,
+    1,
+    NUMBER,
+    MOST_ROOM,
+    ANSWERS,
+    ANSWERS,
+    NUMBER,
+    MOST_SETTINGS,
     BYTES,
     0,
     // next CHANNEL NOW ROOM

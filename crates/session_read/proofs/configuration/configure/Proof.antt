@@ -27,14 +27,24 @@ element-copy-out-write-head-2 c = search needs
 write-head-requires : tie.Need-write-head-requires
 write-head-requires c κs = search needs
 
-write-channels-requires : tie.Need-write-channels-requires
-write-channels-requires c κs = (c .before .before .before .before .before .before .before .before .before .pre .0, headed-long (c .before .before .before .before .before .before .before .before .before .args .words .now) (c .before .before .before .before .before .before .before .before .before .pre .1) (c .before .write-head .ensures))
+element-copy-out-lay : tie.Need-element-copy-out-lay
+element-copy-out-lay c = search needs
+
+mul-lay : tie.Need-mul-lay
+mul-lay c = search needs
+
+lay-requires : tie.Need-lay-requires
+lay-requires c κs =
+    let start = c .before .before .before .before .before .before .before .before .before .before in
+    (omega (arith, start .pre .0 .few), (omega (arith, start .pre .0 .few), headed-long (start .args .words .now) (start .pre .1) (c .before .before .write-head .ensures)))
 
 returns : tie.Need-returns
 unfolding helloOf limitOf
 returns c =
-    let placed = c .before .before .before .before .before .before .before .before .pace-place .ensures in
-    configured _ (c .before .before .before .before .before .before .before .before .before .before .args .words .now) (rw placed at (c .before .before .before .before .before .before .before .perhaps .ensures)) (rw placed at (c .before .before .before .before .before .before .perhaps2 .ensures)) (c .before .before .before .before .before .before .before .before .before .codes .ensures) (c .before .before .write-head .ensures) (c .write-channels .ensures)
+    let placed = c .before .before .before .before .before .before .before .before .before in
+    let hello = rw (placed .pace-place .ensures) at (c .before .before .before .before .before .before .before .before .perhaps .ensures) in
+    let limit = rw (placed .pace-place .ensures) at (c .before .before .before .before .before .before .before .perhaps2 .ensures) in
+    configured _ (placed .before .before .args .words .now) hello limit (placed .before .codes .ensures) (c .before .before .before .write-head .ensures) (c .lay .ensures)
 
 pub configure-spec : {M : Type 1} → statement M
 configure-spec =
@@ -47,5 +57,7 @@ configure-spec =
     element-copy-out-write-head
     element-copy-out-write-head-2
     write-head-requires
-    write-channels-requires
+    element-copy-out-lay
+    mul-lay
+    lay-requires
     returns)

@@ -27,7 +27,13 @@ asks-requires c κs =
 
 starts-requires : tie.Need-starts-requires
 starts-requires c κs =
-    let read = c .before .before .before .before .before .before .before in
+    let read = c .before .before .before .before .before .before in
+    let short = read .before .before .before .before in
+    read-bounded (short .before .before .before .before .args .line .now) (short .short .ensures) (read .read .ensures)
+
+lay-words-requires : tie.Need-lay-words-requires
+lay-words-requires c κs =
+    let read = c .before .before .before .before .before .before .before .before .before in
     let short = read .before .before .before .before in
     (read-bounded (short .before .before .before .before .args .line .now) (short .short .ensures) (read .read .ensures), length-replicate {A = ℕ} CONFIGURATION-WORDS 0)
 
@@ -36,10 +42,10 @@ same-length c = search needs
 
 returns : tie.Need-returns
 returns c =
-    let asks = c .before .before .before in
+    let asks = c .before .before .before .before .before in
     let read = asks .before .before .before .before .before in
     let short = read .before .before .before .before in
-    read-asks (short .before .before .before .before .args .line .now) (short .short .ensures) (read .read .ensures) (asks .asks .ensures) (c .starts .ensures .0) (c .starts .ensures .1)
+    read-asks (short .before .before .before .before .args .line .now) (short .short .ensures) (read .read .ensures) (asks .asks .ensures) (c .before .before .before .starts .ensures) (c .lay-words .ensures)
 
 pub read-spec : {M : Type 1} → statement M
 read-spec =
@@ -51,5 +57,6 @@ read-spec =
     read-requires
     asks-requires
     starts-requires
+    lay-words-requires
     same-length
     returns)
