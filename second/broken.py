@@ -9,6 +9,7 @@ import pathlib
 import sys
 import types
 
+from broken_handful import HANDFUL_WAYS
 from broken_messages import MESSAGE_WAYS
 from broken_pacer import PACER_WAYS
 from broken_sessions import SESSION_WAYS
@@ -68,7 +69,7 @@ def main():
     answers = (CRATE / "stdout").read_text().splitlines()
     if first_difference(load_modules(sources), lines, answers) is not None:
         sys.exit("the stored answers aren't those of the second implementation")
-    ways = [*MESSAGE_WAYS, *STATE_WAYS, *PACER_WAYS, *SESSION_WAYS]
+    ways = [*MESSAGE_WAYS, *STATE_WAYS, *PACER_WAYS, *HANDFUL_WAYS, *SESSION_WAYS]
     noticed = unexpected = 0
     for way in [*ways, *UNSEEN_WAYS]:
         difference = break_and_run(way, sources, lines, answers)

@@ -1,5 +1,6 @@
 """Ways to break `ciri.py` that no line of a session can notice, each with why."""
 
+from broken_handful import ANSWER, LOOP, STEP, STRETCH, SUM, TEST, in_order
 from broken_messages import of_ciri
 
 UNSEEN_WAYS = of_ciri(
@@ -47,4 +48,19 @@ UNSEEN_WAYS = of_ciri(
     # A Datalink ID is one byte's number: the session reads no other.
     ("a Datalink ID over 255 configured",
      "        fits_bits(datalink_id, 8)\n" "        and len(channel_ids)", "        len(channel_ids)"),
+    # The state is within the limits, so that 19 is never given beside 24.
+    ("24 before 19", "    test_state(endpoint)\n    test_memory(configurations_of(endpoint), memory)\n" + TEST,
+     TEST + "    test_state(endpoint)\n    test_memory(configurations_of(endpoint), memory)\n"),
+    # An accepted offer leaves a state within the limits, so that 19 is given before the first packet or never; the single
+    # offer tests it too.
+    ("no 19 of a handful's own", "    test_state(endpoint)\n    test_memory(configurations_of(endpoint), memory)\n" + TEST, TEST),
+    # 32 lengths of at most 4,194,304 bytes are too few for a sum to wrap at 2^32: the session reads no others.
+    ("the sum counted in 32 bits", SUM, "    if sum(lengths) % 2**32 != len(packets):\n"),
+    # No packet sees another channel's, so that those of one channel may come before those of another, each answer where
+    # it belongs.
+    ("grouped by channel", LOOP + STRETCH + ANSWER + STEP,
+     in_order("sorted(range(len(lengths)), key=lambda place: channel_ids[place])")),
+    # The lengths' sum is the buffer's length: what is left is as long as the last length says.
+    ("the rest of the buffer for the last packet", STRETCH,
+     "        packet = packets[start : start + length] if place < len(lengths) - 1 else packets[start:]\n"),
 )

@@ -30,6 +30,21 @@ def offer(channel, time, expiry, octets):
     return f"offer {channel} {time} {expiry} {show_bytes(octets)}"
 
 
+def offers(time, channels, expiries, lengths, answers, octets):
+    """An `offers` of these lists, with room for so many answers, of these bytes."""
+    words = [str(time)]
+    for name, numbers in (("channels", channels), ("expiries", expiries), ("lengths", lengths)):
+        words += [name, str(len(numbers)), *(str(number) for number in numbers)]
+    return f"offers {' '.join(words)} answers {answers} {show_bytes(octets)}"
+
+
+def handful(time, *offered):
+    """An `offers` of packets as (CHANNEL, EXPIRY, bytes), its lists as they belong."""
+    channels, expiries, packets = zip(*offered) if offered else ((), (), ())
+    lengths = [len(octets) for octets in packets]
+    return offers(time, channels, expiries, lengths, len(packets), b"".join(packets))
+
+
 def radio(statuses, windows=(), context=None, link_instance=None, time=0):
     """A radio control message of these Statuses and Flow Windows, handed in."""
     meaning = ciri.Meaning(ciri.CONTROL, DATALINK_ID, link_instance, context, dict(statuses), windows=dict(windows))

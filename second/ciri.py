@@ -61,6 +61,7 @@ PRIMARY_CHANNEL = 0
 CHANNEL_COUNTS = range(1, 65)
 STORE_LENGTHS = range(1500, 65537)
 WAITING_LIMIT = 32
+HANDFUL_LIMIT = 32
 IPV6_HEADER_LENGTH = 40
 PACKET_LIMIT = 9000
 MODULUS = 2**32
@@ -76,6 +77,9 @@ NO_WINDOW = "none"
 NOTHING_WAITING = "nothing waiting"
 NOT_OPERATIONAL = "not operational"
 WINDOW_SHUT = "window shut"
+
+# The answer for a packet of a handful that is taken; for another it is the number of its refusal.
+TAKEN = 0
 
 
 class Refusal(Exception):
@@ -532,6 +536,44 @@ def test_room(channel, unexpired, packet):
     waiting_bytes = sum(len(waiting_packet) for waiting_packet, _ in unexpired)
     if len(unexpired) == WAITING_LIMIT or waiting_bytes + len(packet) > channel.configuration.store_length:
         raise Refusal(17)
+
+
+# ---- Offers by the handful ----
+
+
+def offer_handful(endpoint, memory, channel_ids, expiries, lengths, packets, now, answers):
+    """Packets that stand end to end are offered one by one, in that order and at one time; each gets its answer.
+
+    Order: 19, 24, then for each packet as if it were offered alone.
+    """
+    test_state(endpoint)
+    test_memory(configurations_of(endpoint), memory)
+    test_handful(channel_ids, expiries, lengths, packets, answers)
+    start = 0
+    for place, length in enumerate(lengths):
+        packet = packets[start : start + length]
+        answers[place] = answer_offer(endpoint, memory, channel_ids[place], now, expiries[place], packet)
+        start += length
+
+
+def test_handful(channel_ids, expiries, lengths, packets, answers):
+    """Number 24: more than 32 packets, lists of unequal count, or lengths whose sum isn't the buffer's length."""
+    count = len(channel_ids)
+    if count > HANDFUL_LIMIT:
+        raise Refusal(24)
+    if len(expiries) != count or len(lengths) != count or len(answers) != count:
+        raise Refusal(24)
+    if sum(lengths) != len(packets):
+        raise Refusal(24)
+
+
+def answer_offer(endpoint, memory, channel_id, now, expiry, packet):
+    """The answer for one packet of a handful; a refused one leaves everything, and those behind it their turn."""
+    try:
+        offer_packet(endpoint, memory, channel_id, now, expiry, packet)
+    except Refusal as refusal:
+        return refusal.number
+    return TAKEN
 
 
 # ---- Next ----

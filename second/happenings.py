@@ -6,7 +6,7 @@ import dataclasses
 import re
 
 import ciri
-from session import Session
+from session import TIME_LIMIT, Session, read_list
 
 HAPPENINGS = (
     "wrap crossed", "window granted", "window shrunk", "window withdrawn", "window absent", "status up", "status down",
@@ -14,7 +14,9 @@ HAPPENINGS = (
     "expired in the middle", "a byte too short", "silence over waiting packets", "silence on a free channel",
     "silence under a window", "silence on a plain channel", "silent again", "late query",
     "data message after a limit", "control message after a limit", "refused message after a limit",
-    "sent under a configured status", "held back under an unknown status",
+    "sent under a configured status", "held back under an unknown status", "handful for several channels",
+    "handful refused as a whole", "taken behind a refused one", "no room left by the same handful",
+    "expired by a handful",
 )
 
 
@@ -44,6 +46,8 @@ def find_happenings(before, words, answer, session):
         yield from find_in_time(before.pacer, words, answer)
     elif words[0] == "pace":
         yield from find_in_pace(before, int(words[1]), answer)
+    elif words[0] == "offers":
+        yield from find_in_handful(before, words, answer)
     elif words[0] == "next" and answer == "refused 18 0":
         yield from find_in_short_room(words, session)
     elif words[0] in ("offer", "next") and not answer.startswith("refused"):
@@ -109,6 +113,32 @@ def find_in_queue(before, words, after):
         yield "wrap crossed"
     if re.search("wx+w", "".join("w" if waiting.expiry > now else "x" for waiting in old.queue)):
         yield "expired in the middle"
+
+
+def find_in_handful(before, words, answer):
+    """What became of the packets of a handful, and what expired by them."""
+    if answer == "refused 24 0":
+        yield "handful refused as a whole"
+        return
+    now, rest = int(words[1]), [word.encode() for word in words[2:]]
+    channel_ids, _, lengths = (read_list(rest, keyword, TIME_LIMIT) for keyword in (b"channels", b"expiries", b"lengths"))
+    answers = re.findall("taken|refused [0-9]+", answer)
+    taken = {channel_id for channel_id, one in zip(channel_ids, answers) if one == "taken"}
+    if len(taken) > 1:
+        yield "handful for several channels"
+    if re.search("refused [0-9]+ 0 taken", answer):
+        yield "taken behind a refused one"
+    if any(waiting.expiry <= now for channel_id in taken for waiting in ciri.find_channel(before, channel_id).queue):
+        yield "expired by a handful"
+    for channel_id, length, one in zip(channel_ids, lengths, answers):
+        if one == "refused 17" and had_room(ciri.find_channel(before, channel_id), now, length):
+            yield "no room left by the same handful"
+
+
+def had_room(channel, now, length):
+    """Whether number 17 was not to be given for a packet of that length."""
+    lengths = [waiting.length for waiting in channel.queue if waiting.expiry > now]
+    return len(lengths) < ciri.WAITING_LIMIT and sum(lengths) + length <= channel.configuration.store_length
 
 
 def find_in_codes(before, words, answer):

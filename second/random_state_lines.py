@@ -3,6 +3,7 @@
 import ciri
 from call_lines import ROOMY, offer
 from damaged_messages import damage, draw_datagram, stretch
+from random_handfuls import draw_count, draw_handful
 from random_messages import ENDS, Draft, draw_draft, draw_header, finish_options, state_radio_control
 from random_packets import draw_offered
 from random_starts import draw_refused_start, draw_start
@@ -12,22 +13,23 @@ from session import LENGTH_LIMIT, LINE_LIMIT, TIME_LIMIT, Session, show_bytes
 # How often each line comes in each phase of a session.
 PHASES = {
     "mixed": (
-        (30, "offer"), (28, "next"), (2, "withdraw"), (16, "radio"), (5, "pace"),
+        (26, "offer"), (5, "offers"), (28, "next"), (2, "withdraw"), (16, "radio"), (5, "pace"),
         (5, "query"), (10, "show"), (3, "store"), (3, "kept"), (3, "pacer"), (2, "start"),
     ),
     "fill": (
-        (80, "offer"), (3, "next"), (0.2, "withdraw"), (4, "radio"), (2, "pace"),
+        (70, "offer"), (8, "offers"), (3, "next"), (0.2, "withdraw"), (4, "radio"), (2, "pace"),
         (1, "query"), (6, "show"), (2, "store"), (1, "kept"), (1, "pacer"), (1, "start"),
     ),
     "drain": (
-        (6, "offer"), (62, "next"), (0.5, "withdraw"), (16, "radio"), (2, "pace"),
+        (5, "offer"), (1, "offers"), (62, "next"), (0.5, "withdraw"), (16, "radio"), (2, "pace"),
         (2, "query"), (9, "show"), (3, "store"), (3, "kept"), (1, "pacer"), (1, "start"),
     ),
 }
 
 LINES_OF_ANY_STATE = (
     "query 100", "show 0", "store 0", "withdraw 0", "next 0 0 0", "radio 0 -", "offer 0 0 1 -", "kept",
-    "pace 0", "pacer",
+    "pace 0", "pacer", "offers 0 channels 0 expiries 0 lengths 0 answers 0 -",
+    "offers 0 channels 1 0 expiries 1 1 lengths 1 0 answers 1 -",
 )
 
 
@@ -56,6 +58,7 @@ class StateLines:
         """A line with that first word."""
         draws = {
             "offer": self.draw_offer,
+            "offers": self.draw_offers,
             "next": self.draw_next,
             "withdraw": self.draw_withdraw,
             "radio": self.draw_radio,
@@ -158,8 +161,23 @@ class StateLines:
         """`offer CHANNEL NOW EXPIRY HEX`"""
         channel = self.draw_configured()
         now = self.draw_now(channel)
-        packet = draw_offered(self.dice, self.phase == "fill", channel.configuration.store_length)
+        packet = self.draw_packet_for(channel)
         return offer(self.show_channel_id(channel), now, self.draw_expiry(now), packet)
+
+    def draw_packet_for(self, channel):
+        """A packet for this channel."""
+        return draw_offered(self.dice, self.phase == "fill", channel.configuration.store_length)
+
+    def draw_offers(self):
+        """`offers NOW channels N C.. expiries N E.. lengths N L.. answers N HEX`"""
+        now = self.draw_now(self.draw_configured())
+        return draw_handful(self.dice, now, [self.draw_one_of_many(now) for _ in range(draw_count(self.dice))])
+
+    def draw_one_of_many(self, now):
+        """A packet of a handful as (CHANNEL, EXPIRY, bytes), more often than others for another channel."""
+        channel = self.find_preferred([self.favourite], 50)
+        packet = self.draw_packet_for(channel)
+        return self.show_channel_id(channel), self.draw_expiry(now), packet
 
     def draw_next(self):
         """`next CHANNEL NOW ROOM`"""

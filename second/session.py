@@ -181,6 +181,46 @@ def answer_offer(session, channel_word, now_word, expiry_word, hex_word):
     return "taken"
 
 
+def answer_offers(session, now_word, *words):
+    """`offers NOW channels N C.. expiries N E.. lengths N L.. answers N HEX`"""
+    now = read_number(now_word, TIME_LIMIT)
+    rest = list(words)
+    channel_ids = read_list(rest, b"channels", ID_LIMIT)
+    expiries = read_list(rest, b"expiries", TIME_LIMIT)
+    lengths = read_list(rest, b"lengths", LENGTH_LIMIT)
+    answers = [None] * read_count(rest, b"answers")
+    if len(rest) != 1:
+        raise BadLine
+    packets = read_bytes(rest[0])
+    ciri.offer_handful(session.endpoint, session.memory, channel_ids, expiries, lengths, packets, now, answers)
+    return " ".join(["offered", *(show_answer(answer) for answer in answers)])
+
+
+def read_list(words, keyword, limit):
+    """Takes a keyword, a count and so many numbers from the front of the words.
+
+    Where there are fewer, the next keyword is among them, or isn't there.
+    """
+    count = read_count(words, keyword)
+    numbers = [read_number(word, limit) for word in words[:count]]
+    del words[:count]
+    return numbers
+
+
+def read_count(words, keyword):
+    """Takes a keyword and a count from the front of the words."""
+    if words[:1] != [keyword] or len(words) < 2:
+        raise BadLine
+    count = read_number(words[1], COUNT_LIMIT)
+    del words[:2]
+    return count
+
+
+def show_answer(answer):
+    """What a packet of a handful is answered, as if it were offered alone."""
+    return "taken" if answer == ciri.TAKEN else f"refused {answer} 0"
+
+
 def answer_next(session, channel_word, now_word, room_word):
     """`next CHANNEL NOW ROOM`"""
     channel_id = read_number(channel_word, ID_LIMIT)
@@ -244,6 +284,7 @@ LINES = {
     b"echo": (answer_echo, 5, 5),
     b"start": (answer_start, 2, 2 + WORDS_OF_A_CHANNEL * COUNT_LIMIT + 7),
     b"offer": (answer_offer, 4, 4),
+    b"offers": (answer_offers, 10, 10 + 3 * COUNT_LIMIT),
     b"next": (answer_next, 3, 3),
     b"withdraw": (answer_withdraw, 1, 1),
     b"radio": (answer_radio, 2, 2),

@@ -1,12 +1,13 @@
 """stored.py: prints the stored script of `session`, the same at each run; it fails where the script lacks something.
 
 Lines about messages, document 01's examples as calls, lines that break the format, states at their limits, two faults
-in one message, lengths and values next to those listed, the pacer, the statuses by configuration, the sample flight of
-docs/, and a long flight drawn by lot.
+in one message, lengths and values next to those listed, the pacer, the statuses by configuration, offers by the handful,
+the sample flight of docs/, and a long flight drawn by lot.
 """
 
 import collections
 import pathlib
+import re
 import subprocess
 import sys
 
@@ -17,6 +18,7 @@ from stored_broken import broken_message_lines, broken_state_lines
 from stored_codes import code_lines
 from stored_examples import example_lines
 from stored_flight import flight_lines
+from stored_handful import handful_lines, handful_scenes
 from stored_lengths import length_lines
 from stored_limits import limit_lines
 from stored_messages import message_lines
@@ -25,13 +27,16 @@ from stored_pacer import pacer_lines
 
 SAMPLE = pathlib.Path(__file__).resolve().parent.parent / "docs" / "samples" / "flight"
 FEWEST_OF_EACH = 5
-REFUSALS = [f"refused {number}" for number in range(1, 23)]
+# 23 is the radio end's alone.
+REFUSALS = [f"refused {number}" for number in (*range(1, 23), 24)]
 ANSWERS = [
-    "control", "data", "written", "started", "taken", "sent", "nothing waiting", "not operational", "window shut",
+    "control", "data", "written", "started", "taken", "offered", "sent", "nothing waiting", "not operational", "window shut",
     "withdrawn", "accepted", "accepted due", "query", "channel", "store", "kept", "quiet", "due", "silent",
     "due silent", "pacer",
     "bad line",
 ]
+# What each packet of a handful is answered.
+IN_A_HANDFUL = [f"{answer} in a handful" for answer in ("taken", *(f"refused {number}" for number in range(12, 18)))]
 
 
 def all_lines():
@@ -46,6 +51,7 @@ def all_lines():
     yield from length_lines()
     yield from pacer_lines()
     yield from code_lines()
+    yield from handful_lines()
     yield from SAMPLE.read_text().splitlines()
     yield from flight_lines()
 
@@ -61,7 +67,14 @@ def count_answers(script):
     """How often each refusal and each other sort of answer is given."""
     command = [sys.executable, session.__file__]
     answers = subprocess.run(command, input=script, capture_output=True, check=True).stdout.decode()
-    return collections.Counter(sort_of(answer) for answer in answers.splitlines())
+    return collections.Counter(sort for answer in answers.splitlines() for sort in sorts_of(answer))
+
+
+def sorts_of(answer):
+    """The answer's own sort, and that of each packet of a handful."""
+    yield sort_of(answer)
+    if answer.startswith("offered"):
+        yield from (f"{one} in a handful" for one in re.findall("taken|refused [0-9]+", answer))
 
 
 def sort_of(answer):
@@ -80,14 +93,31 @@ def test_broken():
         sys.exit(f"not broken: {sound}")
 
 
+def test_scenes():
+    """A handful is answered as its packets are one by one, and leaves what they leave."""
+    for scene in handful_scenes():
+        at_once, *looks = answer_fresh([*scene.begin(), scene.at_once(), *scene.looks()])[len(scene.begin()) :]
+        singly = answer_fresh([*scene.begin(), *scene.one_by_one(), *scene.looks()])[len(scene.begin()) :]
+        if at_once != " ".join(["offered", *singly[: len(scene.offered)]]) or looks != singly[len(scene.offered) :]:
+            sys.exit(f"otherwise one by one: {scene}")
+
+
+def answer_fresh(lines):
+    """The answers of a session of its own."""
+    answering = session.Session()
+    return [answering.answer(line.encode()) for line in lines]
+
+
 def main():
     """Print the script; with the word `counts` how often each thing comes in it."""
     script = "\n".join(all_lines()).encode("latin-1")
     counted = count_answers(script) + count_happenings(flight_lines())
     test_broken()
-    demand(counted, [*REFUSALS, *ANSWERS, *HAPPENINGS], FEWEST_OF_EACH)
+    test_scenes()
+    names = [*REFUSALS, *ANSWERS, *IN_A_HANDFUL, *HAPPENINGS]
+    demand(counted, names, FEWEST_OF_EACH)
     if sys.argv[1:] == ["counts"]:
-        print("\n".join(f"{counted[name]} {name}" for name in [*REFUSALS, *ANSWERS, *HAPPENINGS]))
+        print("\n".join(f"{counted[name]} {name}" for name in names))
     else:
         sys.stdout.buffer.write(script)
 

@@ -1,7 +1,7 @@
 """The stored script's lines for document 01's examples, as calls."""
 
 import ciri
-from call_lines import NEVER, ROOMY, offer, packet, radio, radio_options, start
+from call_lines import NEVER, ROOMY, handful, offer, packet, radio, radio_options, start
 
 LONGEST_PACKET = ciri.IPV6_HEADER_LENGTH + 65535
 # Sequence, window and the packets tried: document 01's starred examples, then some at the count's limits.
@@ -18,6 +18,7 @@ def before_start():
     """Before a state is started, lines that ask for one are bad; a refused start starts none."""
     asked = [offer(0, 0, 1, packet(40)), "next 0 0 100", "withdraw 0", radio({0: 7}), "query 100"]
     asked += ["show 0", "store 0", "kept", "pace 0", "pacer"]
+    asked += [handful(0), handful(0, (0, 1, packet(40)))]
     yield from asked
     yield from (start(), start((0, "plain", 0, 1499)), "start 7 1 0 plain 0")
     yield from asked

@@ -6,7 +6,7 @@ Each flow-controlled channel begins at most a few thousand bytes before the wrap
 import random
 
 import ciri
-from call_lines import DATALINK_ID, offer, start
+from call_lines import DATALINK_ID, start
 from damaged_messages import damage
 from random_packets import draw_packet, spoil_packet
 from random_state_lines import StateLines
@@ -24,15 +24,15 @@ SMALL, LONG = (1500, 3001), (9000, 20000)
 # How often each line comes in each phase of the flight.
 PHASES = {
     "mixed": (
-        (30, "offer"), (34, "next"), (1, "withdraw"), (14, "radio"), (6, "pace"),
+        (27, "offer"), (3, "offers"), (34, "next"), (1, "withdraw"), (14, "radio"), (6, "pace"),
         (2, "query"), (8, "show"), (0.6, "store"), (1, "pacer"),
     ),
     "fill": (
-        (80, "offer"), (6, "next"), (0.2, "withdraw"), (6, "radio"), (4, "pace"),
+        (70, "offer"), (6, "offers"), (6, "next"), (0.2, "withdraw"), (6, "radio"), (4, "pace"),
         (1, "query"), (5, "show"), (0.4, "store"), (1, "pacer"),
     ),
     "drain": (
-        (8, "offer"), (66, "next"), (0.3, "withdraw"), (16, "radio"), (4, "pace"),
+        (7, "offer"), (1, "offers"), (66, "next"), (0.3, "withdraw"), (16, "radio"), (4, "pace"),
         (1, "query"), (8, "show"), (0.6, "store"), (1, "pacer"),
     ),
 }
@@ -55,16 +55,13 @@ class Flight(StateLines):
         if self.phase != "drain":
             self.favourite = self.dice.choice(self.session.endpoint.channels).configuration.channel_id
 
-    def draw_offer(self):
-        """`offer CHANNEL NOW EXPIRY HEX`, mostly of a short packet."""
-        channel = self.draw_configured()
-        now = self.draw_now(channel)
+    def draw_packet_for(self, channel):
+        """A packet for this channel, mostly a short one."""
         some, large = self.dice.randrange(40, 130), self.dice.randrange(130, 600)
         longest = min(ciri.PACKET_LIMIT, channel.configuration.store_length)
         length = pick(self.dice, (60, 40), (120, some), (15, large), (5, longest), (1, longest + 1), (1, 39))
         packet = draw_packet(self.dice, length)
-        packet = spoil_packet(self.dice, packet) if chance(self.dice, 2) else packet
-        return offer(self.show_channel_id(channel), now, self.draw_expiry(now), packet)
+        return spoil_packet(self.dice, packet) if chance(self.dice, 2) else packet
 
     def draw_radio(self):
         """`radio NOW HEX`: a control message, now and then a damaged one, or a data message, in a silence more often."""
