@@ -27,7 +27,7 @@ fn operational() -> Vec<u8> {
 }
 
 fn run(turns: impl IntoIterator<Item = Call>, packet: Vec<u8>) -> Run {
-    Run { script: [Call::Start, Call::Radio].into_iter().chain(turns).collect(), packet, datagrams: vec![operational()] }
+    Run { script: [Call::Start, Call::Radio].into_iter().chain(turns).collect(), packet, datagrams: vec![operational()], handfuls: Vec::new() }
 }
 
 // ---- agreement

@@ -103,7 +103,35 @@ fn random_datagram(dice: &mut Dice, setup: &Setup, turn: u32, packet: u32) -> Ve
     datagram
 }
 
-fn random_script(dice: &mut Dice, setup: &Setup) -> Vec<Call> {
+// Up to 32 packets, now and then more, or lists that are no handful.
+fn random_handful(dice: &mut Dice, setup: &Setup) -> Handful {
+    let count = [dice.roll(4), dice.roll(33), 32, [33, 34][dice.roll(2)]][[0, 0, 0, 1, 1, 1, 2, 3][dice.roll(8)]];
+    let any = |dice: &mut Dice| if setup.starts.is_empty() || dice.roll(12) == 0 { dice.roll(256) as u8 } else { setup.starts[dice.roll(setup.starts.len().min(3))].id };
+    let packets: Vec<Vec<u8>> = (0..count).map(|_| if dice.roll(4) == 0 { random_packet(dice) } else { packet(40 + dice.roll(100)) }).collect();
+    let mut handful = Handful {
+        channels: (0..count).map(|_| any(dice)).collect(),
+        expiries: (0..count).map(|_| [dice.roll(60) as u64, 100 + dice.roll(60) as u64, u64::MAX][dice.roll(3)]).collect(),
+        lengths: packets.iter().map(|packet| packet.len() as u64).collect(),
+        packets: packets.concat(),
+    };
+    match dice.roll(24) {
+        0 => handful.channels.push(0),
+        1 => handful.expiries.push(u64::MAX),
+        2 => handful.lengths.push(0),
+        3 => handful.packets.push(0),
+        4 if count > 0 => handful.lengths[dice.roll(count)] += 1,
+        // A sum that is right modulo 2^64.
+        5 if count > 1 => {
+            let half = 1 << 63;
+            handful.lengths[0] = handful.lengths[0].wrapping_add(half);
+            handful.lengths[count - 1] = handful.lengths[count - 1].wrapping_add(half);
+        }
+        _ => {}
+    }
+    handful
+}
+
+fn random_script(dice: &mut Dice, setup: &Setup, handfuls: &[Handful]) -> Vec<Call> {
     let lasting = [0, 1, 3, 100, u64::MAX - 7][dice.roll(5)];
     let busy = 1 + dice.roll(3);
     let mut time = 0;
@@ -114,13 +142,17 @@ fn random_script(dice: &mut Dice, setup: &Setup) -> Vec<Call> {
             1 => setup.starts[dice.roll(setup.starts.len())].id,
             _ => setup.starts[dice.roll(busy.min(setup.starts.len()))].id,
         };
-        match dice.roll(17) {
+        match dice.roll(18) {
             0 if dice.roll(3) == 0 => Call::Withdraw(id),
             0..=5 => Call::Offer(id, lasting),
             6..=10 => Call::Next(id),
             11..=12 => Call::Radio,
             13 => Call::Query,
             14 => Call::Pace,
+            15 => {
+                let at = dice.roll(handfuls.len());
+                Call::Offers(at, handfuls[at].channels.len() + [0, 0, 0, 0, 0, 0, 0, 1][dice.roll(8)])
+            }
             _ => {
                 // Mostly later, now and then earlier.
                 time = if dice.roll(10) == 0 { dice.roll(8) as u64 } else { time + [0, 1, 1, 2, 5][dice.roll(5)] };
@@ -137,9 +169,10 @@ fn check() {
     for _ in 0..SCRIPTS {
         let setup = random_setup(&mut dice);
         let packet = random_packet(&mut dice);
-        let script = random_script(&mut dice, &setup);
+        let handfuls: Vec<Handful> = (0..3).map(|_| random_handful(&mut dice, &setup)).collect();
+        let script = random_script(&mut dice, &setup, &handfuls);
         let datagrams = (0..20).map(|turn| random_datagram(&mut dice, &setup, turn, packet.len() as u32)).collect();
-        let run = Run { script, packet, datagrams };
+        let run = Run { script, packet, datagrams, handfuls };
         let stores = setup.starts.iter().map(|start| start.size).sum();
         let size = if dice.roll(20) == 0 { dice.roll(stores + 2) } else { stores };
         let lent = if size > 0 && dice.roll(20) == 0 { size - 1 } else { size };
@@ -147,8 +180,8 @@ fn check() {
         let (memory, out) = (random_bytes(&mut dice, size), random_bytes(&mut dice, room));
         agree(&setup, &run, &memory, lent, &out, &mut seen);
     }
-    println!("the endpoints agree on {SCRIPTS} random scripts, every answer and every byte of memory and output after each call; answers seen:");
-    tell(&seen, 43, 40);
+    println!("the endpoints agree on {SCRIPTS} random scripts, every answer and every byte of memory, output and the answers of handfuls after each call; answers seen:");
+    tell(&seen, 53, 40);
 }
 
 // ---- timing
@@ -169,6 +202,7 @@ struct Case {
 const LASTING: u64 = 100;
 // No channel has it.
 const UNKNOWN: u8 = 200;
+const HANDFUL: usize = 32;
 
 fn nothing(_: u8) -> Vec<Call> {
     Vec::new()
@@ -239,7 +273,36 @@ fn run(turn: Turn, channels: u8, first: u32, length: usize) -> Run {
             radio_control(&ids, &|_| Some(7), &|_| Window::Given(window), &[(3, &[1, 2, 3, 4]), (4, b"link")])
         })
         .collect();
-    Run { script, packet: packet(length), datagrams }
+    Run { script, packet: packet(length), datagrams, handfuls: vec![handful(channels, length)] }
+}
+
+// So many packets for the channels in turn.
+fn handful(channels: u8, length: usize) -> Handful {
+    let each = (0..HANDFUL).map(|at| (at % channels as usize) as u8);
+    Handful { channels: each.collect(), expiries: vec![LASTING; HANDFUL], lengths: vec![length as u64; HANDFUL], packets: packet(length).repeat(HANDFUL) }
+}
+
+// As many offers in one call as in single ones, each turn behind the withdrawals that empty the channels, which are taken off.
+fn measure_handful(channels: u8, length: usize) {
+    let mut setup = setup(channels, 0, length);
+    for start in &mut setup.starts {
+        start.size = start.size.max(HANDFUL * length);
+    }
+    let ids = &handful(channels, length).channels;
+    let emptied: Vec<Call> = (0..channels.min(HANDFUL as u8)).map(Call::Withdraw).collect();
+    let turns = |calls: Vec<Call>| -> Run {
+        let mut run = run(nothing, channels, 0, length);
+        run.script.extend([calls, emptied.clone()].concat().repeat(TURNS));
+        run
+    };
+    let base = turns(Vec::new());
+    let [one, single] = [vec![Call::Offers(0, HANDFUL)], ids.iter().map(|id| Call::Offer(*id, LASTING)).collect()]
+        .map(|calls| longer(&setup, &turns(calls), &base).map(|time| time / TURNS as f64));
+    let ratio = |at: usize| one[at] / single[at];
+    println!(
+        "| {channels} | {length} | {:.0} | {:.0} | {:.2} | {:.0} | {:.0} | {:.2} | {:.2} | {:.0} |",
+        one[0], single[0], ratio(0), one[1], single[1], ratio(1), one[0] / one[1], one[2]
+    );
 }
 
 fn measure(case: &Case, channels: u8, length: usize) {
@@ -262,5 +325,13 @@ fn main() {
         for case in &ALONE {
             measure(case, channels, 100);
         }
+    }
+    println!();
+    println!("{HANDFUL} offers in one call and in {HANDFUL}, ns for all:");
+    println!();
+    println!("| channels | packet, bytes | proved, one call | proved, {HANDFUL} calls | ratio | plain Rust, one call | plain Rust, {HANDFUL} calls | ratio | proved to plain, one call | plain without the test of 19, one call |");
+    println!("|---|---|---|---|---|---|---|---|---|---|");
+    for channels in [1, 4, 16, 64] {
+        measure_handful(channels, 100);
     }
 }

@@ -4,18 +4,20 @@
  */
 #include <inttypes.h>
 #include <stdio.h>
+#include <string.h>
 
 #include "nespovarda.h"
 
 #define COUNT(array) (sizeof(array) / sizeof *(array))
 #define CHANNELS 3
 #define STORE NESPOVARDA_SMALLEST_STORE
+#define PACKET NESPOVARDA_SHORTEST_PACKET
 
 static uint64_t words[NESPOVARDA_STATE_WORDS(CHANNELS)];
 static uint8_t memory[CHANNELS * STORE];
 static uint8_t out[100];
 
-static void say(nespovarda_answer answer)
+static void tell(nespovarda_answer answer)
 {
     static const char *const kinds[] = {
         [NESPOVARDA_STARTED] = "started", [NESPOVARDA_TAKEN] = "taken", [NESPOVARDA_SENT] = "sent ",
@@ -23,7 +25,7 @@ static void say(nespovarda_answer answer)
         [NESPOVARDA_WINDOW_SHUT] = "window shut", [NESPOVARDA_WITHDRAWN] = "withdrawn",
         [NESPOVARDA_ACCEPTED] = "accepted", [NESPOVARDA_DUE] = "accepted due", [NESPOVARDA_WROTE] = "query ",
         [NESPOVARDA_QUIET] = "quiet", [NESPOVARDA_QUERY_DUE] = "due", [NESPOVARDA_SILENT] = "silent",
-        [NESPOVARDA_QUERY_DUE_SILENT] = "due silent",
+        [NESPOVARDA_QUERY_DUE_SILENT] = "due silent", [NESPOVARDA_OFFERED] = "offered",
     };
     if (answer.kind > NESPOVARDA_REFUSED)
         printf("refused %" PRIu64 " %" PRIu64, answer.kind - NESPOVARDA_REFUSED, answer.value);
@@ -32,6 +34,11 @@ static void say(nespovarda_answer answer)
     if (answer.kind == NESPOVARDA_SENT || answer.kind == NESPOVARDA_WROTE)
         for (uint64_t i = 0; i < answer.value; i++)
             printf("%02x", out[i]);
+}
+
+static void say(nespovarda_answer answer)
+{
+    tell(answer);
     putchar('\n');
 }
 
@@ -47,10 +54,46 @@ static void start(void)
 }
 
 /* A bare IPv6 header, told from the others by its last byte. */
+static void write_packet(uint8_t *packet, uint8_t last)
+{
+    const uint8_t header[PACKET] = {0x60, [6] = 59, [7] = 64, [8] = 0xfd, [23] = 1, [24] = 0xfd, [39] = last};
+    memcpy(packet, header, sizeof header);
+}
+
 static void offer(uint8_t channel, uint64_t time, uint64_t expiry, uint8_t last)
 {
-    const uint8_t packet[40] = {0x60, [6] = 59, [7] = 64, [8] = 0xfd, [23] = 1, [24] = 0xfd, [39] = last};
+    uint8_t packet[PACKET];
+    write_packet(packet, last);
     say(nespovarda_offer(words, COUNT(words), memory, sizeof memory, channel, packet, sizeof packet, expiry, time));
+}
+
+/* Packets of a handful; each but the last is cut where its length says, the last where the buffer ends. */
+struct offers {
+    size_t count;
+    uint8_t channels[4];
+    uint64_t expiries[4];
+    uint64_t lengths[4];
+    uint8_t last[4];
+    size_t bytes;
+};
+
+static void offers(uint64_t time, struct offers of)
+{
+    uint8_t packets[COUNT(of.lengths) * PACKET], answers[COUNT(of.lengths)];
+    size_t at = 0;
+    for (size_t i = 0; i < of.count; i++) {
+        write_packet(packets + at, of.last[i]);
+        at += of.lengths[i];
+    }
+    nespovarda_answer answer =
+        nespovarda_offers(words, COUNT(words), memory, sizeof memory, of.channels, of.count, of.expiries, of.count,
+                          of.lengths, of.count, packets, of.bytes, time, answers, of.count);
+    tell(answer);
+    for (size_t i = 0; answer.kind == NESPOVARDA_OFFERED && i < of.count; i++) {
+        putchar(' ');
+        tell((nespovarda_answer){answers[i] == 0 ? NESPOVARDA_TAKEN : NESPOVARDA_REFUSED + answers[i], 0});
+    }
+    putchar('\n');
 }
 
 static void next(uint8_t channel, uint64_t time, size_t room)
@@ -172,5 +215,12 @@ int main(void)
     RADIO(11599, CONTEXT("US") STATUS("\0", "\7") STATUS("\3", "\7"));
     RADIO(11610, CONTEXT("US") STATUS("\0", "\7") STATUS("\3", "\x09"));
     next(3, 11620, 100);
+
+    offers(11700, (struct offers){4, {0, 3, 3, 0}, {30000, 30000, 30000, 12000}, {40, 40, 39, 40}, {10, 11, 12, 13}, 159});
+    show(0);
+    offers(11710, (struct offers){2, {0, 3}, {30000, 30000}, {40, 40}, {14, 15}, 79});
+    show(3);
+    next(0, 11720, 100);
+    next(3, 11720, 100);
     return 0;
 }

@@ -9,7 +9,7 @@
 
 /* ---- Memory ---- */
 
-#define MOST_LENT 4
+#define MOST_LENT 5
 
 static void *lent[MOST_LENT];
 static size_t lent_count;

@@ -15,7 +15,7 @@
 #define LONGEST_LINE 140000
 #define LARGEST_ID 255
 #define LARGEST_LENGTH (NESPOVARDA_MOST_CHANNELS * NESPOVARDA_LARGEST_STORE)
-#define MOST_READ 80 /* channels of a start */
+#define MOST_READ 80 /* channels of a start, packets of a handful */
 
 struct word {
     const char *text;

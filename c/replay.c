@@ -19,6 +19,11 @@
 #define CODES_WORDS 2
 #define MOST_WORDS \
     (START_WORDS + NESPOVARDA_CONFIGURATION_SLOT * MOST_READ + MEMORY_WORDS + PACE_WORDS + CODES_WORDS) /* behind the first */
+#define COUNT_WORDS 2 /* of each list of a handful, before its numbers */
+#define ANSWERS_WORDS 3
+#define LEAST_OFFERS (1 + 3 * COUNT_WORDS + ANSWERS_WORDS)
+#define MOST_OFFERS (LEAST_OFFERS + 3 * MOST_READ)
+#define NO_ANSWER 255 /* what an answer's byte is before the call: no number of refusal */
 #define HELLO 5000 /* where a start says nothing of the pacer */
 #define LIMIT 9000
 
@@ -54,6 +59,7 @@ static void say(nespovarda_answer answer)
         [NESPOVARDA_QUERY_DUE] = "due",
         [NESPOVARDA_SILENT] = "silent",
         [NESPOVARDA_QUERY_DUE_SILENT] = "due silent",
+        [NESPOVARDA_OFFERED] = "offered",
     };
     if (answer.kind < sizeof words / sizeof *words && words[answer.kind] != NULL && answer.value == 0)
         fputs(words[answer.kind], stdout);
@@ -316,6 +322,103 @@ static bool answer_offer(struct session *session, const struct word *words, size
     return true;
 }
 
+/* Packets to be offered at once. */
+struct handful {
+    uint8_t *channels;
+    uint64_t *expiries;
+    uint64_t *lengths;
+    uint8_t *answers;
+    uint64_t channels_length, expiries_length, lengths_length, answers_length;
+    struct bytes packets;
+};
+
+/* `WORD COUNT`, where so many more words are left behind them. */
+static bool read_count(const struct word *words, size_t count, const char *word, uint64_t *behind)
+{
+    return count >= COUNT_WORDS && is(words[0], word) && read_number(words[1], MOST_READ, behind) &&
+           *behind <= count - COUNT_WORDS;
+}
+
+/* `answers COUNT HEX` */
+static bool read_answers(const struct word *words, size_t count, struct handful *handful)
+{
+    if (count != ANSWERS_WORDS || !is(words[0], "answers") || !read_number(words[1], MOST_READ, &handful->answers_length))
+        return false;
+    handful->answers = lend((size_t)handful->answers_length);
+    for (uint64_t i = 0; i < handful->answers_length; i++)
+        handful->answers[i] = NO_ANSWER;
+    return read_bytes(words[2], &handful->packets);
+}
+
+/* `lengths COUNT LENGTH..`, and the answers behind them. */
+static bool read_lengths(const struct word *words, size_t count, struct handful *handful)
+{
+    if (!read_count(words, count, "lengths", &handful->lengths_length))
+        return false;
+    handful->lengths = lend((size_t)handful->lengths_length * sizeof(uint64_t));
+    words += COUNT_WORDS;
+    for (uint64_t i = 0; i < handful->lengths_length; i++)
+        if (!read_number(*words++, LARGEST_LENGTH, &handful->lengths[i]))
+            return false;
+    return read_answers(words, count - COUNT_WORDS - (size_t)handful->lengths_length, handful);
+}
+
+/* `expiries COUNT EXPIRY..`, and the lengths behind them. */
+static bool read_expiries(const struct word *words, size_t count, struct handful *handful)
+{
+    if (!read_count(words, count, "expiries", &handful->expiries_length))
+        return false;
+    handful->expiries = lend((size_t)handful->expiries_length * sizeof(uint64_t));
+    words += COUNT_WORDS;
+    for (uint64_t i = 0; i < handful->expiries_length; i++)
+        if (!read_number(*words++, UINT64_MAX, &handful->expiries[i]))
+            return false;
+    return read_lengths(words, count - COUNT_WORDS - (size_t)handful->expiries_length, handful);
+}
+
+/* `channels COUNT CHANNEL..`, and the expiries behind them. */
+static bool read_handful(const struct word *words, size_t count, struct handful *handful)
+{
+    if (!read_count(words, count, "channels", &handful->channels_length))
+        return false;
+    handful->channels = lend((size_t)handful->channels_length);
+    words += COUNT_WORDS;
+    for (uint64_t i = 0; i < handful->channels_length; i++)
+        if (!read_id(*words++, &handful->channels[i]))
+            return false;
+    return read_expiries(words, count - COUNT_WORDS - (size_t)handful->channels_length, handful);
+}
+
+/* What became of each packet; a refused handful must leave each as it was. */
+static void say_answers(nespovarda_answer answer, const struct handful *handful)
+{
+    say(answer);
+    for (uint64_t i = 0; i < handful->answers_length; i++) {
+        uint8_t number = handful->answers[i];
+        if (answer.kind == NESPOVARDA_OFFERED) {
+            putchar(' ');
+            say((nespovarda_answer){number == 0 ? NESPOVARDA_TAKEN : NESPOVARDA_REFUSED + number, 0});
+        } else if (number != NO_ANSWER) {
+            abort();
+        }
+    }
+}
+
+/* `offers NOW`, the channels, the expiries, the lengths, the answers */
+static bool answer_offers(struct session *session, const struct word *words, size_t count)
+{
+    uint64_t now;
+    struct handful handful;
+    if (!read_number(words[0], UINT64_MAX, &now) || !read_handful(words + 1, count - 1, &handful))
+        return false;
+    nespovarda_answer answer = nespovarda_offers(
+        session->words, session->words_length, session->memory, session->memory_length, handful.channels,
+        handful.channels_length, handful.expiries, handful.expiries_length, handful.lengths, handful.lengths_length,
+        handful.packets.at, handful.packets.length, now, handful.answers, handful.answers_length);
+    say_answers(answer, &handful);
+    return true;
+}
+
 /* `next CHANNEL NOW ROOM` */
 static bool answer_next(struct session *session, const struct word *words, size_t count)
 {
@@ -486,6 +589,7 @@ static const struct line LINES[] = {
     {"echo", 5, 5, false, answer_echo},
     {"start", START_WORDS, MOST_WORDS, false, answer_start},
     {"offer", 4, 4, true, answer_offer},
+    {"offers", LEAST_OFFERS, MOST_OFFERS, true, answer_offers},
     {"next", 3, 3, true, answer_next},
     {"withdraw", 1, 1, true, answer_withdraw},
     {"radio", 2, 2, true, answer_radio},

@@ -10,7 +10,7 @@
  * that length, its pointer isn't null (even where the length is 0), and what a call may change overlaps no other slice of
  * the call.
  *
- * A refusal changes no word, no byte of the memory and no byte of the output.
+ * A refusal changes no word, no byte of the memory and no byte of the output or of the answers.
  *
  * Refusals and limits are those of documents 01 and 02, in their words; sections are those
  * of the draft of ARINC 858 Part 3 (docs/DECISIONS.md says what these papers are).
@@ -63,6 +63,7 @@ typedef struct {
 #define NESPOVARDA_ANSWERED 20         /* the radio's message was written as the answer; value: its length */
 #define NESPOVARDA_UNASKED 21          /* the radio's message was written unasked; value: its length */
 #define NESPOVARDA_NO_MESSAGE 22       /* the radio's end accepted it, and there is nothing to send */
+#define NESPOVARDA_OFFERED 23          /* each packet of a handful was offered, and has an answer of its own */
 
 /*
  * From here on a kind is a refusal: this and the papers' number, so `kind - NESPOVARDA_REFUSED` is the number. The
@@ -129,6 +130,11 @@ typedef struct {
 #define NESPOVARDA_REFUSED_NO_WAIT (NESPOVARDA_REFUSED + 22)
 /* 23: configuration of the radio's end: watermark or throughput above MOST_ALLOWANCE, of a plain channel too */
 #define NESPOVARDA_REFUSED_LARGE_ALLOWANCE (NESPOVARDA_REFUSED + 23)
+/*
+ * 24: not a handful: more than MOST_AT_ONCE packets, lists (answers too) of unequal count, or lengths whose sum isn't the
+ * buffer's length
+ */
+#define NESPOVARDA_REFUSED_NOT_A_HANDFUL (NESPOVARDA_REFUSED + 24)
 
 /* ---- Limits ---- */
 
@@ -138,6 +144,7 @@ typedef struct {
 #define NESPOVARDA_SHORTEST_PACKET 40 /* bytes of a packet that is offered */
 #define NESPOVARDA_LONGEST_PACKET 9000 /* and no longer than the channel's store */
 #define NESPOVARDA_MOST_WAITING 32     /* packets that wait on a channel */
+#define NESPOVARDA_MOST_AT_ONCE 32     /* packets of a handful */
 #define NESPOVARDA_SMALLEST_STORE 1500 /* bytes of a channel's store */
 #define NESPOVARDA_LARGEST_STORE 65536
 #define NESPOVARDA_RESERVED_CHANNEL 255 /* no Channel ID: those are 0 to 254 */
@@ -193,6 +200,21 @@ nespovarda_answer nespovarda_offer(uint64_t *words, size_t words_length,
                                    uint8_t channel,
                                    const uint8_t *packet, size_t packet_length,
                                    uint64_t expiry, uint64_t time);
+
+/*
+ * Offers a handful: up to MOST_AT_ONCE packets, which stand end to end in one buffer, each with its channel, its expiry and
+ * its length; one time for all. Answers, stores and state equal those of offering one by one in that order, refused ones
+ * included. OFFERED, with an answer for each packet: 0 where it is taken, else its number of refusal, 12 to 17. REFUSED
+ * as a whole by 19, 24, with nothing taken and every answer as it was.
+ */
+nespovarda_answer nespovarda_offers(uint64_t *words, size_t words_length,
+                                    uint8_t *memory, size_t memory_length,
+                                    const uint8_t *channels, size_t channels_length,
+                                    const uint64_t *expiries, size_t expiries_length,
+                                    const uint64_t *lengths, size_t lengths_length,
+                                    const uint8_t *packets, size_t packets_length,
+                                    uint64_t time,
+                                    uint8_t *answers, size_t answers_length);
 
 /*
  * Asks for the next message: writes a data message with the first waiting packet into the output, if the status is

@@ -1,6 +1,6 @@
 // The library as a Rust program links it: the exports of the crate `nespovarda` that are timed, and the numbers that they answer with.
 #![allow(dead_code)]
-use super::script::{Calls, Setup};
+use super::script::{Calls, Handful, Setup};
 
 #[repr(C)]
 #[derive(Clone, Copy, PartialEq, Debug)]
@@ -23,6 +23,7 @@ pub const QUIET: u64 = 15;
 pub const QUERY_DUE: u64 = 16;
 pub const SILENT: u64 = 17;
 pub const QUERY_DUE_SILENT: u64 = 18;
+pub const OFFERED: u64 = 23;
 pub const REFUSED: u64 = 256;
 
 extern "C" {
@@ -38,6 +39,23 @@ extern "C" {
         length: usize,
         expiry: u64,
         time: u64,
+    ) -> Answer;
+    fn nespovarda_offers(
+        words: *mut u64,
+        count: usize,
+        memory: *mut u8,
+        size: usize,
+        channels: *const u8,
+        channels_count: usize,
+        expiries: *const u64,
+        expiries_count: usize,
+        lengths: *const u64,
+        lengths_count: usize,
+        packets: *const u8,
+        packets_size: usize,
+        time: u64,
+        answers: *mut u8,
+        answers_count: usize,
     ) -> Answer;
     fn nespovarda_next(words: *mut u64, count: usize, memory: *mut u8, size: usize, channel: u8, time: u64, out: *mut u8, room: usize) -> Answer;
     fn nespovarda_withdraw(words: *mut u64, count: usize, memory: *mut u8, size: usize, channel: u8) -> Answer;
@@ -72,6 +90,30 @@ impl Calls for Proved {
     fn offer(&mut self, memory: &mut [u8], id: u8, packet: &[u8], expiry: u64, time: u64) -> Answer {
         let words = &mut self.words;
         unsafe { nespovarda_offer(words.as_mut_ptr(), words.len(), memory.as_mut_ptr(), memory.len(), id, packet.as_ptr(), packet.len(), expiry, time) }
+    }
+
+    fn offers(&mut self, memory: &mut [u8], handful: &Handful, time: u64, answers: &mut [u8]) -> Answer {
+        let words = &mut self.words;
+        let Handful { channels, expiries, lengths, packets } = handful;
+        unsafe {
+            nespovarda_offers(
+                words.as_mut_ptr(),
+                words.len(),
+                memory.as_mut_ptr(),
+                memory.len(),
+                channels.as_ptr(),
+                channels.len(),
+                expiries.as_ptr(),
+                expiries.len(),
+                lengths.as_ptr(),
+                lengths.len(),
+                packets.as_ptr(),
+                packets.len(),
+                time,
+                answers.as_mut_ptr(),
+                answers.len(),
+            )
+        }
     }
 
     fn next(&mut self, memory: &mut [u8], id: u8, time: u64, out: &mut [u8]) -> Answer {

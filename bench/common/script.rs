@@ -5,7 +5,7 @@ use std::collections::BTreeMap;
 use std::hint::black_box;
 
 use super::endpoint::Plain;
-use super::library::{Answer, Proved};
+use super::library::{Answer, Proved, OFFERED, REFUSED, TAKEN};
 use super::message::{mixed, put, with_word, Window};
 use super::timing::{median, rounds, Dice};
 
@@ -28,9 +28,19 @@ pub struct Setup {
     pub starts: Vec<Start>,
 }
 
+// Packets end to end, each with its channel, its expiry and its length.
+#[derive(Clone)]
+pub struct Handful {
+    pub channels: Vec<u8>,
+    pub expiries: Vec<u64>,
+    pub lengths: Vec<u64>,
+    pub packets: Vec<u8>,
+}
+
 pub trait Calls {
     fn start(&mut self, memory: &mut [u8]) -> Answer;
     fn offer(&mut self, memory: &mut [u8], id: u8, packet: &[u8], expiry: u64, time: u64) -> Answer;
+    fn offers(&mut self, memory: &mut [u8], handful: &Handful, time: u64, answers: &mut [u8]) -> Answer;
     fn next(&mut self, memory: &mut [u8], id: u8, time: u64, out: &mut [u8]) -> Answer;
     fn withdraw(&mut self, memory: &mut [u8], id: u8) -> Answer;
     fn radio(&mut self, time: u64, datagram: &[u8]) -> Answer;
@@ -43,6 +53,8 @@ pub enum Call {
     Start,
     // A packet that lasts so many milliseconds.
     Offer(u8, u64),
+    // One of the handfuls, with so many answers.
+    Offers(usize, usize),
     Next(u8),
     Withdraw(u8),
     // The next of the datagrams, and the first again behind the last.
@@ -56,12 +68,18 @@ pub struct Run {
     pub script: Vec<Call>,
     pub packet: Vec<u8>,
     pub datagrams: Vec<Vec<u8>>,
+    pub handfuls: Vec<Handful>,
 }
+
+pub const MOST_ANSWERS: usize = 40;
+// No number of refusal.
+const NO_ANSWER: u8 = 255;
 
 pub struct Side<E> {
     endpoint: E,
     memory: Vec<u8>,
     out: Vec<u8>,
+    answers: [u8; MOST_ANSWERS],
     time: u64,
     heard: usize,
     // How much of the memory is lent to the calls after the start.
@@ -70,7 +88,7 @@ pub struct Side<E> {
 
 impl<E: Calls> Side<E> {
     pub fn new(endpoint: E, memory: &[u8], lent: usize, out: &[u8]) -> Side<E> {
-        Side { endpoint, memory: memory.to_vec(), out: out.to_vec(), time: 0, heard: 0, lent }
+        Side { endpoint, memory: memory.to_vec(), out: out.to_vec(), answers: [NO_ANSWER; MOST_ANSWERS], time: 0, heard: 0, lent }
     }
 
     #[inline(always)]
@@ -82,6 +100,7 @@ impl<E: Calls> Side<E> {
                 Some(self.endpoint.start(&mut self.memory))
             }
             Call::Offer(id, lasting) => Some(self.endpoint.offer(memory, id, &run.packet, self.time.wrapping_add(lasting), self.time)),
+            Call::Offers(at, answers) => Some(self.endpoint.offers(memory, &run.handfuls[at], self.time, &mut self.answers[..answers])),
             Call::Next(id) => Some(self.endpoint.next(memory, id, self.time, &mut self.out)),
             Call::Withdraw(id) => Some(self.endpoint.withdraw(memory, id)),
             Call::Radio => {
@@ -120,6 +139,7 @@ fn name(call: Call) -> &'static str {
     match call {
         Call::Start => "start",
         Call::Offer(..) => "offer",
+        Call::Offers(..) => "offers",
         Call::Next(_) => "next",
         Call::Withdraw(_) => "withdraw",
         Call::Radio => "radio",
@@ -129,14 +149,17 @@ fn name(call: Call) -> &'static str {
     }
 }
 
-// After each call the answers, the memories and the outputs of the proved endpoint, the plain one and the plain one without the test of 19 must be the same.
+// After each call the answers, those for each packet of a handful, the memories and the outputs of the proved endpoint, the plain one and the plain one without the test of 19 must be the same.
 pub fn agree(setup: &Setup, run: &Run, memory: &[u8], lent: usize, out: &[u8], seen: &mut Seen) {
     let mut proved = Side::new(Proved::new(setup), memory, lent, out);
     let mut plain = Side::new(Plain::new(setup, true), memory, lent, out);
     let mut trusting = Side::new(Plain::new(setup, false), memory, lent, out);
     for (at, call) in run.script.iter().enumerate() {
         let answers = [proved.make(run, *call), plain.make(run, *call), trusting.make(run, *call)];
-        let same = answers == [answers[1]; 3] && [&proved.memory, &trusting.memory] == [&plain.memory; 2] && [&proved.out, &trusting.out] == [&plain.out; 2];
+        let same = answers == [answers[1]; 3]
+            && [&proved.memory, &trusting.memory] == [&plain.memory; 2]
+            && [&proved.out, &trusting.out] == [&plain.out; 2]
+            && [proved.answers, trusting.answers] == [plain.answers; 2];
         if !same {
             println!("the endpoints differ: {} channels, a packet of {}, a memory of {}, {lent} of it lent, room {}", setup.starts.len(), run.packet.len(), memory.len(), out.len());
             println!("the last of the calls {:?}", &run.script[..=at]);
@@ -145,11 +168,17 @@ pub fn agree(setup: &Setup, run: &Run, memory: &[u8], lent: usize, out: &[u8], s
         }
         if let Some(answer) = answers[1] {
             *seen.entry((name(*call), answer.kind)).or_default() += 1;
+            if let (Call::Offers(_, count), OFFERED) = (*call, answer.kind) {
+                for number in &plain.answers[..count] {
+                    let kind = if *number == 0 { TAKEN } else { REFUSED + *number as u64 };
+                    *seen.entry(("a packet of offers", kind)).or_default() += 1;
+                }
+            }
         }
     }
 }
 
-const KINDS: [&str; 20] = [
+const KINDS: [&str; 24] = [
     "",
     "started",
     "taken",
@@ -170,6 +199,10 @@ const KINDS: [&str; 20] = [
     "silent",
     "query due and silent",
     "pacer shown",
+    "answered",
+    "unasked",
+    "no message",
+    "offered",
 ];
 
 // All answers that were seen; so many different ones, each of them at least so often.
@@ -177,7 +210,7 @@ pub fn tell(seen: &Seen, different: usize, often: usize) {
     for ((call, kind), count) in seen {
         match KINDS.get(*kind as usize) {
             Some(kind) => println!("  {call}, {kind}: {count}"),
-            None => println!("  {call}, refused by {}: {count}", kind - super::library::REFUSED),
+            None => println!("  {call}, refused by {}: {count}", kind - REFUSED),
         }
     }
     assert_eq!(seen.len(), different);

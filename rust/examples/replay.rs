@@ -2,7 +2,7 @@
 mod lines;
 use lines::{answer_lines, byte, bytes, hexadecimal, kind, length, number, wide, Answered, Fault, MOST_READ, WORDS_OF_A_CHANNEL};
 use nespovarda::{control, data};
-use nespovarda::{words_for, Configuration, Context, DatalinkId, End, Endpoint, Flow, FlowSequence, Heard, LinkInstance};
+use nespovarda::{words_for, Configuration, Context, DatalinkId, End, Endpoint, Flow, FlowSequence, Handed, Handful, Heard, LinkInstance};
 use nespovarda::{Next, Offered, Paced, Read, StatusCodes, Waits, Withdrawn, Written};
 use std::fmt::Write;
 use std::io;
@@ -164,6 +164,48 @@ fn offer(endpoint: &mut Endpoint<'_>, words: [&[u8]; 4]) -> Answered {
     }
 }
 
+type Words<'l> = &'l [&'l [u8]];
+
+/// `WORD COUNT` and so many more words: these, and what stands behind them.
+fn counted<'l>(words: Words<'l>, word: &[u8]) -> Result<(Words<'l>, Words<'l>), Fault> {
+    match *words {
+        [first, count, ref behind @ ..] if first == word => {
+            let count = number(count, MOST_READ)? as usize;
+            (count <= behind.len()).then(|| behind.split_at(count)).ok_or(Fault::BadLine)
+        }
+        _ => Err(Fault::BadLine),
+    }
+}
+
+/// The words behind `offers NOW`: the channels, the expiries and the lengths, each counted; how many answers; and the packets end to end.
+fn offers(endpoint: &mut Endpoint<'_>, now: &[u8], words: &[&[u8]]) -> Answered {
+    let (channels, behind) = counted(words, b"channels")?;
+    let (expiries, behind) = counted(behind, b"expiries")?;
+    let (lengths, behind) = counted(behind, b"lengths")?;
+    let (count, packets) = match *behind {
+        [b"answers", count, packets] => (number(count, MOST_READ)? as usize, bytes(packets)?),
+        _ => return Err(Fault::BadLine),
+    };
+    let handful = Handful {
+        channels: &channels.iter().map(|word| byte(word)).collect::<Result<Vec<_>, _>>()?,
+        expiries: &expiries.iter().map(|word| wide(word)).collect::<Result<Vec<_>, _>>()?,
+        lengths: &lengths.iter().map(|word| length(word).map(|length| length as u64)).collect::<Result<Vec<_>, _>>()?,
+        packets: &packets,
+        time: wide(now)?,
+    };
+    match endpoint.offers(&handful, &mut vec![0; count]) {
+        Handed::Offered(answers) => Ok(answers.iter().fold("offered".to_string(), |line, answer| line + " " + &offered(answer))),
+        Handed::Refused(refusal) => Err(refusal.into()),
+    }
+}
+
+fn offered(answer: Offered) -> String {
+    match answer {
+        Offered::Taken => "taken".to_string(),
+        Offered::Refused(refusal) => format!("refused {} {}", refusal.number(), refusal.place()),
+    }
+}
+
 fn next(endpoint: &mut Endpoint<'_>, words: [&[u8]; 3]) -> Answered {
     let [channel, now, room] = words;
     let (channel, now, room) = (byte(channel)?, wide(now)?, length(room)?);
@@ -248,6 +290,7 @@ fn on_state(state: &mut State, words: &[&[u8]]) -> Answered {
     let endpoint = &mut Endpoint::resume(&mut state.words, &mut state.memory);
     match *words {
         [b"offer", channel, now, expiry, packet] => offer(endpoint, [channel, now, expiry, packet]),
+        [b"offers", now, ref behind @ ..] => offers(endpoint, now, behind),
         [b"next", channel, now, room] => next(endpoint, [channel, now, room]),
         [b"withdraw", channel] => withdraw(endpoint, channel),
         [b"radio", now, datagram] => radio(endpoint, [now, datagram]),

@@ -95,6 +95,14 @@ impl Offered {
             _ => Offered::Refused(Refusal::of(answer)),
         }
     }
+
+    /// The answer that a byte of a handful's answers stands for.
+    pub(crate) fn numbered(number: u8) -> Offered {
+        match number {
+            0 => Offered::Taken,
+            number => Offered::Refused(Refusal::numbered(number)),
+        }
+    }
 }
 
 impl<'o> Next<'o> {

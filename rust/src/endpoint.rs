@@ -1,6 +1,7 @@
 //! The endpoint's calls.
 use crate::answer::{Heard, Next, Offered, Paced, Withdrawn, Written};
 use crate::configuration::{Configuration, Waits};
+use crate::handful::{Handed, Handful};
 use crate::library::{self, CHANNEL_NUMBERS, KEPT_NUMBERS, PACER_NUMBERS, WAITING_NUMBERS};
 use crate::quantity::{Context, FlowSequence, FlowWindow, LinkInstance};
 use crate::refusal::Refusal;
@@ -117,6 +118,13 @@ impl<'a> Endpoint<'a> {
     /// Offers a packet that expires at `expiry`.
     pub fn offer(&mut self, channel: u8, packet: &[u8], expiry: u64, time: u64) -> Offered {
         Offered::of(library::offer(self.words, self.memory, channel, packet, expiry, time))
+    }
+
+    /// Offers up to 32 packets at once, and comes to what offering them one by one in their order comes to. `answers` are as many as the packets, of any content;
+    /// they stay where the handful is refused.
+    pub fn offers<'o>(&mut self, handful: &Handful<'_>, answers: &'o mut [u8]) -> Handed<'o> {
+        let answer = library::offers(self.words, self.memory, handful, answers);
+        Handed::of(answer, answers)
     }
 
     /// Asks for the next data message. The output's bytes behind it stay, and all of them where none is sent.

@@ -5,7 +5,7 @@
 //! messages of either end.
 //!
 //! ```
-//! use nespovarda::{words_for, Configuration, DatalinkId, Endpoint, FlowSequence, Heard, Kind, Next, Offered, Paced, Waits};
+//! use nespovarda::{words_for, Configuration, DatalinkId, Endpoint, FlowSequence, Handed, Handful, Heard, Kind, Next, Offered, Paced, Waits};
 //!
 //! let mut configuration = [0; Configuration::words_for(2)];
 //! let configuration = Configuration::new(&mut configuration, DatalinkId(7), Waits { hello: 5000, limit: 9000 })
@@ -30,6 +30,13 @@
 //!     other => panic!("{other:?}"),
 //! }
 //!
+//! // Two at once, end to end in one buffer: there is no channel 9, which 12 says.
+//! let handful = Handful { channels: &[0, 9], expiries: &[9000, 9000], lengths: &[40, 40], packets: &[packet, packet].concat(), time: 1020 };
+//! match endpoint.offers(&handful, &mut [0; 2]) {
+//!     Handed::Offered(answers) => assert_eq!(answers.as_bytes(), [0, 12]),
+//!     Handed::Refused(refusal) => panic!("{refusal}"),
+//! }
+//!
 //! // At 5000 a query is due: HelloTime has passed since 0.
 //! assert_eq!(endpoint.pace(5000), Paced::QueryDue);
 //! ```
@@ -45,6 +52,7 @@ mod configuration;
 pub mod control;
 pub mod data;
 mod endpoint;
+mod handful;
 #[allow(unsafe_code)]
 mod library;
 mod quantity;
@@ -54,5 +62,6 @@ pub mod station;
 pub use answer::{Heard, Next, Offered, Paced, Read, Withdrawn, Written};
 pub use configuration::{Configuration, Kind, NoRoom, Waits};
 pub use endpoint::{words_for, Channel, Endpoint, Flow, Kept, Pacer, Waiting};
+pub use handful::{Answers, Handed, Handful};
 pub use quantity::{Context, DatalinkId, End, FlowSequence, FlowWindow, LinkInstance, StatusCodes};
 pub use refusal::Refusal;

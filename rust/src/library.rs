@@ -5,6 +5,8 @@
 
 pub(crate) mod station;
 
+use crate::handful::Handful;
+
 /// A kind and its value: a message's length, a refusal's place, or 0.
 #[repr(C)]
 #[derive(Clone, Copy)]
@@ -35,6 +37,7 @@ pub(crate) const PACER_SHOWN: u64 = 19;
 pub(crate) const ANSWERED: u64 = 20;
 pub(crate) const UNASKED: u64 = 21;
 pub(crate) const NO_MESSAGE: u64 = 22;
+pub(crate) const OFFERED: u64 = 23;
 /// From here on a kind is a refusal: this and its number.
 pub(crate) const REFUSED: u64 = 256;
 
@@ -67,6 +70,23 @@ mod exports {
             packet_length: usize,
             expiry: u64,
             time: u64,
+        ) -> Answer;
+        pub(super) fn nespovarda_offers(
+            words: *mut u64,
+            words_length: usize,
+            memory: *mut u8,
+            memory_length: usize,
+            channels: *const u8,
+            channels_length: usize,
+            expiries: *const u64,
+            expiries_length: usize,
+            lengths: *const u64,
+            lengths_length: usize,
+            packets: *const u8,
+            packets_length: usize,
+            time: u64,
+            answers: *mut u8,
+            answers_length: usize,
         ) -> Answer;
         pub(super) fn nespovarda_next(
             words: *mut u64,
@@ -122,6 +142,30 @@ pub(crate) fn offer(words: &mut [u64], memory: &mut [u8], channel: u8, packet: &
     // SAFETY: each pointer and length are one slice's; both mutable slices are borrowed for this call alone.
     unsafe {
         exports::nespovarda_offer(words.as_mut_ptr(), words.len(), memory.as_mut_ptr(), memory.len(), channel, packet.as_ptr(), packet.len(), expiry, time)
+    }
+}
+
+pub(crate) fn offers(words: &mut [u64], memory: &mut [u8], handful: &Handful<'_>, answers: &mut [u8]) -> Answer {
+    let Handful { channels, expiries, lengths, packets, time } = *handful;
+    // SAFETY: each pointer and length are one slice's; the three mutable slices are borrowed for this call alone.
+    unsafe {
+        exports::nespovarda_offers(
+            words.as_mut_ptr(),
+            words.len(),
+            memory.as_mut_ptr(),
+            memory.len(),
+            channels.as_ptr(),
+            channels.len(),
+            expiries.as_ptr(),
+            expiries.len(),
+            lengths.as_ptr(),
+            lengths.len(),
+            packets.as_ptr(),
+            packets.len(),
+            time,
+            answers.as_mut_ptr(),
+            answers.len(),
+        )
     }
 }
 

@@ -79,6 +79,8 @@ pub enum Refusal {
     WaitOfZero,
     /// 23: watermark or throughput above 2^31 - 1, of a plain channel too.
     AllowanceTooLarge,
+    /// 24: more than 32 packets at once, lists of unequal count, or lengths whose sum isn't the buffer's length.
+    NotAHandful,
     /// An answer that this crate doesn't know: the library linked is of another version.
     Unknown {
         /// The answer's kind.
@@ -117,8 +119,14 @@ impl Refusal {
             21 => Refusal::PacerTimeBeforeLatest,
             22 => Refusal::WaitOfZero,
             23 => Refusal::AllowanceTooLarge,
+            24 => Refusal::NotAHandful,
             _ => Refusal::Unknown { kind, value },
         }
+    }
+
+    /// The refusal of a number that has no place.
+    pub(crate) fn numbered(number: u8) -> Refusal {
+        Refusal::of(Answer { kind: REFUSED + u64::from(number), value: 0 })
     }
 
     /// Its number; that of an unknown answer as the answer gives it, 0 where that is no refusal.
@@ -147,6 +155,7 @@ impl Refusal {
             Refusal::PacerTimeBeforeLatest => 21,
             Refusal::WaitOfZero => 22,
             Refusal::AllowanceTooLarge => 23,
+            Refusal::NotAHandful => 24,
             Refusal::Unknown { kind, .. } => kind.saturating_sub(REFUSED),
         }
     }

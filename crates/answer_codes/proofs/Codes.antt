@@ -9,13 +9,13 @@ use native.Mathlib.Omega.{arith}
 use lib.ListN.{getD}
 use Rattle.answer_codes.specs.declared.Answer.{Answer}
 use Rattle.answer_codes.specs.Codes.{Outcome, codeOf, REFUSED, SENT, WROTE, ANSWERED, UNASKED}
-use Rattle.answer_codes.specs.Codes.Outcome.{refused, started, taken, sent, nothing-waiting, not-operational, window-shut, withdrawn, accepted, due, other-plane, wrote, shown, kept, none-there, quiet, query-due, silent, query-due-silent, pacer-shown, answered, unasked, no-message}
+use Rattle.answer_codes.specs.Codes.Outcome.{refused, started, taken, sent, nothing-waiting, not-operational, window-shut, withdrawn, accepted, due, other-plane, wrote, shown, kept, none-there, quiet, query-due, silent, query-due-silent, pacer-shown, answered, unasked, no-message, offered}
 
 -- the outcomes without a number, each at its kind
 abbrev plain : List Outcome
 plain =
     kept ∷ started ∷ taken ∷ kept ∷ nothing-waiting ∷ not-operational ∷ window-shut ∷ withdrawn ∷ accepted ∷ due ∷ other-plane ∷ kept ∷ shown ∷ kept ∷ none-there
-    ∷ quiet ∷ query-due ∷ silent ∷ query-due-silent ∷ pacer-shown ∷ kept ∷ kept ∷ no-message ∷ []
+    ∷ quiet ∷ query-due ∷ silent ∷ query-due-silent ∷ pacer-shown ∷ kept ∷ kept ∷ no-message ∷ offered ∷ []
 
 -- the outcome that an answer's numbers say
 abbrev pub outcomeOf : Answer → Outcome
@@ -51,6 +51,7 @@ outcome-back pacer-shown = refl
 outcome-back (answered bytes) = refl
 outcome-back (unasked bytes) = refl
 outcome-back no-message = refl
+outcome-back offered = refl
 
 pub codes-one : (a b : Outcome) → codeOf a ≡ codeOf b → a ≡ b
 codes-one a b same = sym (outcome-back a) ∙ ap outcomeOf same ∙ outcome-back b

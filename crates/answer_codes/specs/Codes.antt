@@ -34,6 +34,8 @@ pub data Outcome : Type 0 where
   answered : (bytes : ℕ) → Outcome
   unasked : (bytes : ℕ) → Outcome
   no-message : Outcome
+  -- a handful: each of its packets was offered, and has an answer of its own
+  offered : Outcome
 
 abbrev pub STARTED : ℕ
 STARTED = 1
@@ -101,6 +103,9 @@ UNASKED = 21
 abbrev pub NO-MESSAGE : ℕ
 NO-MESSAGE = 22
 
+abbrev pub OFFERED : ℕ
+OFFERED = 23
+
 -- a refusal's kind is this and its number
 abbrev pub REFUSED : ℕ
 REFUSED = 256
@@ -137,6 +142,7 @@ codeOf pacer-shown = plainly PACER-SHOWN
 codeOf (answered bytes) = counting ANSWERED bytes
 codeOf (unasked bytes) = counting UNASKED bytes
 codeOf no-message = plainly NO-MESSAGE
+codeOf offered = plainly OFFERED
 
 -- a refusal, and a writer's answer, as an outcome
 abbrev pub refusedAs : Refusal → Outcome

@@ -48,6 +48,8 @@ pub const UNASKED: u64 = 21;
 
 pub const NO_MESSAGE: u64 = 22;
 
+pub const OFFERED: u64 = 23;
+
 // From here on a kind is a refusal: this and its number.
 pub const REFUSED: u64 = 256;
 

@@ -49,10 +49,10 @@ start-exports h r e = record {
 }
 
 -- ---- a refusal's numbers say it, its kind being no other answer's; and so do each answer's
-no-kind : (refusal : Refusal) (kind : ℕ) → kind < REFUSED → isKind (codeOf (refusedAs refusal)) kind ≡ false
+pub no-kind : (refusal : Refusal) (kind : ℕ) → kind < REFUSED → isKind (codeOf (refusedAs refusal)) kind ≡ false
 no-kind refusal kind less = ne-eqb (REFUSED + refusal .number) kind (λ same. omega (arith, less, same))
 
-number-back : (number : ℕ) → (REFUSED + number) - REFUSED ≡ number
+pub number-back : (number : ℕ) → (REFUSED + number) - REFUSED ≡ number
 number-back number = omega arith
 
 start-back : (a : StartAnswer) → startSaid (codeOf (startedAs a)) ≡ a

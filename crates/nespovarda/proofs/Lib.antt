@@ -1,4 +1,5 @@
 pub mod Exporting
+pub mod Handing
 pub mod Showing
 pub mod Numbers
 pub mod Coincide

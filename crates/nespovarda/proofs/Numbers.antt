@@ -4,7 +4,7 @@ use mathlib.Core.Bool.{Bool, true, false, cond}
 use mathlib.Core.List.{List, _∷_, _++_}
 use mathlib.Core.Path.{_≡_, refl, ap, _∙_}
 use lib.Dec.{ltb}
-use lib.ListN.{take}
+use lib.ListN.{take, length}
 use Rattle.quantity.specs.Refusals.{NO-CHANNEL}
 use Rattle.meaning.specs.declared.message.Status.{Status}
 use Rattle.meaning.specs.declared.message.Instance.{Instance}
@@ -16,10 +16,15 @@ use Rattle.ips_words.specs.Words.{statusTag, statusValue, flowTag, flowWindow}
 use Rattle.ips_channel.specs.declared.state.Channel.{Channel}
 use Rattle.ips_state.specs.State.{State}
 use Rattle.ips_state.specs.Limits.{sizes, stateFits}
-use Rattle.ips_state.specs.Memory.{startOf}
+use Rattle.ips_state.specs.Memory.{startOf, worldFits}
+use Rattle.endpoint.specs.Lent.{Lent, worldIn}
 use Rattle.endpoint.specs.Shown.{wordsNeeded}
+use Rattle.handful.specs.declared.HandfulAnswer.{HandfulAnswer}
+use Rattle.handful.specs.Handful.{Handful, isHandful, refusedHandful}
+use Rattle.nespovarda.specs.Outcomes.{handedAs}
+use Rattle.nespovarda.specs.Handing.{HandfulExported}
 use Rattle.nespovarda.specs.Shown.{isHad, placeFor, channelFor, outside, outcomeFor, numbersFor, channelNumbers, ShowsChannel, waitingOutcome, waitingNumbers, ShowsWaiting, keptNumbers, ShowsKept, ShowsPacer}
-use Rattle.nespovarda.specs.Numbers.{Numbers, numbers, wordsNumber, reportedNumbers, flowNumbers, countedNumbers, nineNumbers, answerFor, shownFor, ShownExactly, WaitingExactly, linkNumbers, contextNumbers, KeptExactly, PacerExactly}
+use Rattle.nespovarda.specs.Numbers.{Numbers, numbers, handfulNumbers, wordsNumber, reportedNumbers, flowNumbers, countedNumbers, nineNumbers, answerFor, shownFor, ShownExactly, WaitingExactly, linkNumbers, contextNumbers, KeptExactly, PacerExactly}
 
 pub numbers-exactly : Numbers
 numbers-exactly = record {
@@ -37,6 +42,8 @@ numbers-exactly = record {
   accepted = refl;
   due = refl;
   radio-refused = λ number place. refl;
+  is-offered = refl;
+  handful-refused = λ number place. refl;
   quiet = refl;
   query-due = refl;
   silent = refl;
@@ -54,6 +61,16 @@ numbers-exactly = record {
   none-there = refl;
   pacer-shown = refl;
 }
+
+-- ---- a handful as a whole
+in-numbers : (fits is : Bool)
+    → codeOf (handedAs (cond fits (cond is HandfulAnswer.Offered (refusedHandful 24)) (refusedHandful 19))) ≡ cond fits (cond is (numbers 23 0) (numbers 280 0)) (numbers 275 0)
+in-numbers true true = refl
+in-numbers true false = refl
+in-numbers false is = refl
+
+pub handful-exactly : {h : Handful} {l : Lent} {answers : List ℕ} {r : Answer} {l′ : Lent} {answers′ : List ℕ} → HandfulExported h l answers r l′ answers′ → r ≡ handfulNumbers h l (length answers)
+handful-exactly {h} {l} {answers} e = e .answer-is ∙ in-numbers (worldFits (worldIn l)) (isHandful h (length answers))
 
 pub words-exactly : (channels : ℕ) → wordsNeeded channels ≡ wordsNumber channels
 unfolding wordsNeeded

@@ -1,4 +1,5 @@
 pub mod Outcomes
 pub mod Exports
+pub mod Handing
 pub mod Shown
 pub mod Numbers

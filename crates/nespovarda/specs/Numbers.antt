@@ -24,10 +24,14 @@ use Rattle.ips_channel_calls.specs.Calls.{offered, asked, withdrawn}
 use Rattle.ips_state.specs.declared.StartAnswer.{StartAnswer}
 use Rattle.ips_state.specs.State.{State}
 use Rattle.ips_state.specs.Limits.{sizes, stateFits}
+use Rattle.ips_state.specs.Memory.{worldFits}
 use Rattle.ips_radio.specs.declared.RadioAnswer.{RadioAnswer}
 use Rattle.ips_calls.specs.Replies.{EndpointReply, ofChannel, ofRadio, ofPace, ofQuery}
 use Rattle.message_calls.specs.Calls.{verdictAs}
-use Rattle.nespovarda.specs.Outcomes.{startedAs, outcomeOf}
+use Rattle.endpoint.specs.Lent.{Lent, worldIn}
+use Rattle.handful.specs.declared.HandfulAnswer.{HandfulAnswer}
+use Rattle.handful.specs.Handful.{Handful, isHandful}
+use Rattle.nespovarda.specs.Outcomes.{startedAs, outcomeOf, handedAs}
 use Rattle.nespovarda.specs.Shown.{isHad, placeFor, channelFor}
 
 abbrev pub numbers : (kind value : ℕ) → Answer
@@ -55,6 +59,8 @@ pub record Numbers : Type 0 where
   pub accepted : numbersOf (ofRadio RadioAnswer.Accepted) ≡ numbers 8 0
   pub due : numbersOf (ofRadio RadioAnswer.Due) ≡ numbers 9 0
   pub radio-refused : (number place : ℕ) → numbersOf (ofRadio (RadioAnswer.Refused (refusal number place))) ≡ numbers (256 + number) place
+  pub is-offered : codeOf (handedAs HandfulAnswer.Offered) ≡ numbers 23 0
+  pub handful-refused : (number place : ℕ) → codeOf (handedAs (HandfulAnswer.Refused (refusal number place))) ≡ numbers (256 + number) place
   pub quiet : numbersOf (ofPace PaceAnswer.Quiet) ≡ numbers 15 0
   pub query-due : numbersOf (ofPace PaceAnswer.Due) ≡ numbers 16 0
   pub silent : numbersOf (ofPace PaceAnswer.Silent) ≡ numbers 17 0
@@ -71,6 +77,10 @@ pub record Numbers : Type 0 where
   pub kept : codeOf Outcome.kept ≡ numbers 13 0
   pub none-there : codeOf Outcome.none-there ≡ numbers 14 0
   pub pacer-shown : codeOf Outcome.pacer-shown ≡ numbers 19 0
+
+-- ---- what a handful comes to as a whole (`handful-exactly`): 23; else 256 and 19, 256 and 24
+abbrev pub handfulNumbers : Handful → Lent → (answers : ℕ) → Answer
+handfulNumbers h l answers = cond (worldFits (worldIn l)) (cond (isHandful h answers) (numbers 23 0) (numbers 280 0)) (numbers 275 0)
 
 -- ---- how many words a state of so many channels asks for (`words-exactly`)
 abbrev pub wordsNumber : (channels : ℕ) → ℕ

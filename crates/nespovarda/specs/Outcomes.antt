@@ -10,6 +10,7 @@ use Rattle.ips_channel_calls.specs.Calls.{offered, asked, withdrawn}
 use Rattle.ips_state.specs.declared.StartAnswer.{StartAnswer}
 use Rattle.ips_radio.specs.declared.RadioAnswer.{RadioAnswer}
 use Rattle.ips_calls.specs.Replies.{EndpointReply, ofChannel, ofRadio, ofPace, ofQuery}
+use Rattle.handful.specs.declared.HandfulAnswer.{HandfulAnswer}
 
 abbrev pub startedAs : StartAnswer → Outcome
 startedAs StartAnswer.Started = Outcome.started
@@ -41,6 +42,10 @@ pacedAs PaceAnswer.Due = Outcome.query-due
 pacedAs PaceAnswer.Silent = Outcome.silent
 pacedAs PaceAnswer.DueSilent = Outcome.query-due-silent
 pacedAs (PaceAnswer.Refused refusal) = refusedAs refusal
+
+abbrev pub handedAs : HandfulAnswer → Outcome
+handedAs HandfulAnswer.Offered = Outcome.offered
+handedAs (HandfulAnswer.Refused refusal) = refusedAs refusal
 
 abbrev pub outcomeOf : EndpointReply → Outcome
 outcomeOf (ofChannel (offered answer)) = offeredAs answer

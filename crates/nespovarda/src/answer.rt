@@ -1,12 +1,13 @@
 // The answer of each call as two numbers.
 ghost use mathlib.Core.Path.{_≡_};
 ghost use Rattle.answer_codes.specs.Codes.{codeOf};
-ghost use Rattle.nespovarda.specs.Outcomes.{startedAs, offeredAs, askedAs, withdrawnAs, heardAs, pacedAs};
+ghost use Rattle.nespovarda.specs.Outcomes.{startedAs, offeredAs, askedAs, withdrawnAs, heardAs, pacedAs, handedAs};
 use answer_codes::ACCEPTED;
 use answer_codes::Answer;
 use answer_codes::DUE;
 use answer_codes::NOT_OPERATIONAL;
 use answer_codes::NOTHING_WAITING;
+use answer_codes::OFFERED;
 use answer_codes::QUERY_DUE;
 use answer_codes::QUERY_DUE_SILENT;
 use answer_codes::QUIET;
@@ -25,6 +26,7 @@ use endpoint::PaceAnswer;
 use endpoint::RadioAnswer;
 use endpoint::StartAnswer;
 use endpoint::WithdrawAnswer;
+use handful::HandfulAnswer;
 
 pub(crate) fn of_start(answer: StartAnswer) -> Answer
     ensures { λ r. ⌜ r ≡ codeOf (startedAs answer) ⌝ }
@@ -84,5 +86,14 @@ pub(crate) fn of_pace(answer: PaceAnswer) -> Answer
         PaceAnswer::Silent => plain(SILENT),
         PaceAnswer::DueSilent => plain(QUERY_DUE_SILENT),
         PaceAnswer::Refused(refusal) => refused(refusal),
+    }
+}
+
+pub(crate) fn of_handful(answer: HandfulAnswer) -> Answer
+    ensures { λ r. ⌜ r ≡ codeOf (handedAs answer) ⌝ }
+{
+    match answer {
+        HandfulAnswer::Offered => plain(OFFERED),
+        HandfulAnswer::Refused(refusal) => refused(refusal),
     }
 }

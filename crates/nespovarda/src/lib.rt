@@ -5,4 +5,5 @@
 pub mod answer;
 pub mod calls;
 pub mod messages;
+pub mod offers;
 pub mod shown;
