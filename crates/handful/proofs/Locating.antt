@@ -2,7 +2,7 @@
 use Prim.Native.Nat.{ℕ, _+_, _*_, _≤_, _<_}
 use mathlib.Core.Bool.{Bool, true, false}
 use mathlib.Core.List.{List, []}
-use mathlib.Core.Path.{_≡_, refl, sym, ap, _∙_}
+use mathlib.Core.Path.{_≡_, refl, sym}
 use native.Mathlib.Omega.{arith}
 use borrow.Author.Count.{below-more}
 use borrow.Author.Tests.{eq-eqb}
@@ -17,8 +17,8 @@ use Rattle.ips_state.specs.Memory.{memoryFits, startOf, World}
 use Rattle.ips_state.proofs.Channels.{sizes-join, sizes-most}
 use Rattle.ips_state.proofs.Places.{fit, index-one, found, store-room}
 use Rattle.ips_run.proofs.Exact.{named}
-use Rattle.ips_words.specs.Words.{HEAD, SLOT, COUNT-WORD, ID, SIZE, word, slot, slotStart, channelIn, stateIn}
-use Rattle.ips_words.proofs.Whole.{slot-word, fit-readable, readable-facts, fit-count, fit-room, fit-channel}
+use Rattle.ips_words.specs.Words.{HEAD, SLOT, COUNT-WORD, ID, SIZE, word, slotStart, channelIn, stateIn}
+use Rattle.ips_words.proofs.Whole.{slot-word, fit-readable, readable-facts, fit-room, fit-channel}
 use Rattle.ips_words_survey.specs.declared.place.Place.{Place}
 use Rattle.ips_words_survey.specs.Places.{placeOf}
 use Rattle.ips_words_survey.proofs.Walking.{one-more}

@@ -1,6 +1,6 @@
 -- The packets of a handful offered one after the other: what holds before a packet, where it starts, goes on and ends. Assumes nothing.
 use Prim.Native.Nat.{ℕ, _+_, _-_, _*_, _≤_, _<_}
-use mathlib.Core.Bool.{true, _&&_, and-eq-true-iff}
+use mathlib.Core.Bool.{true, and-eq-true-iff}
 use mathlib.Core.List.{List, [], _∷_, _++_, map, append-assoc, append-nil}
 use mathlib.Core.Path.{_≡_, refl, sym, ap, _∙_}
 use native.Mathlib.Numerals.{add-one}
@@ -19,7 +19,7 @@ use Rattle.endpoint.specs.Lent.{Lent, worldIn, afterIn}
 use Rattle.endpoint.specs.Calls.{PerformedIn}
 use Rattle.handful.specs.Handful.{Handful, Offer, offerFor, cut, offersOf, callOf, answerTo, answersTo, leftBy, numberOf, sumOf, isHandful}
 use Rattle.handful.specs.Offering.{movedIn, movedBy, Judged, OfferedEach}
-use Rattle.handful.proofs.Summing.{sum-next, sum-over}
+use Rattle.handful.proofs.Summing.{sum-next}
 use Rattle.handful.proofs.Offering.{after-fits}
 use Rattle.handful.proofs.Bounds.{moved-most}
 

@@ -29,7 +29,7 @@ use Rattle.handful.specs.Handful.{Handful, callOf, standsFor, HandedIn}
 use Rattle.handful_laws.specs.Plain.{callAt, Faulty}
 use Rattle.handful_laws.specs.Acts.{Act, single, several, ActReply, one, each, RanActs, over, called, handed, callsBy, callsOf, repliesBy, repliesIn, BytesInActs}
 use Rattle.handful_laws.proofs.Cutting.{offers-plain}
-use Rattle.handful_laws.proofs.Judging.{handful-exactly, offered-tested, refused-none, handful-keeps, handful-one}
+use Rattle.handful_laws.proofs.Judging.{handful-exactly, offered-tested, refused-stands-none, handful-keeps, handful-one}
 use Rattle.handful_laws.proofs.Offering.{offered-proper, handful-plain}
 
 -- ---- a run behind a run
@@ -52,7 +52,7 @@ acts-ran (handed {x = x} h more) = ran-join (handed-ran x h) (acts-ran more)
 pub calls-stand : {h : Handful} {l l′ : Lent} {answers answers′ : List ℕ} (x : HandfulAnswer) → HandedIn h l answers x l′ answers′
     → callsBy (several h answers) (each x answers′) ≡ map (callOf (h .time)) (standsFor h (length answers) (worldIn l))
 calls-stand {h} HandfulAnswer.Offered k = let t = offered-tested k in rw (t .0, t .1) (sym (offers-plain h (offered-proper k)))
-calls-stand {h} (HandfulAnswer.Refused refusal) k = sym (ap (map (callOf (h .time))) (refused-none k))
+calls-stand {h} (HandfulAnswer.Refused refusal) k = sym (ap (map (callOf (h .time))) (refused-stands-none k))
 
 -- acts come to one outcome
 pub acts-one : {l last last′ : Lent} {acts : List Act} {xs ys : List ActReply} → RanActs l acts xs last → RanActs l acts ys last′ → (xs ≡ ys) × (last ≡ last′)
@@ -97,8 +97,8 @@ module _ {configuration words memory words′ memory′ : List ℕ} (begun : Sta
 
   -- so a handful is refused there by its own faults alone, and by 24
   module _ {h : Handful} {answers answers′ : List ℕ} {x : HandfulAnswer} {l′ : Lent} (next : HandedIn h last answers x l′ answers′) where
-    pub never-nineteen : x ≡ HandfulAnswer.Refused (record { number = 19; place = 0 }) → ⊥
-    never-nineteen e = let z : true ≡ false = sym acts-fit ∙ handful-exactly next .nineteen .0 e in clash (sym z)
+    pub acts-never-nineteen : x ≡ HandfulAnswer.Refused (record { number = 19; place = 0 }) → ⊥
+    acts-never-nineteen e = let z : true ≡ false = sym acts-fit ∙ handful-exactly next .nineteen .0 e in clash (sym z)
 
     pub fresh-exactly : ((x ≡ HandfulAnswer.Refused (record { number = 24; place = 0 })) ↔ Faulty h (length answers)) × ((x ≡ HandfulAnswer.Offered) ↔ (Faulty h (length answers) → ⊥))
     fresh-exactly =

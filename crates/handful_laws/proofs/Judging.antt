@@ -1,11 +1,11 @@
 -- 19, 24, and the offers otherwise: each answer of a handful exactly when it is given; refused, it leaves everything; and any two outcomes coincide. Assumes nothing.
 use Prim.Native.Nat.{ℕ, _+_}
-use mathlib.Core.Bool.{Bool, true, false, cond, _&&_, and-eq-true-iff}
+use mathlib.Core.Bool.{Bool, true, false, cond, _&&_}
 use mathlib.Core.List.{List, [], _∷_}
 use mathlib.Core.Logic.{inl, inr}
 use mathlib.Core.Path.{_≡_, refl, sym, ap, _∙_}
 use native.Mathlib.Omega.{arith}
-use borrow.Author.Tests.{leb-true, leb-false, eqb-true, eqb-false}
+use borrow.Author.Tests.{leb-false, eqb-false}
 use lib.Dec.{eqb, leb}
 use lib.ListN.{length, replicate}
 use Rattle.facts.proofs.Tests.{clash}
@@ -14,6 +14,7 @@ use Rattle.ips_state.specs.Memory.{worldFits}
 use Rattle.endpoint.specs.Lent.{Lent, worldIn}
 use Rattle.handful.specs.declared.HandfulAnswer.{HandfulAnswer}
 use Rattle.handful.specs.Handful.{Handful, sumOf, isHandful, standsFor, HandedIn}
+use Rattle.handful.proofs.Turning.{Even, even}
 use Rattle.handful_laws.specs.Plain.{summed, Faulty, more-than-32, expiries-differ, lengths-differ, answers-differ, sum-differs, Proper, HandedExactly}
 
 sum-is : (lengths : List ℕ) → sumOf lengths ≡ summed lengths
@@ -37,19 +38,14 @@ module _ (h : Handful) (answers : ℕ) where
       (λ e. sum-differs (rw (sum-is (h .lengths)) at (eqb-false (sumOf (h .lengths)) (length (h .packets)) e))))))
 
   pub passed-proper : isHandful h answers ≡ true → Proper h answers
-  unfolding isHandful
   passed-proper e =
-      let n = length (h .channels) in
-      let a = and-eq-true-iff (leb n 32) _ .0 e in
-      let b = and-eq-true-iff (eqb (length (h .expiries)) n) _ .0 (a .1) in
-      let c = and-eq-true-iff (eqb (length (h .lengths)) n) _ .0 (b .1) in
-      let d = and-eq-true-iff (eqb answers n) (eqb (sumOf (h .lengths)) (length (h .packets))) .0 (c .1) in
+      let v : Even h answers = even h answers e in
       record {
-        few = leb-true n 32 (a .0);
-        expiries-count = eqb-true _ _ (b .0);
-        lengths-count = eqb-true _ _ (c .0);
-        answers-count = eqb-true _ _ (d .0);
-        whole = sym (sum-is (h .lengths)) ∙ eqb-true _ _ (d .1);
+        few = v .few;
+        expiries-count = v .expiries;
+        lengths-count = v .lengths;
+        answers-count = v .answers-too;
+        whole = sym (sum-is (h .lengths)) ∙ v .sum;
       }
 
   pub proper-faultless : Proper h answers → Faulty h answers → ⊥
@@ -104,9 +100,9 @@ offered-tested {h} {l} {answers = answers} handed = go (worldFits (worldIn l)) r
     go false f is g = clash (cc (rw f at (handed .answer-is)))
 
 -- and a refused one stands for no offer
-pub refused-none : {h : Handful} {l l′ : Lent} {answers answers′ : List ℕ} {refusal : Refusal} → HandedIn h l answers (HandfulAnswer.Refused refusal) l′ answers′
+pub refused-stands-none : {h : Handful} {l l′ : Lent} {answers answers′ : List ℕ} {refusal : Refusal} → HandedIn h l answers (HandfulAnswer.Refused refusal) l′ answers′
     → standsFor h (length answers) (worldIn l) ≡ []
-refused-none {h} {l} {answers = answers} handed = go (worldFits (worldIn l)) refl (isHandful h (length answers)) refl
+refused-stands-none {h} {l} {answers = answers} handed = go (worldFits (worldIn l)) refl (isHandful h (length answers)) refl
   where
     go : (fits : Bool) → worldFits (worldIn l) ≡ fits → (is : Bool) → isHandful h (length answers) ≡ is → standsFor h (length answers) (worldIn l) ≡ []
     go true f true g = clash (cc (rw (f, g) at (handed .answer-is)))

@@ -9,10 +9,8 @@ use lib.ListN.{length, getD, take}
 use Rattle.facts.specs.Tables.{tabulate}
 use Rattle.ips_channel_calls.specs.Calls.{offered}
 use Rattle.ips_channel_calls.specs.declared.offering.OfferAnswer.{OfferAnswer}
-use Rattle.ips_channel_rules.specs.Rules.{offer}
 use Rattle.ips_state.specs.Memory.{worldFits}
-use Rattle.ips_run.specs.Calling.{calling}
-use Rattle.ips_run.specs.Run.{Call, afterUnder}
+use Rattle.ips_run.specs.Run.{Call}
 use Rattle.ips_calls.specs.Replies.{EndpointReply, ofChannel, replyOf}
 use Rattle.endpoint.specs.Lent.{Lent, worldIn, afterIn}
 use Rattle.endpoint.specs.Calls.{PerformedIn}

@@ -15,7 +15,7 @@ use Rattle.nespovarda.specs.Outcomes.{handedAs}
 use Rattle.nespovarda.specs.Handing.{HandfulExported, handfulSaid}
 use Rattle.nespovarda.specs.Numbers.{numbers}
 use Rattle.nespovarda.proofs.Exporting.{no-kind, number-back}
-use Rattle.nespovarda.proofs.Numbers.{handful-exactly}
+use Rattle.nespovarda.proofs.Numbers.{handful-told}
 
 -- ---- from the call to its export
 pub handful-exports : {h : Handful} {l : Lent} {answers : List ℕ} {x : HandfulAnswer} {l′ : Lent} {answers′ : List ℕ} → HandedIn h l answers x l′ answers′
@@ -49,5 +49,5 @@ offered-else true true number place same = let kinds : 256 + number ≡ 23 = ap 
 pub refused-handful-keeps : {h : Handful} {l : Lent} {answers : List ℕ} {l′ : Lent} {answers′ : List ℕ} (number place : ℕ)
     → HandfulExported h l answers (numbers (256 + number) place) l′ answers′ → (l′ ≡ l) × (answers′ ≡ answers)
 refused-handful-keeps {h} {l} {answers} number place e =
-    let not = offered-else (worldFits (worldIn l)) (isHandful h (length answers)) number place (handful-exactly e) in
+    let not = offered-else (worldFits (worldIn l)) (isHandful h (length answers)) number place (handful-told e) in
     (e .lent-is ∙ rw not, e .answers-are ∙ rw not)

@@ -69,8 +69,8 @@ in-numbers true true = refl
 in-numbers true false = refl
 in-numbers false is = refl
 
-pub handful-exactly : {h : Handful} {l : Lent} {answers : List ℕ} {r : Answer} {l′ : Lent} {answers′ : List ℕ} → HandfulExported h l answers r l′ answers′ → r ≡ handfulNumbers h l (length answers)
-handful-exactly {h} {l} {answers} e = e .answer-is ∙ in-numbers (worldFits (worldIn l)) (isHandful h (length answers))
+pub handful-told : {h : Handful} {l : Lent} {answers : List ℕ} {r : Answer} {l′ : Lent} {answers′ : List ℕ} → HandfulExported h l answers r l′ answers′ → r ≡ handfulNumbers h l (length answers)
+handful-told {h} {l} {answers} e = e .answer-is ∙ in-numbers (worldFits (worldIn l)) (isHandful h (length answers))
 
 pub words-exactly : (channels : ℕ) → wordsNeeded channels ≡ wordsNumber channels
 unfolding wordsNeeded

@@ -78,7 +78,7 @@ pub record Numbers : Type 0 where
   pub none-there : codeOf Outcome.none-there ≡ numbers 14 0
   pub pacer-shown : codeOf Outcome.pacer-shown ≡ numbers 19 0
 
--- ---- what a handful comes to as a whole (`handful-exactly`): 23; else 256 and 19, 256 and 24
+-- ---- what a handful comes to as a whole (`handful-told`): 23; else 256 and 19, 256 and 24
 abbrev pub handfulNumbers : Handful → Lent → (answers : ℕ) → Answer
 handfulNumbers h l answers = cond (worldFits (worldIn l)) (cond (isHandful h answers) (numbers 23 0) (numbers 280 0)) (numbers 275 0)
 

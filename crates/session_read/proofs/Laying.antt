@@ -1,6 +1,6 @@
 -- Numbers of a line laid as words, one after another, and behind what was laid before. Assumes nothing.
 use mathlib.Core.Path.{_≡_, refl, sym, ap, _∙_}
-use mathlib.Core.List.{List, [], _∷_, _++_}
+use mathlib.Core.List.{List, _++_}
 use Prim.Native.Nat.{ℕ, _+_, _≤_, _<_}
 use native.Mathlib.Numerals.{add-one}
 use native.Mathlib.Omega.{arith}
@@ -8,7 +8,7 @@ use lib.ListN.{length, set, drop, length-append}
 use lib.Seq.{paste, paste-zero, paste-suc, take-at, take-length, drop-append-add, drop-drop}
 use Rattle.facts.proofs.Tables.{length-tabulate, getD-tabulate}
 use Rattle.line_rows.specs.Rows.{over}
-use Rattle.session_read.specs.Lines.{PLACES, CONFIGURATION-WORDS}
+use Rattle.session_read.specs.Lines.{CONFIGURATION-WORDS}
 use Rattle.session_read.specs.Words.{saidFrom}
 
 pub said-length : (n : ℕ → ℕ) (from count : ℕ) → length (saidFrom n from count) ≡ count

@@ -1,3 +1,4 @@
+-- `each::offer_each` meets its contract: the law of each turn is `Turning`'s. Assumes nothing.
 use Prim.Native.Nat.{_+_, _-_, _≤_, _<_}
 use mathlib.Core.Path.{_≡_, refl, _∙_}
 use native.Mathlib.Omega.{arith}
@@ -8,11 +9,6 @@ use Rattle.quantity.specs.Limits.{MOST-AT-ONCE}
 use Rattle.handful.proofs.Turning.{Turning, turning-start, within-lists, stretch-ends, few-turns, moved-fits, turning-again, answers-long, turning-end}
 use Rattle.handful.proofs.each.offer_each.Statement.{statement}
 use Rattle.handful.proofs.each.offer_each.Tie as tie
-use Rattle.handful.proofs.each.offer_each.Reads as reads
-use Rattle.handful.proofs.each.offer_each.Lts as lts
-use Rattle.handful.proofs.each.number_of.Reads as number-of-reads
-use Rattle.handful.proofs.each.offer_one.Reads as offer-one-reads
-use Rattle.ips_words.proofs.waiting.narrow.Reads as narrow-reads
 
 abbrev Inv-loop : tie.InvT-loop
 Inv-loop words₀ memory₀ channels expiries lengths packets time answers₀ moved₀ from₀ at₀ words memory answers moved from at =

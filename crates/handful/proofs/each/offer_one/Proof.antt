@@ -1,5 +1,4 @@
 -- `each::offer_one` meets its contract. Assumes nothing.
-use mathlib.Core.Path.{_∙_}
 use borrow.Author.Needs.{needs}
 use Rattle.endpoint.proofs.Calling.{performed-found, performed-refused}
 use Rattle.handful.proofs.Offering.{state-fits, one-finds, one-lost, one-moved, one-still}

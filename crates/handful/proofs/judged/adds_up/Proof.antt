@@ -1,7 +1,5 @@
 -- `judged::adds_up` meets its contract: the law of each turn is `Summing`'s. Assumes nothing.
 use Prim.Native.Nat.{_-_}
-use mathlib.Core.Path.{_∙_}
-use native.Mathlib.Omega.{arith}
 use borrow.Author.Needs.{needs}
 use lib.ListN.{length}
 use Rattle.handful.proofs.Summing.{Adding, adding-start, adding-next, adding-more, adding-end}

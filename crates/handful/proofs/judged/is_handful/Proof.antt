@@ -1,5 +1,4 @@
 -- `judged::is_handful` meets its contract. Assumes nothing.
-use mathlib.Core.Path.{_∙_}
 use borrow.Author.Needs.{needs}
 use borrow.Author.Tests.{le-leb, lt-leb, eq-eqb, ne-eqb}
 use Rattle.quantity.specs.Limits.{MOST-AT-ONCE}

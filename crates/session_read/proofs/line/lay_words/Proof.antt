@@ -1,5 +1,4 @@
 -- `line::lay_words` meets its contract. Assumes nothing.
-use borrow.Author.Needs.{needs}
 use borrow.Author.Tests.{eq-eqb, ne-eqb}
 use Rattle.session_read.specs.Lines.{START, OFFERS, wordsBy}
 use Rattle.session_read.proofs.Bounds.{start-fits, offers-fit}

@@ -1,7 +1,6 @@
 -- `words::lay` meets its contract: the law of each turn is `Laying`'s. Assumes nothing.
 use borrow.Author.Needs.{needs}
 use Prim.Native.Nat.{_-_}
-use native.Mathlib.Omega.{arith}
 use Rattle.session_read.specs.Lines.{numbersIn}
 use Rattle.session_read.proofs.Laying.{Laying, laying-start, laying-on, laying-end}
 use Rattle.session_read.proofs.words.lay.Statement.{statement}
