@@ -30,13 +30,16 @@ use Rattle.ips_calls.proofs.Exactly.{unheard, Handed, outside, earlier, unread,
 use Rattle.ips_words.specs.Words.{CLOCK-WORD, DUE-WORD, HEARD-WORD, word, stateIn, putPacer}
 use Rattle.ips_words_start.specs.Start.{configurationIn, startsIn, StartedIn}
 use Rattle.endpoint.specs.Lent.{Lent, lent, worldIn, wordsCalledUnder, afterInUnder, afterIn}
-use Rattle.endpoint.specs.Calls.{PerformedIn, isRefused}
+use Rattle.endpoint.specs.Calls.{PerformedIn, PerformedInAt, isRefused}
 use Rattle.endpoint.proofs.Calling.{unless-told}
 use Rattle.endpoint.proofs.Simulating.{performed-in}
 
 -- ---- any two outcomes coincide
 pub calls-coincide-in : {c : Call} {l l′ l″ : Lent} {x x′ : EndpointReply} → PerformedIn c l x l′ → PerformedIn c l x′ l″ → (x ≡ x′) × (l′ ≡ l″)
 calls-coincide-in h k = (h .reply-is ∙ sym (k .reply-is), h .lent-is ∙ sym (k .lent-is))
+
+pub found-coincide-in : {c : ChannelCall} {l l′ l″ : Lent} {index : ℕ} {x x′ : Reply} → PerformedInAt c l index x l′ → PerformedInAt c l index x′ l″ → (x ≡ x′) × (l′ ≡ l″)
+found-coincide-in h k = (h .reply-is ∙ sym (k .reply-is), h .lent-is ∙ sym (k .lent-is))
 
 pub starts-coincide-in : {configuration words memory words′ words″ memory′ memory″ : List ℕ} {answer answer′ : StartAnswer} → StartedIn configuration words memory answer words′ memory′
     → StartedIn configuration words memory answer′ words″ memory″ → (answer ≡ answer′) × (words′ ≡ words″) × (memory′ ≡ memory″)

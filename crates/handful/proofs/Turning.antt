@@ -12,13 +12,13 @@ use lib.Seq.{drop-cons, drop-drop, take-all, take-suc-set}
 use Rattle.quantity.specs.declared.count.ByteCount.{ByteCount}
 use Rattle.quantity.specs.Limits.{LARGEST-STORE, MOST-AT-ONCE}
 use Rattle.ips_channel_calls.specs.declared.offering.OfferAnswer.{OfferAnswer}
-use Rattle.ips_channel_calls.specs.Calls.{offered}
+use Rattle.ips_channel_calls.specs.Calls.{offered, numberOf}
 use Rattle.ips_state.specs.Memory.{worldFits}
 use Rattle.ips_calls.specs.Replies.{ofChannel}
 use Rattle.endpoint.specs.Lent.{Lent, worldIn, afterIn}
 use Rattle.endpoint.specs.Calls.{PerformedIn}
-use Rattle.handful.specs.Handful.{Handful, Offer, offerFor, cut, offersOf, callOf, answerTo, answersTo, leftBy, numberOf, sumOf, isHandful}
-use Rattle.handful.specs.Offering.{movedIn, movedBy, Judged, OfferedEach}
+use Rattle.handful.specs.Handful.{Handful, Offer, offerFor, cut, offersOf, callOf, answerTo, answersTo, leftBy, sumOf, isHandful}
+use Rattle.handful.specs.Offering.{movedIn, movedBy, Tested, OfferedEach}
 use Rattle.handful.proofs.Summing.{sum-next}
 use Rattle.handful.proofs.Offering.{after-fits}
 use Rattle.handful.proofs.Bounds.{moved-most}
@@ -63,7 +63,7 @@ pub record Turning (h : Handful) (first : Lent) (l : Lent) (answers : List ℕ) 
   pub lent-is : leftBy (h .time) (upcoming h from at) l ≡ leftBy (h .time) (offersOf h) first
   pub answers-are : take at answers ++ map numberOf (answersTo (h .time) (upcoming h from at) l) ≡ map numberOf (answersTo (h .time) (offersOf h) first)
 
-module _ (h : Handful) (first : Lent) (given : List ℕ) (tested : Judged h first given) where
+module _ (h : Handful) (first : Lent) (given : List ℕ) (tested : Tested h first given) where
   e : Even h (length given)
   e = even h (length given) (tested .handful)
 

@@ -11,7 +11,7 @@ use Rattle.quantity.specs.Refusals.{OUTSIDE-LIMITS, NOT-A-HANDFUL}
 use Rattle.store.specs.Packets.{Packet, packetFor}
 use Rattle.ips_channel_rules.specs.Rules.{offer}
 use Rattle.ips_channel_calls.specs.declared.offering.OfferAnswer.{OfferAnswer}
-use Rattle.ips_channel_calls.specs.Calls.{offerAnswer}
+use Rattle.ips_channel_calls.specs.Calls.{offerAnswer, numberOf}
 use Rattle.ips_state.specs.Memory.{World, worldFits}
 use Rattle.ips_run.specs.Calling.{calling}
 use Rattle.ips_run.specs.Run.{Call, on}
@@ -59,15 +59,6 @@ abbrev pub leftBy : (time : ℕ) → List Offer → Lent → Lent
 leftBy time [] l = l
 leftBy time (o ∷ os) l = leftBy time os (afterIn (callOf time o) l)
 
--- "an answer for each", a byte: 0 where it is taken, else its number of refusal
-abbrev pub numberOf : OfferAnswer → ℕ
-numberOf OfferAnswer.Taken = 0
-numberOf (OfferAnswer.Refused refusal) = refusal .number
-
--- and the answer that such a byte says (`numbers-say` of `handful_laws`)
-abbrev pub answerOf : ℕ → OfferAnswer
-answerOf byte = cond (eqb byte 0) OfferAnswer.Taken (OfferAnswer.Refused (record { number = byte; place = 0 }))
-
 -- ---- "Refusals: 24 for more than 32, for lists (answers too) of unequal count, or for lengths whose sum isn't the buffer's length"
 unfoldable pub sumOf : List ℕ → ℕ
 sumOf [] = 0
@@ -90,7 +81,7 @@ handfulAnswer h answers w = cond (worldFits w) (cond (isHandful h answers) Handf
 abbrev pub standsFor : Handful → (answers : ℕ) → World → List Offer
 standsFor h answers w = cond (worldFits w && isHandful h answers) (offersOf h) []
 
--- the lent answers afterwards: refused as a whole, every byte of them as it was
+-- "an answer for each", a byte: the lent answers afterwards; refused as a whole, every byte of them as it was
 abbrev pub answersAfter : Handful → Lent → (answers : List ℕ) → List ℕ
 answersAfter h l answers = cond (worldFits (worldIn l) && isHandful h (length answers)) (map numberOf (answersTo (h .time) (offersOf h) l)) answers
 

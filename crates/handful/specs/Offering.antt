@@ -9,7 +9,8 @@ use Rattle.ips_channel_rules.specs.Rules.{offer}
 use Rattle.ips_state.specs.Memory.{World, worldFits, isConfigured, indexIn}
 use Rattle.endpoint.specs.Lent.{Lent, worldIn, afterIn}
 use Rattle.endpoint.specs.Calls.{movedAt}
-use Rattle.handful.specs.Handful.{Handful, Offer, callOf, answersTo, leftBy, numberOf, offersOf, isHandful}
+use Rattle.ips_channel_calls.specs.Calls.{numberOf}
+use Rattle.handful.specs.Handful.{Handful, Offer, callOf, answersTo, leftBy, offersOf, isHandful}
 
 -- ---- the bytes moved by one offer: within the store of its channel; none where it has no channel
 unfoldable pub movedIn : (time : ℕ) → Offer → World → ℕ
@@ -21,7 +22,7 @@ movedBy time [] l = 0
 movedBy time (o ∷ os) l = movedIn time o (worldIn l) + movedBy time os (afterIn (callOf time o) l)
 
 -- what has been tested
-pub record Judged (h : Handful) (l : Lent) (answers : List ℕ) : Type 0 where
+pub record Tested (h : Handful) (l : Lent) (answers : List ℕ) : Type 0 where
   pub fits : worldFits (worldIn l) ≡ true
   pub handful : isHandful h (length answers) ≡ true
 

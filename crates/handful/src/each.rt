@@ -1,13 +1,13 @@
 // The packets of a handful, offered one by one. Numbers 19 and 24 were tested, and 19 holds on.
 ghost use mathlib.Core.Path.{_≡_};
 ghost use mathlib.Core.Bool.{true};
-ghost use Rattle.ips_channel_calls.specs.Calls.{offered};
+ghost use Rattle.ips_channel_calls.specs.Calls.{offered, numberOf};
 ghost use Rattle.ips_state.specs.Memory.{worldFits};
 ghost use Rattle.ips_calls.specs.Replies.{ofChannel};
 ghost use Rattle.endpoint.specs.Lent.{lent, worldIn};
 ghost use Rattle.endpoint.specs.Calls.{PerformedIn};
-ghost use Rattle.handful.specs.Handful.{offerFor, callOf, numberOf};
-ghost use Rattle.handful.specs.Offering.{movedIn, Judged, OfferedEach};
+ghost use Rattle.handful.specs.Handful.{offerFor, callOf};
+ghost use Rattle.handful.specs.Offering.{movedIn, Tested, OfferedEach};
 use crate::place;
 use endpoint::OfferAnswer;
 use endpoint::call;
@@ -62,7 +62,7 @@ pub(crate) fn offer_each(
     time: u64,
     answers: &mut [u8],
 ) -> ByteCount
-    requires { ⌜ Judged (record { channels = now channels; expiries = now expiries; lengths = now lengths; packets = now packets; time = time }) (lent (now words) (now memory)) (now answers) ⌝ }
+    requires { ⌜ Tested (record { channels = now channels; expiries = now expiries; lengths = now lengths; packets = now packets; time = time }) (lent (now words) (now memory)) (now answers) ⌝ }
     ensures { λ r. ⌜ OfferedEach (record { channels = now (channels .entry); expiries = now (expiries .entry); lengths = now (lengths .entry); packets = now (packets .entry); time = time }) (lent (now (words .entry)) (now (memory .entry))) r (lent (now (words .exit)) (now (memory .exit))) (now (answers .exit)) ⌝ }
 {
     let mut moved: usize = 0;

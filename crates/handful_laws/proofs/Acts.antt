@@ -3,7 +3,7 @@ use Prim.Native.Nat.{ℕ, zero, suc, _<_}
 use mathlib.Core.Bool.{true, false}
 use mathlib.Core.List.{List, [], _∷_, _++_, map}
 use mathlib.Core.Logic.{_↔_}
-use mathlib.Core.Path.{_≡_, refl, sym, ap, ap₂, _∙_}
+use mathlib.Core.Path.{_≡_, refl, sym, ap, _∙_}
 use lib.ListN.{length}
 use Rattle.facts.specs.Tables.{tabulate}
 use Rattle.facts.proofs.Tests.{clash}
@@ -57,10 +57,10 @@ calls-stand {h} (HandfulAnswer.Refused refusal) k = sym (ap (map (callOf (h .tim
 -- acts come to one outcome
 pub acts-one : {l last last′ : Lent} {acts : List Act} {xs ys : List ActReply} → RanActs l acts xs last → RanActs l acts ys last′ → (xs ≡ ys) × (last ≡ last′)
 acts-one over over = (refl, refl)
-acts-one {last′ = last′} (called {acts = acts} h more) (called {xs = ys} k rest) =
+acts-one (called h more) (called k rest) =
     let same = calls-coincide-in h k in
     let behind = acts-one more (rw (← (same .1)) at rest) in
-    (ap₂ (λ (x : EndpointReply) (xs : List ActReply). one x ∷ xs) (same .0) (behind .0), behind .1)
+    (rw (same .0, behind .0), behind .1)
 acts-one (handed h more) (handed k rest) =
     let same = handful-one h k in
     let behind = acts-one more (rw (← (same .1)) at rest) in

@@ -99,25 +99,23 @@ offered-tested {h} {l} {answers = answers} handed = go (worldFits (worldIn l)) r
     go true f false g = clash (cc (rw (f, g) at (handed .answer-is)))
     go false f is g = clash (cc (rw f at (handed .answer-is)))
 
--- and a refused one stands for no offer
-pub refused-stands-none : {h : Handful} {l l′ : Lent} {answers answers′ : List ℕ} {refusal : Refusal} → HandedIn h l answers (HandfulAnswer.Refused refusal) l′ answers′
-    → standsFor h (length answers) (worldIn l) ≡ []
-refused-stands-none {h} {l} {answers = answers} handed = go (worldFits (worldIn l)) refl (isHandful h (length answers)) refl
-  where
-    go : (fits : Bool) → worldFits (worldIn l) ≡ fits → (is : Bool) → isHandful h (length answers) ≡ is → standsFor h (length answers) (worldIn l) ≡ []
-    go true f true g = clash (cc (rw (f, g) at (handed .answer-is)))
-    go true f false g = rw (f, g)
-    go false f is g = rw f
+-- and a refused one has not passed both tests
+module _ {h : Handful} {l l′ : Lent} {answers answers′ : List ℕ} {refusal : Refusal} (handed : HandedIn h l answers (HandfulAnswer.Refused refusal) l′ answers′) where
+  not-passed : (worldFits (worldIn l) && isHandful h (length answers)) ≡ false
+  not-passed = go (worldFits (worldIn l)) refl (isHandful h (length answers)) refl
+    where
+      go : (fits : Bool) → worldFits (worldIn l) ≡ fits → (is : Bool) → isHandful h (length answers) ≡ is → (fits && is) ≡ false
+      go true f true g = clash (cc (rw (f, g) at (handed .answer-is)))
+      go true f false g = refl
+      go false f is g = refl
 
--- ---- "with nothing taken": a refused handful leaves every word, the memory and the lent answers
-pub handful-keeps : {h : Handful} {l l′ : Lent} {answers answers′ : List ℕ} {refusal : Refusal} → HandedIn h l answers (HandfulAnswer.Refused refusal) l′ answers′
-    → (l′ ≡ l) × (answers′ ≡ answers)
-handful-keeps {h} {l} {l′} {answers} {answers′} {refusal} handed = go (worldFits (worldIn l)) refl (isHandful h (length answers)) refl
-  where
-    go : (fits : Bool) → worldFits (worldIn l) ≡ fits → (is : Bool) → isHandful h (length answers) ≡ is → (l′ ≡ l) × (answers′ ≡ answers)
-    go true f true g = clash (cc (rw (f, g) at (handed .answer-is)))
-    go true f false g = (handed .lent-is ∙ rw (f, g), handed .answers-are ∙ rw (f, g))
-    go false f is g = (handed .lent-is ∙ rw f, handed .answers-are ∙ rw f)
+  -- so it stands for no offer
+  pub refused-stands-none : standsFor h (length answers) (worldIn l) ≡ []
+  refused-stands-none = rw not-passed
+
+  -- ---- "with nothing taken": it leaves every word, the memory and the lent answers
+  pub handful-keeps : (l′ ≡ l) × (answers′ ≡ answers)
+  handful-keeps = (handed .lent-is ∙ rw not-passed, handed .answers-are ∙ rw not-passed)
 
 -- ---- any two outcomes coincide
 pub handful-one : {h : Handful} {l l′ l″ : Lent} {answers answers′ answers″ : List ℕ} {x y : HandfulAnswer} → HandedIn h l answers x l′ answers′ → HandedIn h l answers y l″ answers″

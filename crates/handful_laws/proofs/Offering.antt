@@ -7,16 +7,18 @@ use mathlib.Core.Path.{_≡_, refl, sym, ap, ap₂, _∙_}
 use native.Mathlib.Omega.{arith}
 use lib.ListN.{length, getD, take}
 use Rattle.facts.specs.Tables.{tabulate}
-use Rattle.ips_channel_calls.specs.Calls.{offered}
+use Rattle.ips_channel_calls.specs.Calls.{offered, numberOf, answerOf}
 use Rattle.ips_channel_calls.specs.declared.offering.OfferAnswer.{OfferAnswer}
 use Rattle.ips_state.specs.Memory.{worldFits}
 use Rattle.ips_run.specs.Run.{Call}
+use Rattle.ips_radio.proofs.Hearings.{take-map}
 use Rattle.ips_calls.specs.Replies.{EndpointReply, ofChannel, replyOf}
 use Rattle.endpoint.specs.Lent.{Lent, worldIn, afterIn}
 use Rattle.endpoint.specs.Calls.{PerformedIn}
 use Rattle.endpoint.specs.Ran.{RanIn, over, ran}
+use Rattle.endpoint.proofs.Refused.{calls-coincide-in}
 use Rattle.handful.specs.declared.HandfulAnswer.{HandfulAnswer}
-use Rattle.handful.specs.Handful.{Handful, Offer, offersOf, callOf, answerTo, answersTo, leftBy, numberOf, answerOf, HandedIn}
+use Rattle.handful.specs.Handful.{Handful, Offer, offersOf, callOf, answerTo, answersTo, leftBy, HandedIn}
 use Rattle.handful.proofs.Offering.{after-fits}
 use Rattle.handful_laws.specs.Plain.{callAt, offersIn, saidBy, Proper}
 use Rattle.handful_laws.proofs.Saying.{said-is, numbers-say, byte-fitting}
@@ -24,22 +26,12 @@ use Rattle.handful_laws.proofs.Cutting.{offers-count, offer-at, offers-
 use Rattle.handful_laws.proofs.Judging.{passed-proper, offered-tested}
 
 -- ---- any calls on words come to one outcome
-abbrev repliesAll : List Call → Lent → List EndpointReply
-repliesAll [] l = []
-repliesAll (c ∷ cs) l = replyOf c (worldIn l) ∷ repliesAll cs (afterIn c l)
-
-abbrev leftAll : List Call → Lent → Lent
-leftAll [] l = l
-leftAll (c ∷ cs) l = leftAll cs (afterIn c l)
-
-ran-all : {l last : Lent} {cs : List Call} {xs : List EndpointReply} → RanIn l cs xs last → (xs ≡ repliesAll cs l) × (last ≡ leftAll cs l)
-ran-all over = (refl, refl)
-ran-all (ran {cs} h more) =
-    let rest = ran-all more in
-    (ap₂ (λ (x : EndpointReply) (xs : List EndpointReply). x ∷ xs) (h .reply-is) (rest .0 ∙ ap (repliesAll cs) (h .lent-is)), rest .1 ∙ ap (leftAll cs) (h .lent-is))
-
 pub runs-one : {l last last′ : Lent} {cs : List Call} {xs ys : List EndpointReply} → RanIn l cs xs last → RanIn l cs ys last′ → (xs ≡ ys) × (last ≡ last′)
-runs-one a b = (ran-all a .0 ∙ sym (ran-all b .0), ran-all a .1 ∙ sym (ran-all b .1))
+runs-one over over = (refl, refl)
+runs-one (ran h more) (ran k rest) =
+    let same = calls-coincide-in h k in
+    let behind = runs-one more (rw (← (same .1)) at rest) in
+    (rw (same .0, behind .0), behind .1)
 
 -- ---- some offers, one by one
 abbrev told : ℕ → EndpointReply
@@ -63,11 +55,6 @@ answers-at time (o ∷ os) l (suc i) none inside = answers-at time os (afterIn (
 all-said : (bytes : List ℕ) → map saidBy bytes ≡ map told bytes
 all-said [] = refl
 all-said (byte ∷ bytes) = ap₂ (λ (x : EndpointReply) (xs : List EndpointReply). x ∷ xs) (said-is byte) (all-said bytes)
-
-take-map : {A B : Type 0} (f : A → B) (i : ℕ) (xs : List A) → take i (map f xs) ≡ map f (take i xs)
-take-map f zero xs = refl
-take-map f (suc i) [] = refl
-take-map f (suc i) (x ∷ xs) = ap (λ (ys : List _). f x ∷ ys) (take-map f i xs)
 
 take-tabulate : {A : Type 0} (i n : ℕ) (f : ℕ → A) → i ≤ n → take i (tabulate n f) ≡ tabulate i f
 unfolding tabulate

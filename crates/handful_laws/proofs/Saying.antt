@@ -14,12 +14,12 @@ use Rattle.ips_channel_rules.specs.Machine.{machine}
 use Rattle.ips_channel_rules.specs.Exactly.{Offered, offered-not-ipv6, offered-long, offered-early, offered-past, offered-full, offered-taken}
 use Rattle.ips_channel_rules.proofs.Exact as rules
 use Rattle.ips_channel_calls.specs.declared.offering.OfferAnswer.{OfferAnswer}
-use Rattle.ips_channel_calls.specs.Calls.{offerAnswer, offered}
+use Rattle.ips_channel_calls.specs.Calls.{offerAnswer, offered, numberOf, answerOf}
 use Rattle.ips_state.specs.Memory.{World, worldFits, indexIn}
 use Rattle.ips_run.specs.Calling.{termsIn, conditionIn, WorldResult, Judged, outside, unknown, served}
 use Rattle.ips_run.proofs.Exact.{judged, exactly-nineteen}
 use Rattle.ips_calls.specs.Replies.{ofChannel}
-use Rattle.handful.specs.Handful.{Offer, answerTo, numberOf, answerOf}
+use Rattle.handful.specs.Handful.{Offer, answerTo}
 use Rattle.handful_laws.specs.Plain.{Said, says-taken, says-number, says-nineteen, saidBy}
 
 -- ---- the bytes in literal numbers
@@ -27,10 +27,12 @@ pub byte-rows : (answerOf 0 ≡ OfferAnswer.Taken)
     × (answerOf 12 ≡ OfferAnswer.Refused (record { number = 12; place = 0 })) × (answerOf 13 ≡ OfferAnswer.Refused (record { number = 13; place = 0 }))
     × (answerOf 14 ≡ OfferAnswer.Refused (record { number = 14; place = 0 })) × (answerOf 15 ≡ OfferAnswer.Refused (record { number = 15; place = 0 }))
     × (answerOf 16 ≡ OfferAnswer.Refused (record { number = 16; place = 0 })) × (answerOf 17 ≡ OfferAnswer.Refused (record { number = 17; place = 0 }))
+unfolding answerOf
 byte-rows = (refl, refl, refl, refl, refl, refl, refl)
 
 -- every byte says one reply, by its number alone
 pub said-is : (byte : ℕ) → saidBy byte ≡ ofChannel (offered (answerOf byte))
+unfolding answerOf
 said-is zero = refl
 said-is (suc n) = rw (eqb·suc-zero n)
 
@@ -66,6 +68,7 @@ module _ (time : ℕ) (o : Offer) (w : World) where
       go says-nineteen = omega arith
 
 said-so : {n : ℕ} {a : OfferAnswer} → Said n a → answerOf n ≡ a
+unfolding answerOf
 said-so says-taken = refl
 said-so (says-number n low high) = rw (ne-eqb n 0 (λ e. omega arith))
 said-so says-nineteen = refl

@@ -38,32 +38,23 @@ use Rattle.ips_run.proofs.Serving.{ready, at-same, store-same, at-other, store-
 use Rattle.endpoint.specs.Calls.{movedAt}
 use Rattle.endpoint.specs.Lent.{Lent, worldIn, afterIn}
 use Rattle.handful.specs.Handful.{Handful, Offer, callOf, answerTo, leftBy, offersOf}
-use Rattle.handful.specs.Offering as offering
-use Rattle.handful.specs.Offering.{movedIn, movedBy, OfferedEach}
+use Rattle.handful.specs.Offering.{movedIn, movedBy, Tested, OfferedEach}
 use Rattle.handful.proofs.Offering.{after-is, after-order}
 use Rattle.handful_moves.specs.HandfulMoves.{countIn, waitingAt, isAt, movedThere, movedWithin, sumBelow, joiningThere, joiningWithin, leavingFor, stretchesWithin, LeavesWithin}
 use Rattle.handful_moves.proofs.Sums.{sum-none, sum-both, sum-same, sum-most, sum-one}
 
 -- ---- once an offer is taken, all that wait last at its time
-module _ (time : ℕ) (p : Packet) (lasts : lastsAt time (p .expiry) ≡ true) where
-  alive-again : (ps : List Packet) → alive time (alive time ps ++ (p ∷ [])) ≡ alive time ps ++ (p ∷ [])
-  unfolding lasting
-  alive-again [] = rw lasts
-  alive-again (x ∷ ps) = each (lastsAt time (x .expiry)) refl (alive-again ps)
-    where
-      each : (b : Bool) → lastsAt time (x .expiry) ≡ b → alive time (alive time ps ++ (p ∷ [])) ≡ alive time ps ++ (p ∷ [])
-          → alive time (cond b (x ∷ alive time ps) (alive time ps) ++ (p ∷ [])) ≡ cond b (x ∷ alive time ps) (alive time ps) ++ (p ∷ [])
-      each true e h = rw e (ap (λ (qs : List Packet). x ∷ qs) h)
-      each false e h = h
+module _ (time : ℕ) where
+  abbrev AllLast : List Packet → Type 0
+  AllLast ps = (alive time ps ≡ ps) × (expiring time ps ≡ unchanging ps)
 
-  none-due : (ps : List Packet) → expiring time (alive time ps ++ (p ∷ [])) ≡ unchanging (alive time ps ++ (p ∷ []))
+  settled : (p : Packet) → lastsAt time (p .expiry) ≡ true → (ps : List Packet) → AllLast (alive time ps ++ (p ∷ []))
   unfolding lasting expiring unchanging
-  none-due [] = rw lasts
-  none-due (x ∷ ps) = each (lastsAt time (x .expiry)) refl (none-due ps)
+  settled p lasts [] = (rw lasts, rw lasts)
+  settled p lasts (x ∷ ps) = each (lastsAt time (x .expiry)) refl (settled p lasts ps)
     where
-      each : (b : Bool) → lastsAt time (x .expiry) ≡ b → expiring time (alive time ps ++ (p ∷ [])) ≡ unchanging (alive time ps ++ (p ∷ []))
-          → expiring time (cond b (x ∷ alive time ps) (alive time ps) ++ (p ∷ [])) ≡ unchanging (cond b (x ∷ alive time ps) (alive time ps) ++ (p ∷ []))
-      each true e h = rw e (ap (λ (xs : List Stretch). record { length = length (x .bytes); stays = true } ∷ xs) h)
+      each : (b : Bool) → lastsAt time (x .expiry) ≡ b → AllLast (alive time ps ++ (p ∷ [])) → AllLast (cond b (x ∷ alive time ps) (alive time ps) ++ (p ∷ []))
+      each true e h = (rw e (ap (λ (qs : List Packet). x ∷ qs) (h .0)), rw e (ap (λ (xs : List Stretch). record { length = length (x .bytes); stays = true } ∷ xs) (h .1)))
       each false e h = h
 
 -- ---- what one offer does to the packets that wait on a channel: nothing, or it is taken there
@@ -144,7 +135,7 @@ module _ (time : ℕ) where
       → (last ≡ (alive time ps ++ (p ∷ [])) ++ more) × (n ≡ 0)
   nothing-due p lasts ps last [] n h = (h .left-is, h .moved-is ∙ displaced-unchanging (alive time ps ++ (p ∷ [])))
   nothing-due p lasts ps last (q ∷ more) n h =
-      (h .left-is ∙ rw (alive-again time p lasts ps), h .moved-is ∙ rw (none-due time p lasts ps) (displaced-unchanging (alive time ps ++ (p ∷ []))))
+      (h .left-is ∙ rw (settled time p lasts ps .0), h .moved-is ∙ rw (settled time p lasts ps .1) (displaced-unchanging (alive time ps ++ (p ∷ []))))
 
   one-more : {p : Packet} {ps left joining : List Packet} {moved : ℕ} → Steps time p ps left joining moved → (last more : List Packet) (n : ℕ) → Leaves time left last more n
       → Leaves time ps last (joining ++ more) (moved + n)
@@ -265,7 +256,7 @@ module _ (time : ℕ) where
   moved-together os l fits = together (countIn l) os l (in-order (worldIn l) fits)
 
 -- so of what the function behind a handful says that it moved
-module _ {h : Handful} {l l′ : Lent} {answers answers′ : List ℕ} {moved : ByteCount} (judged-so : offering.Judged h l answers) (offered-each : OfferedEach h l moved l′ answers′) where
+module _ {h : Handful} {l l′ : Lent} {answers answers′ : List ℕ} {moved : ByteCount} (judged-so : Tested h l answers) (offered-each : OfferedEach h l moved l′ answers′) where
   -- it is no more than the moves of any ways, one for each channel, to bring the packets that stay to its store's start
   pub offers-least : (ms : ℕ → List Move) → ((index : ℕ) → index < countIn l → ToStart (channelIn (worldIn l) index .setting .size .0) (stretchesWithin index (h .time) (offersOf h) l) (ms index))
       → moved .0 ≤ sumBelow (λ index. length (ms index)) (countIn l)

@@ -1,8 +1,9 @@
 -- What a call on one channel and its store does, by the rules of a channel's life: the reply, the channel and every byte of the store.
 use Prim.Native.Nat.{ℕ, _<_}
-use mathlib.Core.Bool.{true}
+use mathlib.Core.Bool.{true, cond}
 use mathlib.Core.List.{List}
 use mathlib.Core.Path.{_≡_}
+use lib.Dec.{eqb}
 use lib.ListN.{length}
 use Rattle.quantity.specs.declared.count.ByteCount.{ByteCount}
 use Rattle.quantity.specs.declared.count.FlowSequence.{FlowSequence}
@@ -31,6 +32,15 @@ refusedWith number = record { number = number; place = 0 }
 abbrev pub offerAnswer : Answer Taken → OfferAnswer
 offerAnswer (refused number) = OfferAnswer.Refused (refusedWith number)
 offerAnswer (answered taken) = OfferAnswer.Taken
+
+-- the same as a byte (document 02, §5): 0 where the packet is taken, else its number of refusal
+abbrev pub numberOf : OfferAnswer → ℕ
+numberOf OfferAnswer.Taken = 0
+numberOf (OfferAnswer.Refused refusal) = refusal .number
+
+-- and the answer that such a byte says
+unfoldable pub answerOf : ℕ → OfferAnswer
+answerOf number = cond (eqb number 0) OfferAnswer.Taken (OfferAnswer.Refused (refusedWith number))
 
 abbrev pub nextAnswer : Terms → Answer Tried → NextAnswer
 nextAnswer k (refused number) = NextAnswer.Refused (refusedWith number)

@@ -24,7 +24,7 @@ use Rattle.ips_radio.specs.Heard.{statusIn, windowIn, keptInstance, hear
 use Rattle.ips_state.proofs.Channels.{getD-mapped, fitting, fitting-fits}
 use Rattle.ips_state.proofs.Places.{fit, fit-fits}
 
-take-map : {A B : Type 0} (f : A → B) (n : ℕ) (xs : List A) → take n (map f xs) ≡ map f (take n xs)
+pub take-map : {A B : Type 0} (f : A → B) (n : ℕ) (xs : List A) → take n (map f xs) ≡ map f (take n xs)
 take-map f zero xs = refl
 take-map f (suc n) [] = refl
 take-map {B = B} f (suc n) (x ∷ xs) = ap (λ (ys : List B). f x ∷ ys) (take-map f n xs)

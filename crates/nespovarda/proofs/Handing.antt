@@ -1,21 +1,18 @@
 -- An exported handful: from the call's contract and back, and that one refused leaves all that is lent. Assumes nothing.
 use Prim.Native.Nat.{ℕ, _+_}
-use mathlib.Core.Bool.{Bool, true, false, cond, _&&_}
 use mathlib.Core.List.{List}
 use mathlib.Core.Path.{_≡_, refl, ap, _∙_}
 use native.Mathlib.Omega.{arith}
-use lib.ListN.{length}
 use Rattle.answer_codes.specs.declared.Answer.{Answer}
 use Rattle.answer_codes.specs.Codes.{codeOf, OFFERED}
-use Rattle.ips_state.specs.Memory.{worldFits}
-use Rattle.endpoint.specs.Lent.{Lent, worldIn}
+use Rattle.endpoint.specs.Lent.{Lent}
 use Rattle.handful.specs.declared.HandfulAnswer.{HandfulAnswer}
-use Rattle.handful.specs.Handful.{Handful, HandedIn, isHandful}
+use Rattle.handful.specs.Handful.{Handful, HandedIn}
+use Rattle.handful_laws.proofs.Judging.{handful-keeps}
 use Rattle.nespovarda.specs.Outcomes.{handedAs}
 use Rattle.nespovarda.specs.Handing.{HandfulExported, handfulSaid}
 use Rattle.nespovarda.specs.Numbers.{numbers}
 use Rattle.nespovarda.proofs.Exporting.{no-kind, number-back}
-use Rattle.nespovarda.proofs.Numbers.{handful-told}
 
 -- ---- from the call to its export
 pub handful-exports : {h : Handful} {l : Lent} {answers : List ℕ} {x : HandfulAnswer} {l′ : Lent} {answers′ : List ℕ} → HandedIn h l answers x l′ answers′
@@ -40,14 +37,8 @@ handful-exported h = record {
 }
 
 -- ---- "with nothing taken", and every answer as it was
-offered-else : (fits is : Bool) (number place : ℕ) → numbers (256 + number) place ≡ cond fits (cond is (numbers 23 0) (numbers 280 0)) (numbers 275 0)
-    → (fits && is) ≡ false
-offered-else false is number place same = refl
-offered-else true false number place same = refl
-offered-else true true number place same = let kinds : 256 + number ≡ 23 = ap (λ (a : Answer). a .kind) same in absurd (omega (arith, kinds))
-
 pub refused-handful-keeps : {h : Handful} {l : Lent} {answers : List ℕ} {l′ : Lent} {answers′ : List ℕ} (number place : ℕ)
     → HandfulExported h l answers (numbers (256 + number) place) l′ answers′ → (l′ ≡ l) × (answers′ ≡ answers)
-refused-handful-keeps {h} {l} {answers} number place e =
-    let not = offered-else (worldFits (worldIn l)) (isHandful h (length answers)) number place (handful-told e) in
-    (e .lent-is ∙ rw not, e .answers-are ∙ rw not)
+refused-handful-keeps number place e =
+    let h = handful-exported e in
+    handful-keeps (rw (no-kind (record { number = number; place = place }) OFFERED (omega arith)) at h)

@@ -7,7 +7,8 @@ use Rattle.text.specs.Laying.{lastDigits, decimalText, Lays}
 use Rattle.message_words.specs.Saying.{Says}
 use Rattle.message_words.specs.Phrases.{tableTexts}
 use Rattle.message_words.proofs.Saying.{Saying, says-one, says-then, saying-end}
-use Rattle.session_print.specs.Answers.{OFFERED, answerOf, anotherTexts, answersTexts, offersTexts}
+use Rattle.ips_channel_calls.specs.Calls.{answerOf}
+use Rattle.session_print.specs.Answers.{OFFERED, anotherTexts, answersTexts, offersTexts}
 
 -- they are a table whose places aren't said
 abbrev pub placedTexts : ℕ → ℕ → List (List ℕ)

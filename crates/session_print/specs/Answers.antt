@@ -1,13 +1,12 @@
 -- docs/SESSION.md, "About a state": the answers.
 use Prim.Native.Nat.{ℕ}
-use mathlib.Core.Bool.{cond}
 use mathlib.Core.List.{List, [], _∷_, _++_}
-use lib.Dec.{eqb}
 use lib.ListN.{take}
 use Rattle.text.specs.Strings.{bytesText}
 use Rattle.writer.specs.declared.answer.WriteAnswer.{WriteAnswer}
 use Rattle.ips_channel_calls.specs.declared.offering.OfferAnswer.{OfferAnswer}
 use Rattle.ips_channel_calls.specs.declared.asking.NextAnswer.{NextAnswer}
+use Rattle.ips_channel_calls.specs.Calls.{answerOf}
 use Rattle.ips_state.specs.declared.StartAnswer.{StartAnswer}
 use Rattle.ips_channel_calls.specs.declared.offering.WithdrawAnswer.{WithdrawAnswer}
 use Rattle.ips_radio.specs.declared.RadioAnswer.{RadioAnswer}
@@ -84,9 +83,6 @@ offerTexts (OfferAnswer.Refused refusal) = refusedTexts refusal
 
 -- "`offered`, and then for each packet, in their order, `taken` or `refused NUMBER 0`, as `offer` would answer it": an answer is a byte, 0 where the packet is taken,
 -- else its number of refusal
-unfoldable pub answerOf : ℕ → OfferAnswer
-answerOf number = cond (eqb number 0) OfferAnswer.Taken (OfferAnswer.Refused (record { number = number; place = 0 }))
-
 abbrev pub anotherTexts : ℕ → List (List ℕ)
 anotherTexts number = SPACE ∷ offerTexts (answerOf number)
 

@@ -1,7 +1,8 @@
 // The answer to `offers`.
 ghost use mathlib.Core.Path.{_≡_};
 ghost use Rattle.message_words.specs.Saying.{Says};
-ghost use Rattle.session_print.specs.Answers.{answerOf, anotherTexts, offersTexts};
+ghost use Rattle.ips_channel_calls.specs.Calls.{answerOf};
+ghost use Rattle.session_print.specs.Answers.{anotherTexts, offersTexts};
 use crate::answers::offered;
 use ips_channel_calls::offering::OfferAnswer;
 use quantity::refusal::Refusal;

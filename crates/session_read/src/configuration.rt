@@ -91,8 +91,8 @@ pub(crate) fn configure(n: &[u64; PLACES], words: &mut [u64; CONFIGURATION_WORDS
     let pace = pace_place(n);
     let hello = perhaps(n, pace, 1, USUAL_HELLO);
     let limit = perhaps(n, pace, 2, USUAL_LIMIT);
-    // The numbers of the channels are their words.
     write_head(words, n[SAID_ID], n[SAID_COUNT], hello, limit, codes);
+    // The numbers of the channels are their words.
     lay(
         words,
         CONFIGURATION_HEAD,

@@ -1,6 +1,6 @@
 -- `offers::answer_of` meets its contract. Assumes nothing.
 use borrow.Author.Tests.{eq-eqb, ne-eqb}
-use Rattle.session_print.specs.Answers.{answerOf}
+use Rattle.ips_channel_calls.specs.Calls.{answerOf}
 use Rattle.session_print.proofs.offers.answer_of.Statement.{statement}
 use Rattle.session_print.proofs.offers.answer_of.Tie as tie
 
