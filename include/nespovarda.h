@@ -56,7 +56,7 @@ typedef struct {
 #define NESPOVARDA_KEPT 13           /* the Link Instance and the Context that the state keeps are given */
 #define NESPOVARDA_NONE_THERE 14     /* no packet waits at that position of the queue */
 #define NESPOVARDA_QUIET 15          /* no query is due, and the radio isn't silent */
-#define NESPOVARDA_QUERY_DUE 16      /* a query is due: HelloTime or more has passed since the last ask that was answered so */
+#define NESPOVARDA_QUERY_DUE 16      /* a query is due: HelloTime or more has passed since the last ask answered so */
 #define NESPOVARDA_SILENT 17         /* no radio control message was accepted for the silence limit or longer */
 #define NESPOVARDA_QUERY_DUE_SILENT 18 /* both */
 #define NESPOVARDA_PACER_SHOWN 19      /* the pacer's numbers are given */
@@ -164,7 +164,7 @@ typedef struct {
 /* A configuration: its first words, then those of each channel, in the order in which the stores stand in the memory. */
 #define NESPOVARDA_CONFIGURED_DATALINK 0 /* the Datalink ID, of 8 bits */
 #define NESPOVARDA_CONFIGURED_COUNT 1    /* how many channels, FEWEST_CHANNELS to MOST_CHANNELS */
-#define NESPOVARDA_CONFIGURED_HELLO 2    /* HelloTime: how long from an ask answered QUERY_DUE to the next, in milliseconds, not 0 */
+#define NESPOVARDA_CONFIGURED_HELLO 2    /* HelloTime: how long from an ask answered due to the next, in milliseconds, not 0 */
 #define NESPOVARDA_CONFIGURED_LIMIT 3    /* the silence limit: how long without a control message, not 0 */
 #define NESPOVARDA_CONFIGURED_CODES 4    /* which statuses 8 to 15 are operational, of 8 bits: bit status - 8; 0: none */
 #define NESPOVARDA_CONFIGURATION_HEAD 5  /* how many first words */
