@@ -54,6 +54,28 @@ module _ (ports : Ports) (original : ℕ) (frame : List ℕ) where
   unfolding kindOf
   other-type-is whole room n = simp (le-ltb (length frame) original whole, le-ltb (length frame) 14 room, ne-eqb (etherType frame) ETHERTYPE-IPV4 n)
 
+  pub not-ipv4-is : original ≤ length frame → 14 ≤ length frame → etherType frame ≡ ETHERTYPE-IPV4 → (34 ≤ length frame → versionOf (packetOf frame) ≡ 4 → ⊥)
+      → kindOf ports original frame ≡ Kind.NotIpv4
+  unfolding kindOf ipv4Kind
+  not-ipv4-is whole room e n =
+      simp (le-ltb (length frame) original whole, le-ltb (length frame) 14 room, eq-eqb (etherType frame) ETHERTYPE-IPV4 e)
+      (go _ (ltb (length (packetOf frame)) 20) refl (eqb (versionOf (packetOf frame)) 4) refl)
+    where
+      behind : 20 ≤ length (packetOf frame) → 34 ≤ length frame
+      behind h = let g : 20 ≤ length frame - 14 = simp length-drop at h in omega arith
+
+      go : (kind : Kind) (a : Bool) → ltb (length (packetOf frame)) 20 ≡ a → (b : Bool) → eqb (versionOf (packetOf frame)) 4 ≡ b
+          → cond a Kind.NotIpv4 (cond b kind Kind.NotIpv4) ≡ Kind.NotIpv4
+      go kind true pa b pb = refl
+      go kind false pa false pb = refl
+      go kind false pa true pb = absurd (n (behind (ltb-false _ _ pa)) (eqb-true _ _ pb))
+
+  pub other-protocol-is : HoldsIpv4 original frame → isFragment (packetOf frame) ≡ false → (protocolOf (packetOf frame) ≡ PROTOCOL-UDP → ⊥) → kindOf ports original frame ≡ Kind.OtherProtocol
+  unfolding ipv4Kind
+  other-protocol-is k e n =
+      let packet = packetOf frame in
+      ipv4-is k ∙ simp (le-ltb (length packet) 20 (room-is k), eq-eqb (versionOf packet) 4 (k .version), e, ne-eqb (protocolOf packet) PROTOCOL-UDP n)
+
   pub ipv4-length-is : HoldsIpv4 original frame → isFragment (packetOf frame) ≡ false → protocolOf (packetOf frame) ≡ PROTOCOL-UDP
       → (20 ≤ headerSize (packetOf frame) → headerSize (packetOf frame) ≤ totalLength (packetOf frame) → totalLength (packetOf frame) ≤ length (packetOf frame) → ⊥)
       → kindOf ports original frame ≡ Kind.Ipv4Length

@@ -13,7 +13,7 @@ use Rattle.ethernet.specs.declared.Kind.{Kind}
 use Rattle.ethernet.specs.declared.Ports.{Ports}
 use Rattle.ethernet.specs.Layers.{packetOf, headerSize, totalLength, isFragment, carriedOf, destinationPort, udpLength, datagramOf}
 use Rattle.ethernet.specs.Kinds.{kindOf, portKind, HoldsIpv4, HoldsUdp}
-use Rattle.ethernet.proofs.Exactly.{HoldsLengths, fragment-is, other-type-is, ipv4-length-is, udp-length-is, udp-is, in-layers}
+use Rattle.ethernet.proofs.Exactly.{HoldsLengths, fragment-is, other-type-is, not-ipv4-is, other-protocol-is, ipv4-length-is, udp-length-is, udp-is, in-layers}
 
 -- what IPv4 carries of a packet that is put together from its header and the rest
 carried-is : (packet head rest : List ℕ) → packet ≡ head ++ rest → length head ≡ headerSize packet → length head ≤ totalLength packet
@@ -135,6 +135,13 @@ module _ (d₁ d₂ d₃ d₄ d₅ d₆ s₁ s₂ s₃ s₄ s₅ s₆ : ℕ) (po
   type-skipped e f packet byte other whole =
       other-type-is ports original (d₁ ∷ d₂ ∷ d₃ ∷ d₄ ∷ d₅ ∷ d₆ ∷ s₁ ∷ s₂ ∷ s₃ ∷ s₄ ∷ s₅ ∷ s₆ ∷ e ∷ f ∷ packet) (omega arith) (omega arith) (λ z. other (omega arith) (omega arith))
 
+  -- fewer than 20 bytes behind EtherType 08 00, or a first byte outside 64 to 79: a version other than 4
+  pub version-skipped : (v : ℕ) (packet : List ℕ) → (20 ≤ 1 + length packet → 64 ≤ v → v ≤ 79 → ⊥) → original ≤ 15 + length packet
+      → kindOf ports original (d₁ ∷ d₂ ∷ d₃ ∷ d₄ ∷ d₅ ∷ d₆ ∷ s₁ ∷ s₂ ∷ s₃ ∷ s₄ ∷ s₅ ∷ s₆ ∷ 8 ∷ 0 ∷ v ∷ packet) ≡ Kind.NotIpv4
+  version-skipped v packet other whole =
+      not-ipv4-is ports original (d₁ ∷ d₂ ∷ d₃ ∷ d₄ ∷ d₅ ∷ d₆ ∷ s₁ ∷ s₂ ∷ s₃ ∷ s₄ ∷ s₅ ∷ s₆ ∷ 8 ∷ 0 ∷ v ∷ packet) (omega arith) (omega arith) refl
+      (λ room e. other (omega arith) (omega arith) (omega arith))
+
   module _ (w t h l i j f o ttl protocol : ℕ) (rest : List ℕ) (high : w < 16) (room : 10 ≤ length rest) (whole : original ≤ 24 + length rest) where
     abbrev record′ : List ℕ
     record′ = d₁ ∷ d₂ ∷ d₃ ∷ d₄ ∷ d₅ ∷ d₆ ∷ s₁ ∷ s₂ ∷ s₃ ∷ s₄ ∷ s₅ ∷ s₆ ∷ 8 ∷ 0 ∷ (64 + w) ∷ t ∷ h ∷ l ∷ i ∷ j ∷ f ∷ o ∷ ttl ∷ protocol ∷ rest
@@ -142,19 +149,35 @@ module _ (d₁ d₂ d₃ d₄ d₅ d₆ s₁ s₂ s₃ s₄ s₅ s₆ : ℕ) (po
     is-ipv4 : HoldsIpv4 original record′
     is-ipv4 = record { whole = omega arith; room = omega arith; ether = refl; version = omega arith }
 
+    in-one-piece : f % 64 ≡ 0 → o ≡ 0 → isFragment (packetOf record′) ≡ false
+    in-one-piece clear none = fragment-bits (packetOf record′) ∙ rw (eq-eqb ((f * 256 + o) % 16384) 0 (omega arith))
+
     -- More Fragments (32), or a bit of the offset, whatever the protocol
     pub fragment-skipped : o < 256 → (f % 64 ≡ 0 → o ≡ 0 → ⊥) → kindOf ports original record′ ≡ Kind.Fragment
     fragment-skipped byte set =
         fragment-is ports original record′ is-ipv4
         (fragment-bits (packetOf record′) ∙ rw (ne-eqb ((f * 256 + o) % 16384) 0 (λ z. set (omega arith) (omega arith))))
 
-    -- a total length above the record behind its 14 bytes
-    pub total-skipped : f % 64 ≡ 0 → o ≡ 0 → protocol ≡ 17 → 10 + length rest < h * 256 + l → kindOf ports original record′ ≡ Kind.Ipv4Length
-    total-skipped clear none udp above =
-        ipv4-length-is ports original record′ is-ipv4
-        (fragment-bits (packetOf record′) ∙ rw (eq-eqb ((f * 256 + o) % 16384) 0 (omega arith)))
-        udp
-        (λ x y z. omega arith)
+    -- a protocol other than 17
+    pub protocol-skipped : f % 64 ≡ 0 → o ≡ 0 → (protocol ≡ 17 → ⊥) → kindOf ports original record′ ≡ Kind.OtherProtocol
+    protocol-skipped clear none other = other-protocol-is ports original record′ is-ipv4 (in-one-piece clear none) other
+
+    -- a header under 5 words, or over the total length; a total length above the record behind its 14 bytes
+    pub lengths-skipped : f % 64 ≡ 0 → o ≡ 0 → protocol ≡ 17 → (5 ≤ w → 4 * w ≤ h * 256 + l → h * 256 + l ≤ 10 + length rest → ⊥)
+        → kindOf ports original record′ ≡ Kind.Ipv4Length
+    lengths-skipped clear none udp unfit =
+        ipv4-length-is ports original record′ is-ipv4 (in-one-piece clear none) udp (λ x y z. unfit (omega arith) (omega arith) (omega arith))
+
+-- "to two ports (the destination tells the direction ..)": the radio's before the IPS end's, and any other
+pub port-kinds : (ports : Ports) (port : ℕ)
+    → (port ≡ ports .radio → portKind ports port ≡ Kind.Ips)
+    × ((port ≡ ports .radio → ⊥) → port ≡ ports .ips → portKind ports port ≡ Kind.Radio)
+    × ((port ≡ ports .radio → ⊥) → (port ≡ ports .ips → ⊥) → portKind ports port ≡ Kind.OtherPort)
+port-kinds ports port = (
+  λ e. rw (eq-eqb port (ports .radio) e),
+  λ n e. rw (ne-eqb port (ports .radio) n, eq-eqb port (ports .ips) e),
+  λ n m. rw (ne-eqb port (ports .radio) n, ne-eqb port (ports .ips) m),
+)
 
 carried-most : (packet : List ℕ) → length (carriedOf packet) ≤ totalLength packet - headerSize packet
 unfolding carriedOf slice
