@@ -7,3 +7,5 @@ pub mod Signs
 pub mod Decimals
 pub mod Hexadecimal
 pub mod Inverse
+-- Words byte by byte.
+pub mod Rows
