@@ -1,11 +1,12 @@
 -- Which three numbers are taken, as they stand, and which not, in literal numbers. Assumes nothing.
 use mathlib.Core.Bool.{Bool, true, false, not, _&&_, and-eq-true-iff}
-use mathlib.Core.Path.{_≡_, refl}
+use mathlib.Core.Path.{_≡_, refl, sym}
 use Prim.Native.Nat.{ℕ, _≤_, _<_}
 use lib.Dec.{leb, eqb}
 use borrow.Author.Tests.{leb-true, eqb-false, not-true, le-leb, lt-leb, eq-eqb, ne-eqb}
 use Rattle.facts.proofs.Tests.{clash}
-use Rattle.capture_words.specs.Settings.{settingOf, refusedOf, allowed, numbersSay}
+use Rattle.text.specs.declared.Number.the-variants.{Value}
+use Rattle.capture_words.specs.Settings.{settingOf, refusedOf, allowed, numbersSay, wordsSay}
 
 module _ (radio ips datalink : ℕ) where
   pub radio-over : 65535 < radio → refusedOf ≡ numbersSay radio ips datalink
@@ -28,6 +29,12 @@ module _ (radio ips datalink : ℕ) where
   pub numbers-taken : radio ≤ 65535 → ips ≤ 65535 → datalink ≤ 255 → (radio ≡ ips → ⊥) → settingOf true radio ips datalink ≡ numbersSay radio ips datalink
   unfolding numbersSay
   numbers-taken r i d n = rw (le-leb radio 65535 r, le-leb ips 65535 i, le-leb datalink 255 d, ne-eqb radio ips n)
+
+  -- RADIO-PORT IPS-PORT DATALINK: which word is whose
+  pub words-taken : radio ≤ 65535 → ips ≤ 65535 → datalink ≤ 255 → (radio ≡ ips → ⊥)
+      → wordsSay (Value radio) (Value ips) (Value datalink) ≡ record { good = true; ports = record { radio = radio; ips = ips }; id = record { 0 = datalink } }
+  unfolding wordsSay
+  words-taken r i d n = sym (numbers-taken r i d n)
 
   -- and nothing else is taken
   pub taken-within : numbersSay radio ips datalink .good ≡ true → (radio ≤ 65535) × (ips ≤ 65535) × (datalink ≤ 255) × (radio ≡ ips → ⊥)
