@@ -19,7 +19,8 @@ use Rattle.radio_end_state.specs.Limits as limits
 use Rattle.radio_end_state.specs.Message.{messageOf, messageBytes}
 use Rattle.radio_end_state.specs.declared.answer.Answer.{Answer}
 use Rattle.radio_end_state.specs.Calls.{After}
-use Rattle.radio_end_laws.specs.Given.{EachCall, Leaves}
+use Rattle.radio_end_state.specs.Each.{EachCall}
+use Rattle.radio_end_laws.specs.Given.{Leaves}
 use Rattle.radio_end_laws.proofs.Kept.{call-leaves}
 use Rattle.radio_end_laws.proofs.Message.{message-short, tells-back}
 use Rattle.ips_state.specs.Limits.{stateFits}

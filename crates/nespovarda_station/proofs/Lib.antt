@@ -3,3 +3,4 @@ pub mod Coincide
 pub mod Numbers
 pub mod Showing
 pub mod Ran
+pub mod Refused

@@ -9,15 +9,19 @@ use borrow.Author.Tests.{ne-eqb}
 use Rattle.meaning.specs.declared.message.Instance.{Instance}
 use Rattle.meaning.specs.declared.message.Context.{Context}
 use Rattle.meaning.specs.declared.message.Window.{Window}
+use Rattle.answer_codes.specs.declared.Answer.{Answer}
 use Rattle.lent_messages.specs.Stated.{windowStated}
 use Rattle.radio_flow.specs.declared.Highest.{Highest}
 use Rattle.radio_end_words.specs.Words.{highestTag, highestValue}
 use Rattle.radio_end_state.specs.declared.channel.Channel.{Channel}
 use Rattle.radio_end_state.specs.Channel.{windowNow}
+use Rattle.radio_end_state.specs.State.{State, channelAt}
+use Rattle.radio_end_state.specs.Limits.{isConfigured, indexIn}
+use Rattle.radio_end_run.proofs.Places.{lacks-it, has-it}
 use Rattle.radio_end.specs.Shown.{wordsNeeded}
 use Rattle.nespovarda_station.specs.Named.{saysNone, instanceSaid, contextSaid}
-use Rattle.nespovarda_station.specs.Shown.{channelNumbers}
-use Rattle.nespovarda_station.specs.Numbers.{Numbers, wordsNumber, windowNumbers, highestNumbers, sixNumbers, NamedExactly}
+use Rattle.nespovarda_station.specs.Shown.{channelNumbers, ShowsChannel}
+use Rattle.nespovarda_station.specs.Numbers.{Numbers, wordsNumber, windowNumbers, highestNumbers, sixNumbers, ShownExactly, NamedExactly}
 
 pub numbers-exactly : Numbers
 numbers-exactly = record {
@@ -43,11 +47,22 @@ highest-exactly : (highest : Highest) (rest : List ℕ) → highestTag highest �
 highest-exactly Highest.Unheard rest = refl
 highest-exactly (Highest.At sequence) rest = refl
 
-pub shown-exactly : (c : Channel) → channelNumbers c ≡ sixNumbers c
-shown-exactly c =
+six-numbers : (c : Channel) → channelNumbers c ≡ sixNumbers c
+six-numbers c =
     ap (λ (xs : List ℕ). c .status ∷ xs)
     (window-exactly (windowNow c) (highestTag (c .highest) ∷ highestValue (c .highest) ∷ c .queued .0 ∷ [])
     ∙ ap (λ (xs : List ℕ). windowNumbers (windowNow c) xs) (highest-exactly (c .highest) (c .queued .0 ∷ [])))
+
+pub shown-exactly : {s : State} {id : ℕ} {before : List ℕ} {r : Answer} {after : List ℕ} → ShowsChannel s id before r after → ShownExactly s id before r after
+shown-exactly {s} {id} h = record {
+  shows = λ fits index inside is.
+      let found : (isConfigured s id ≡ true) × (indexIn s id ≡ index) = rw is at (has-it s fits index inside) in
+      (h .answer-is ∙ rw (fits, found .0), h .numbers-are ∙ rw (fits, found .0, found .1) (six-numbers (channelAt s index)));
+  lacks = λ fits none.
+      let lacking = lacks-it s id none in
+      (h .answer-is ∙ rw (fits, lacking), h .numbers-are ∙ rw (fits, lacking));
+  outside = λ unfit. (h .answer-is ∙ rw unfit, h .numbers-are ∙ rw unfit);
+}
 
 and-false : (a : Bool) → (a && false) ≡ false
 and-false true = refl

@@ -1,9 +1,10 @@
 -- THE NUMBERS THAT A CALLER SEES, in literals: what C's header and other languages write down for themselves.
-use Prim.Native.Nat.{ℕ, _+_, _*_}
-use mathlib.Core.Bool.{cond, _&&_}
+use Prim.Native.Nat.{ℕ, _+_, _*_, _<_}
+use mathlib.Core.Bool.{true, false, cond, _&&_}
 use mathlib.Core.List.{List, [], _∷_}
 use mathlib.Core.Path.{_≡_}
 use lib.Dec.{leb}
+use lib.ListN.{length}
 use Rattle.quantity.specs.declared.refusal.Refusal.{Refusal}
 use Rattle.meaning.specs.declared.message.Instance.{Instance}
 use Rattle.meaning.specs.declared.message.Context.{Context}
@@ -14,6 +15,8 @@ use Rattle.radio_flow.specs.declared.Highest.{Highest}
 use Rattle.radio_end_state.specs.declared.answer.Answer.{Answer}
 use Rattle.radio_end_state.specs.declared.channel.Channel.{Channel}
 use Rattle.radio_end_state.specs.Channel.{windowNow}
+use Rattle.radio_end_state.specs.State.{State, channelAt}
+use Rattle.radio_end_state.specs.Limits.{stateFits}
 use Rattle.radio_end_start.specs.declared.StartAnswer.{StartAnswer}
 use Rattle.nespovarda_station.specs.Outcomes.{startedAs, saidAs}
 use Rattle.nespovarda_station.specs.Named.{instanceSaid, contextSaid}
@@ -50,6 +53,12 @@ highestNumbers (Highest.At sequence) rest = 1 ∷ sequence .0 ∷ rest
 
 abbrev pub sixNumbers : Channel → List ℕ
 sixNumbers c = c .status ∷ windowNumbers (windowNow c) (highestNumbers (c .highest) (c .queued .0 ∷ []))
+
+-- of the channel that has the ID; where none has it 256 and 12, outside the limits 256 and 19, and then the numbers are as they were
+pub record ShownExactly (s : State) (id : ℕ) (before : List ℕ) (r : codes.Answer) (after : List ℕ) : Type 0 where
+  pub shows : stateFits s ≡ true → (index : ℕ) → index < length (s .channels) → channelAt s index .setting .id ≡ id → (r ≡ numbers 12 0) × (after ≡ sixNumbers (channelAt s index))
+  pub lacks : stateFits s ≡ true → ((index : ℕ) → index < length (s .channels) → channelAt s index .setting .id ≡ id → ⊥) → (r ≡ numbers 268 0) × (after ≡ before)
+  pub outside : stateFits s ≡ false → (r ≡ numbers 275 0) × (after ≡ before)
 
 -- ---- what two numbers say of a Link Instance and of a Context (`named-exactly`): 0 and 0 none; else the value at its length, a length of 0 too, which 20 refuses
 pub record NamedExactly : Type 0 where

@@ -5,12 +5,13 @@ use mathlib.Core.List.{List}
 use mathlib.Core.Path.{_≡_, refl, ap, _∙_}
 use native.Mathlib.Omega.{arith}
 use borrow.Author.Tests.{le-leb, lt-leb}
+use lib.ListN.{length}
 use Rattle.quantity.specs.Limits.{FEWEST-CHANNELS, MOST-CHANNELS}
 use Rattle.quantity.specs.Refusals.{NO-CHANNEL, OUTSIDE-LIMITS}
 use Rattle.radio_end_state.specs.declared.channel.Channel.{Channel}
 use Rattle.radio_end_state.specs.State.{State, channelAt}
 use Rattle.radio_end_state.specs.Limits.{stateFits, isConfigured, indexIn}
-use Rattle.radio_end_run.proofs.Places.{id-at}
+use Rattle.radio_end_run.proofs.Places.{id-at, lacks-it, has-it}
 use Rattle.radio_end_words.specs.Words.{stateIn, Placed}
 use Rattle.radio_end_telling.specs.declared.locate.Found.{Found}
 use Rattle.radio_end_telling.specs.Left.{foundOf}
@@ -93,3 +94,14 @@ module _ (s : State) (id : ℕ) where
           let at : refusedShow OUTSIDE-LIMITS ≡ ShowAnswer.Shown c = rw f at e in
           let z : _≡_ {A = ℕ} 0 1 = cc in
           absurd (omega arith)
+
+-- ---- and without an order of tests: the channel that has the ID, 12 where none has it
+module _ (s : State) (fits : stateFits s ≡ true) where
+  pub shown-at : (index : ℕ) → index < length (s .channels) → shownOf s (channelAt s index .setting .id) ≡ ShowAnswer.Shown (channelAt s index)
+  shown-at index inside =
+      let found = has-it s fits index inside in
+      shown-channel s (channelAt s index .setting .id) fits (found .0) ∙ ap (λ (i : ℕ). ShowAnswer.Shown (channelAt s i)) (found .1)
+
+  pub shown-lacking : (id : ℕ) → ((index : ℕ) → index < length (s .channels) → channelAt s index .setting .id ≡ id → ⊥)
+      → shownOf s id ≡ ShowAnswer.Refused (record { number = 12; place = 0 })
+  shown-lacking id none = shown-twelve s id fits (lacks-it s id none)

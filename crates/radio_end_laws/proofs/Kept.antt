@@ -36,7 +36,8 @@ use Rattle.radio_end_state.specs.Message.{messageBytes, differs}
 use Rattle.radio_end_state.specs.Calls.{refusedAt, statusTold, queuedTold, contextTold, linkTold, told, lacksNone, heard}
 use Rattle.radio_end_state.proofs.Fit.{channel-fit, fit-facts, fit-state}
 use Rattle.radio_end_laws.specs.Plain.{sequenceOf, onChannel, eachChannel, ofId, statusSet, queuedSet, countedSequence, controlTaken, contextSet, instanceSet}
-use Rattle.radio_end_laws.specs.Given.{EachCall, Leaves, ControlRead, DataRead, Reading, unread, control-read, data-read}
+use Rattle.radio_end_state.specs.Each.{EachCall}
+use Rattle.radio_end_laws.specs.Given.{Leaves, ControlRead, DataRead, Reading, unread, control-read, data-read}
 use Rattle.radio_end_laws.proofs.Ordered.{Speaks, answered-speaks, unasked-speaks, refused-silent, ordered, ordered-state, ordered-message}
 use Rattle.radio_end_laws.proofs.Changed.{getD-map}
 use Rattle.radio_end_laws.proofs.Exactly.{status-ordered, queued-ordered, context-ordered, link-ordered, tell-ordered}

@@ -1,6 +1,5 @@
--- The laws of the calls: `Keeps` of refusals, `Limits` of number 19, `Message` of what the message says, `Differs` of where it is written, `Exactly` and `Heard` of each
+-- The laws of the calls: `Limits` of number 19, `Message` of what the message says, `Differs` of where it is written, `Exactly` and `Heard` of each
 -- answer, `Kept` of the limits, `Fresh` of the message after a start, `Words` of words, `Rows` in literal bytes; `Places`, `Ordered` and `Changed` serve them.
-pub mod Keeps
 pub mod Places
 pub mod Limits
 pub mod Message

@@ -18,7 +18,8 @@ use Rattle.radio_end_state.specs.declared.answer.Answer.{Answer}
 use Rattle.radio_end_state.specs.State.{State}
 use Rattle.radio_end_state.specs.Message.{messageBytes}
 use Rattle.radio_end_state.specs.Calls.{After, refusedBy, quietly}
-use Rattle.radio_end_laws.specs.Given.{Keeps, NoRoom, Given, given-19, given-12, given-20, given-18, given-message, given-quiet, Exactly}
+use Rattle.radio_end_state.specs.Each.{Keeps}
+use Rattle.radio_end_laws.specs.Given.{NoRoom, Given, given-19, given-12, given-20, given-18, given-message, given-quiet, Exactly}
 
 -- a test fails if what it tells doesn't hold
 pub off : (b : Bool) {T : Type 0} → (b ≡ true) ↔ T → (T → ⊥) → b ≡ false

@@ -10,8 +10,6 @@ use Rattle.quantity.specs.declared.count.DatalinkId.{DatalinkId}
 use Rattle.quantity.specs.declared.refusal.Refusal.{Refusal}
 use Rattle.wire.specs.Options.{over}
 use Rattle.meaning.specs.declared.message.End.the-variants as ends
-use Rattle.meaning.specs.declared.message.Instance.{Instance}
-use Rattle.meaning.specs.declared.message.Context.{Context}
 use Rattle.meaning.specs.declared.message.Control.{Control}
 use Rattle.meaning.specs.declared.message.Data.{Data}
 use Rattle.reader.specs.Readings.{Verdict, readControl, readData, planeOf}
@@ -20,24 +18,12 @@ use Rattle.radio_end_state.specs.declared.answer.Answer.{Answer}
 use Rattle.radio_end_state.specs.State.{State}
 use Rattle.radio_end_state.specs.Message.{messageBytes}
 use Rattle.radio_end_state.specs.Limits.{stateFits}
-use Rattle.radio_end_state.specs.Calls.{After, statusTold, queuedTold, contextTold, linkTold, told, heard}
+use Rattle.radio_end_state.specs.Calls.{After}
+use Rattle.radio_end_state.specs.Each.{Keeps}
 
 -- place: "0 for all others"
 abbrev pub numbered : ℕ → Answer
 numbered number = Answer.Refused (record { number = number; place = 0 })
-
--- a refusal leaves state and output as they were
-abbrev pub Keeps : State → List ℕ → After → Type 0
-Keeps s out r = (refusal : Refusal) → r .answer ≡ Answer.Refused refusal → (r .state ≡ s) × (r .output ≡ out)
-
--- ---- what holds of every call, on datagrams of a kind
-pub record EachCall (Of : List ℕ → Type 0) (s : State) (out : List ℕ) (P : After → Type 0) : Type 0 where
-  pub status : (id value : ℕ) → P (statusTold s id value out)
-  pub queued : (id : ℕ) (bytes : ByteCount) → P (queuedTold s id bytes out)
-  pub context : (context : Context) → P (contextTold s context out)
-  pub link : (instance : Instance) → P (linkTold s instance out)
-  pub tell : P (told s out)
-  pub hear : (datagram : List ℕ) → Of datagram → P (heard s datagram out)
 
 -- a call leaves a state within the limits, of the same Datalink ID; a message that it writes is that of the state that it leaves, all of it
 pub record Leaves (s : State) (out : List ℕ) (r : After) : Type 0 where

@@ -1,10 +1,10 @@
--- One channel of a state within the limits is changed, the others stand. Assumes nothing.
+-- Which channel has an ID; one channel of a state within the limits is changed, the others stand. Assumes nothing.
 use Prim.Native.Nat.{ℕ, zero, suc, _<_}
 use mathlib.Core.Bool.{Bool, true, false, cond}
 use mathlib.Core.List.{List, [], _∷_, map}
 use mathlib.Core.Path.{_≡_, refl, sym, ap, _∙_}
 use native.Mathlib.Omega.{arith}
-use borrow.Author.Tests.{eqb-true, eqb-false, ltb-true}
+use borrow.Author.Tests.{eqb-true, eqb-false, ltb-true, lt-ltb}
 use lib.Dec.{eqb}
 use lib.ListN.{length, getD}
 use lib.Seq.{getD-set-same, getD-set-other}
@@ -30,6 +30,17 @@ pub id-at : (s : State) (id : ℕ) → isConfigured s id ≡ true → channelAt 
 unfolding hasId channelAt
 id-at s id has = sym (ids-at (s .channels) (indexIn s id)) ∙ id-there id (ids (s .channels)) (ltb-true _ _ has)
 
+-- an ID that no channel has is not configured
+pub lacks-it : (s : State) (id : ℕ) → ((index : ℕ) → index < length (s .channels) → channelAt s index .setting .id ≡ id → ⊥) → isConfigured s id ≡ false
+unfolding hasId
+lacks-it s id none = go (isConfigured s id) refl
+  where
+    go : (b : Bool) → isConfigured s id ≡ b → isConfigured s id ≡ false
+    go true e =
+        let inside : indexIn s id < length (ids (s .channels)) = ltb-true (indexIn s id) (length (ids (s .channels))) e in
+        absurd (none (indexIn s id) (omega (arith, inside, ids-length (s .channels))) (id-at s id e))
+    go false e = e
+
 pub getD-map : (f : Channel → Channel) (cs : List Channel) (i : ℕ) → i < length cs → getD (map f cs) i noChannel ≡ f (getD cs i noChannel)
 getD-map f [] i h = absurd (omega arith)
 getD-map f (c ∷ cs) zero h = refl
@@ -54,6 +65,13 @@ module _ (s : State) (fits : stateFits s ≡ true) where
   own-place i h =
       let inside : i < length (ids (s .channels)) = omega (arith, ids-length (s .channels)) in
       rw (← (ids-at (s .channels) i)) (eqb-true _ _ (up-to-at (standsFirst (ids (s .channels))) (length (ids (s .channels))) (fit-facts s fits .apart) i inside))
+
+  -- the channel at an index is found by its ID
+  pub has-it : (index : ℕ) → index < length (s .channels) → (isConfigured s (channelAt s index .setting .id) ≡ true) × (indexIn s (channelAt s index .setting .id) ≡ index)
+  unfolding hasId
+  has-it index h =
+      let here = own-place index h in
+      (lt-ltb (indexIn s (channelAt s index .setting .id)) (length (ids (s .channels))) (omega (arith, here, h, ids-length (s .channels))), here)
 
   pub change-at : (id : ℕ) → isConfigured s id ≡ true → (f : Channel → Channel) (i : ℕ) → i < length (s .channels)
       → channelAt (withChannel s (indexIn s id) (f (channelAt s (indexIn s id)))) i ≡ cond (eqb id (channelAt s i .setting .id)) (f (channelAt s i)) (channelAt s i)

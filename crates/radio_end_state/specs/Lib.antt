@@ -3,3 +3,4 @@ pub mod State
 pub mod Limits
 pub mod Message
 pub mod Calls
+pub mod Each

@@ -16,12 +16,12 @@ use Rattle.writable.specs.Allowed.{instanceAllowed, contextAllowed}
 use Rattle.writer.specs.Written.{noRoom}
 use Rattle.reader.specs.Readings.{Verdict, readControl, readData, planeOf}
 use Rattle.reader.specs.declared.answer.PlaneAnswer.{PlaneAnswer}
 use Rattle.radio_end_state.specs.declared.answer.Answer.{Answer}
 use Rattle.radio_end_state.specs.State.{State}
 use Rattle.radio_end_state.specs.Limits.{stateFits, isConfigured}
 use Rattle.radio_end_state.specs.Message.{messageBytes, differs}
 use Rattle.radio_end_state.specs.Calls.{After, refusedAt, telling, quietly, settling, statusTold, queuedTold, contextTold, linkTold, told, lacksNone, channelNamed, controlHeard, dataHeard, byVerdict, byPlane, heard}
-use Rattle.radio_end_laws.specs.Given.{Keeps, EachCall}
+use Rattle.radio_end_state.specs.Each.{EachCall, Keeps}
 
 module _ (s : State) (out : List ℕ) where
   refused : (refusal : Refusal) → Keeps s out (refusedAt refusal s out)
@@ -91,3 +91,14 @@ module _ (s : State) (out : List ℕ) where
   -- A REFUSAL of any call leaves state and output as they were
   pub refused-keeps : EachCall (λ datagram. Unit {0}) s out (Keeps s out)
   refused-keeps = record { status = status-keeps; queued = queued-keeps; context = context-keeps; link = link-keeps; tell = tell-keeps; hear = λ datagram of. heard-keeps datagram }
+
+-- what follows of one call follows of each
+pub each-by : {Of : List ℕ → Type 0} {s : State} {out : List ℕ} {P Q : After → Type 0} → ((after : After) → P after → Q after) → EachCall Of s out P → EachCall Of s out Q
+each-by f e = record {
+  status = λ id value. f _ (e .status id value);
+  queued = λ id bytes. f _ (e .queued id bytes);
+  context = λ context. f _ (e .context context);
+  link = λ instance. f _ (e .link instance);
+  tell = f _ (e .tell);
+  hear = λ datagram of. f _ (e .hear datagram of);
+}
