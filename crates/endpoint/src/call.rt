@@ -94,15 +94,22 @@ fn next_refused(answer: NextAnswer) -> bool
     }
 }
 
+// The answer to an ask, and how many bytes were moved within the store.
+struct PacketAsked {
+    answer: NextAnswer,
+    moved: ByteCount,
+}
+
 fn next_at(
     words: &mut [u64],
     memory: &mut [u8],
     found: Found,
     time: u64,
     out: &mut [u8],
-) -> NextAnswer
+) -> PacketAsked
     requires { ⌜ Located (worldIn (lent (now words) (now memory))) found ⌝ }
-    ensures { λ r. ⌜ PerformedInAt (rules.next time (now (out .entry))) (lent (now (words .entry)) (now (memory .entry))) (found .index) (asked r (now (out .exit))) (lent (now (words .exit)) (now (memory .exit))) ⌝ }
+    ensures { λ r. ⌜ PerformedInAt (rules.next time (now (out .entry))) (lent (now (words .entry)) (now (memory .entry))) (found .index) (asked (r .answer) (now (out .exit))) (lent (now (words .exit)) (now (memory .exit))) ⌝ }
+    ensures { λ r. ⌜ MovedAt (rules.next time (now (out .entry))) (worldIn (lent (now (words .entry)) (now (memory .entry)))) (found .index) (r .moved) ⌝ }
 {
     let index = found.index;
     let start = found.start;
@@ -112,12 +119,13 @@ fn next_at(
     let end = start + size.0;
     let asked = asking::next(before, &mut memory[start..end], datalink, time, out);
     let answer = asked.answer;
+    let moved = asked.moved;
     if next_refused(answer) {
-        return answer;
+        return PacketAsked { answer, moved };
     }
     let after = asked.channel;
     channel::save(words, index, after);
-    answer
+    PacketAsked { answer, moved }
 }
 
 // Asks for the next packet's message: 19, 12, then as the channel answers.
@@ -125,14 +133,21 @@ pub fn next(words: &mut [u64], memory: &mut [u8], id: u8, time: u64, out: &mut [
     ensures { λ r. ⌜ PerformedIn (on id (rules.next time (now (out .entry)))) (lent (now (words .entry)) (now (memory .entry))) (ofChannel (asked r (now (out .exit)))) (lent (now (words .exit)) (now (memory .exit))) ⌝ }
 {
     match place::find(words, id, memory.len()) {
-        Place::At(found) => next_at(words, memory, found, time, out),
+        Place::At(found) => next_at(words, memory, found, time, out).answer,
         Place::Refused(number) => NextAnswer::Refused(Refusal { number, place: 0 }),
     }
 }
 
-fn withdraw_at(words: &mut [u64], memory: &mut [u8], found: Found) -> WithdrawAnswer
+// The answer to a withdrawal, and how many bytes were moved within the store.
+struct PacketsWithdrawn {
+    answer: WithdrawAnswer,
+    moved: ByteCount,
+}
+
+fn withdraw_at(words: &mut [u64], memory: &mut [u8], found: Found) -> PacketsWithdrawn
     requires { ⌜ Located (worldIn (lent (now words) (now memory))) found ⌝ }
-    ensures { λ r. ⌜ PerformedInAt rules.withdraw (lent (now (words .entry)) (now (memory .entry))) (found .index) (withdrawn r) (lent (now (words .exit)) (now (memory .exit))) ⌝ }
+    ensures { λ r. ⌜ PerformedInAt rules.withdraw (lent (now (words .entry)) (now (memory .entry))) (found .index) (withdrawn (r .answer)) (lent (now (words .exit)) (now (memory .exit))) ⌝ }
+    ensures { λ r. ⌜ MovedAt rules.withdraw (worldIn (lent (now (words .entry)) (now (memory .entry)))) (found .index) (r .moved) ⌝ }
 {
     let index = found.index;
     let start = found.start;
@@ -140,9 +155,13 @@ fn withdraw_at(words: &mut [u64], memory: &mut [u8], found: Found) -> WithdrawAn
     let size = before.setting.size;
     let end = start + size.0;
     let emptied = offering::withdraw(before, &mut memory[start..end]);
+    let moved = emptied.moved;
     let after = emptied.channel;
     channel::save(words, index, after);
-    WithdrawAnswer::Withdrawn
+    PacketsWithdrawn {
+        answer: WithdrawAnswer::Withdrawn,
+        moved,
+    }
 }
 
 // Withdraws all packets that wait on a channel: 19, 12.
@@ -150,7 +169,7 @@ pub fn withdraw(words: &mut [u64], memory: &mut [u8], id: u8) -> WithdrawAnswer
     ensures { λ r. ⌜ PerformedIn (on id rules.withdraw) (lent (now (words .entry)) (now (memory .entry))) (ofChannel (withdrawn r)) (lent (now (words .exit)) (now (memory .exit))) ⌝ }
 {
     match place::find(words, id, memory.len()) {
-        Place::At(found) => withdraw_at(words, memory, found),
+        Place::At(found) => withdraw_at(words, memory, found).answer,
         Place::Refused(number) => WithdrawAnswer::Refused(Refusal { number, place: 0 }),
     }
 }

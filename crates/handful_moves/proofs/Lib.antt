@@ -1,3 +1,4 @@
 -- The promises of this crate.
 pub mod Sums
 pub mod HandfulMoves
+pub mod MovedAt

@@ -8,7 +8,7 @@ use Rattle.ips_state.specs.State.{State}
 use Rattle.ips_words.specs.Words.{stateIn}
 use Rattle.ips_words_query.proofs.Gathering.{said-setting}
 use Rattle.endpoint.proofs.Placing.{says-so}
-use Rattle.endpoint.proofs.Calling.{state-fits, placed, store-ends, ready, kept-at, saved-at}
+use Rattle.endpoint.proofs.Calling.{state-fits, placed, store-ends, ready, kept-at, saved-at, moved-at}
 use Rattle.endpoint.proofs.call.next_at.Statement.{statement}
 use Rattle.endpoint.proofs.call.next_at.Tie as tie
 
@@ -39,23 +39,23 @@ next-requires c κs = let loaded = c .before .before .before .before in ready _ 
 returns : tie.Need-returns
 returns c =
     let told = c .before in
-    let asked = told .before .before .before .before .before in
+    let asked = told .before .before .before .before .before .before in
     let loaded = asked .before .before .before .before .before in
     let datalink = named (loaded .before .before) in
-    kept-at _ _ (start loaded .pre) _ (loaded .load .ensures) _ _ _ _ (rw datalink at (asked .next .ensures .0)) (sym (told .next-refused .ensures) ∙ c .if1 .taken)
+    (kept-at _ _ (start loaded .pre) _ (loaded .load .ensures) _ _ _ _ (rw datalink at (asked .next .ensures .0)) (sym (told .next-refused .ensures) ∙ c .if1 .taken), moved-at _ _ (start loaded .pre) _ (loaded .load .ensures) _ _ (rw datalink at (asked .next .ensures .1)))
 
 save-requires : tie.Need-save-requires
-save-requires c κs = placed _ _ (start (c .before .before .before .before .before .before .before .before .before .before .before .before .before) .pre)
+save-requires c κs = placed _ _ (start (c .before .before .before .before .before .before .before .before .before .before .before .before .before .before) .pre)
 
 returns-2 : tie.Need-returns-2
 returns-2 c =
     let saved = c .before .before in
     let other = saved .before .before .before in
     let told = other .before in
-    let asked = told .before .before .before .before .before in
+    let asked = told .before .before .before .before .before .before in
     let loaded = asked .before .before .before .before .before in
     let datalink = named (loaded .before .before) in
-    saved-at _ _ (start loaded .pre) _ (loaded .load .ensures) _ _ _ _ (rw datalink at (asked .next .ensures .0)) (sym (told .next-refused .ensures) ∙ other .if1 .left) _ (saved .save .ensures)
+    (saved-at _ _ (start loaded .pre) _ (loaded .load .ensures) _ _ _ _ (rw datalink at (asked .next .ensures .0)) (sym (told .next-refused .ensures) ∙ other .if1 .left) _ (saved .save .ensures), moved-at _ _ (start loaded .pre) _ (loaded .load .ensures) _ _ (rw datalink at (asked .next .ensures .1)))
 
 pub next-at-spec : {M : Type 1} → statement M
 next-at-spec =

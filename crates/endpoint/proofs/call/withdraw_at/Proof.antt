@@ -4,7 +4,7 @@ use mathlib.Core.Path.{refl}
 use native.Mathlib.Omega.{arith}
 use borrow.Author.Needs.{needs}
 use lib.ListN.{length}
-use Rattle.endpoint.proofs.Calling.{placed, store-ends, ready, saved-at}
+use Rattle.endpoint.proofs.Calling.{placed, store-ends, ready, saved-at, moved-at}
 use Rattle.endpoint.proofs.call.withdraw_at.Statement.{statement}
 use Rattle.endpoint.proofs.call.withdraw_at.Tie as tie
 
@@ -27,14 +27,14 @@ withdraw-requires : tie.Need-withdraw-requires
 withdraw-requires c κs = let loaded = c .before .before .before in ready _ _ (start loaded .pre) _ (loaded .load .ensures)
 
 save-requires : tie.Need-save-requires
-save-requires c κs = placed _ _ (start (c .before .before .before .before .before .before .before .before) .pre)
+save-requires c κs = placed _ _ (start (c .before .before .before .before .before .before .before .before .before) .pre)
 
 returns : tie.Need-returns
 returns c =
     let saved = c .before .before in
-    let emptied = saved .before .before .before .before .before in
+    let emptied = saved .before .before .before .before .before .before in
     let loaded = emptied .before .before .before .before in
-    saved-at _ _ (start loaded .pre) _ (loaded .load .ensures) _ _ _ _ (emptied .withdraw .ensures .0 _) refl _ (saved .save .ensures)
+    (saved-at _ _ (start loaded .pre) _ (loaded .load .ensures) _ _ _ _ (emptied .withdraw .ensures .0 _) refl _ (saved .save .ensures), moved-at _ _ (start loaded .pre) _ (loaded .load .ensures) _ _ (emptied .withdraw .ensures .1 _))
 
 pub withdraw-at-spec : {M : Type 1} → statement M
 withdraw-at-spec =
