@@ -31,7 +31,7 @@ Right (fits s w n answer) = fitsOf (record { 0 = s }) (record { 0 = w }) (record
 Right (becomes s n after) = advanceOf (record { 0 = s }) (record { 0 = n }) ≡ record { 0 = after }
 Right (status content channel number isUnknown isOperational) =
     (answerOf planes.Control Radio CHANNEL-STATUS content ≡ Took (Item.Status channel number))
-    × (unknown (Status.Given number) ≡ isUnknown)
+    × (unknown DEFAULT-CODES (Status.Given number) ≡ isUnknown)
     × (operational DEFAULT-CODES (Status.Given number) ≡ isOperational)
 Right (window content answer) = answerOf planes.Control Radio FLOW-WINDOW content ≡ answer
 

@@ -1,8 +1,8 @@
 -- Document 01, "Messages": "Status 0: not operational; 1 to 7: operational; 8 to 15: unknown, and not operational for us." Document 02, §6: "Each datalink gets a
 -- setting that says, for each of 8 to 15, operational or not; the default is not. Whether a status is operational now depends on that setting".
 use Prim.Native.Nat.{ℕ, _-_, _/_, _%_, _^_}
-use mathlib.Core.Bool.{Bool, false, _&&_, _||_}
-use lib.Dec.{eqb, leb, ltb}
+use mathlib.Core.Bool.{Bool, false, not, _&&_, _||_}
+use lib.Dec.{eqb, leb}
 use Rattle.quantity.specs.Limits.{HIGHEST-STATUS}
 use Rattle.meaning.specs.declared.message.Status.{Status}
 use Rattle.meaning.specs.declared.status.StatusCodes.{StatusCodes}
@@ -35,6 +35,7 @@ abbrev pub operational : StatusCodes → Status → Bool
 operational codes Status.Absent = false
 operational codes (Status.Given status) = codeOperational codes status
 
-abbrev pub unknown : Status → Bool
-unknown Status.Absent = false
-unknown (Status.Given status) = ltb LAST-OPERATIONAL status && leb status HIGHEST-STATUS
+-- 8 to 15, but for those that the setting makes operational (source document 000, Table 3-7: "unless configured otherwise")
+abbrev pub unknown : StatusCodes → Status → Bool
+unknown codes Status.Absent = false
+unknown codes (Status.Given status) = leb FIRST-CONFIGURED status && (leb status HIGHEST-STATUS && not (codeOperational codes status))
