@@ -12,6 +12,7 @@ fn whole(n: usize) -> Input {
         have: n,
         over: false,
         ended: true,
+        failed: false,
     };
     Input {
         unread,

@@ -8,14 +8,17 @@ use native.Mathlib.Omega.{arith}
 use borrow.Author.Tests.{lt-ltb, le-ltb, ltb-true, ltb-false, leb-true, eq-eqb, ne-eqb}
 use borrow.Rule.Slice.PartMut.{midOf, putMid, take-put, mid-len}
 use lib.Dec.{ltb, leb, eqb}
+use lib.IntN.{ℤ, pos, negsuc}
+use lib.Signed.{ltZ}
 use lib.ListN.{length, getD, take, drop, set, length-set, length-drop}
 use lib.Seq.{length-take-le, take-add, drop-at, getD-drop, paste, paste-zero, paste-suc, take-paste, drop-paste, length-paste}
 use Rattle.facts.proofs.Tests.{clash}
 use Rattle.bytes.specs.Bytes.{indexOf, indexAfter, slice}
+use Rattle.io.specs.Counts.{clamped}
 use Rattle.lines.specs.declared.Input.{Input}
 use Rattle.lines.specs.declared.Found.{Found}
-use Rattle.lines.specs.declared.Found.the-variants.{More, End, Line, Over}
-use Rattle.lines.specs.Unread.{tidyOf, restOf, lineOf, lastOf, foundOf, nextOf, lostOf, keptOf, Behind, Filled}
+use Rattle.lines.specs.declared.Found.the-variants.{More, End, Line, Over, Failed}
+use Rattle.lines.specs.Unread.{tidyOf, restOf, lineOf, lastOf, foundOf, nextOf, lostOf, keptOf, failedBy, readOf, Behind, Filled}
 
 -- ---- where what is unread lies
 
@@ -47,13 +50,18 @@ module _ (input : Input) where
       unfolding foundOf
       next-line h = sym (rw (lt-ltb to (input .have) h)) ∙ found-is
 
-      pub next-last : input .have ≤ to → input .ended ≡ true → lastOf input ≡ nextOf buffer input
-      unfolding foundOf
-      next-last h g = sym (rw (le-ltb to (input .have) h, g)) ∙ found-is
+      module _ (h : input .have ≤ to) where
+        pub next-failed : input .failed ≡ true → Failed ≡ nextOf buffer input
+        unfolding foundOf
+        next-failed f = sym (rw (le-ltb to (input .have) h, f)) ∙ found-is
 
-      pub next-more : input .have ≤ to → input .ended ≡ false → More ≡ nextOf buffer input
-      unfolding foundOf
-      next-more h g = sym (rw (le-ltb to (input .have) h, g)) ∙ found-is
+        pub next-last : input .failed ≡ false → input .ended ≡ true → lastOf input ≡ nextOf buffer input
+        unfolding foundOf
+        next-last f g = sym (rw (le-ltb to (input .have) h, f, g)) ∙ found-is
+
+        pub next-more : input .failed ≡ false → input .ended ≡ false → More ≡ nextOf buffer input
+        unfolding foundOf
+        next-more f g = sym (rw (le-ltb to (input .have) h, f, g)) ∙ found-is
 
 -- ---- bytes moved down
 
@@ -103,25 +111,34 @@ move-end {buffer} {from} {n} {i} k h = let e : i ≡ n = omega (arith, k .within
 
 -- ---- reading more
 
-same-end : (kept got : ℕ) → eqb got 0 ≡ eqb (kept + got) kept
-same-end kept zero = sym (eq-eqb (kept + 0) kept (omega arith))
-same-end kept (suc got) = ne-eqb (suc got) 0 (omega arith) ∙ sym (ne-eqb (kept + suc got) kept (omega arith))
+-- the code compares an answer with 0
+pub read-is : (answer : ℤ) (kept have : ℕ) (dropped : Bool)
+    → _≡_ {A = Input} (record { at = 0; have = have; over = dropped; ended = eqb have kept; failed = ltZ answer (pos 0) }) (readOf answer kept have dropped)
+unfolding readOf
+read-is (pos n) kept have dropped = rw (le-ltb n 0 (omega arith))
+read-is (negsuc n) kept have dropped = refl
 
 -- what a read leaves in the part behind the bytes that are kept
-pub behind-is : (buffer : List ℕ) (kept got : ℕ) (dropped : Bool) (part : List ℕ) → kept ≤ length buffer
-    → length part ≡ length (midOf kept (length buffer - kept) buffer) → got ≤ length part
-    → Behind buffer kept dropped (record { at = 0; have = kept + got; over = dropped; ended = eqb got 0 })
-    (putMid kept (length buffer - kept) buffer part)
-behind-is buffer kept got dropped part h e l =
+pub behind-is : (buffer : List ℕ) (kept got : ℕ) (answer : ℤ) (dropped : Bool) (part : List ℕ) {r : Input} → kept ≤ length buffer
+    → length part ≡ length (midOf kept (length buffer - kept) buffer) → got ≤ length part → got ≡ clamped answer (length part)
+    → r ≡ readOf answer kept (kept + got) dropped → Behind buffer kept dropped r (putMid kept (length buffer - kept) buffer part)
+unfolding readOf
+behind-is buffer kept got answer dropped part h e l c p =
     let room : length (midOf kept (length buffer - kept) buffer) ≡ length buffer - kept = mid-len kept (length buffer) buffer (omega arith) in
-    record {
+    rw p
+    (record {
       start = refl;
       stays = take-put kept (length buffer - kept) buffer part h;
       least = omega arith;
       most = omega arith;
       over = refl;
-      ended = same-end kept got;
-    }
+      ended = refl;
+      failed = none answer c;
+    })
+  where
+    none : (z : ℤ) → got ≡ clamped z (length part) → failedBy z ≡ true → eqb (kept + got) kept ≡ true
+    none (pos n) q f = absurd (true≢false (sym f))
+    none (negsuc n) q f = eq-eqb (kept + got) kept (omega arith)
 
 -- a stretch of a list, taken from its start or from its end
 pub slice-is : (from to : ℕ) (l : List ℕ) → from ≤ to → to ≤ length l → slice from to l ≡ take (to - from) (drop from l)
@@ -136,7 +153,7 @@ module _ (buffer : List ℕ) (input : Input) where
   -- what is kept stands at the start of a buffer, and more is read behind it
   filled-is : {buffer₁ : List ℕ} {n : ℕ} {dropped : Bool} {r : Input} {buffer₂ : List ℕ} → length buffer₁ ≡ length buffer
       → n ≤ length buffer₁ → keptOf buffer input ≡ take n buffer₁ → (tidyOf (length buffer) input && lostOf (length buffer) input) ≡ dropped
-      → (tidyOf (length buffer) input ≡ false → (r .have ≡ 0) × (buffer₂ ≡ buffer)) → Behind buffer₁ n dropped r buffer₂ → Filled buffer input r buffer₂
+      → (tidyOf (length buffer) input ≡ false → (r .have ≡ 0) × (r .failed ≡ false) × (buffer₂ ≡ buffer)) → Behind buffer₁ n dropped r buffer₂ → Filled buffer input r buffer₂
   filled-is {buffer₁} {n} {dropped} {r} {buffer₂} size h kept lost untidy k =
       let count : length (keptOf buffer input) ≡ n = ap length kept ∙ length-take-le n buffer₁ h in
       record {
@@ -146,15 +163,16 @@ module _ (buffer : List ℕ) (input : Input) where
         most = omega (arith, k .most);
         over = k .over ∙ sym lost;
         ended = rw count (k .ended);
+        failed = k .failed;
         untidy = untidy;
       }
 
-  pub filled-none : tidyOf (length buffer) input ≡ false → Filled buffer input (record { at = 0; have = 0; over = false; ended = true }) buffer
+  pub filled-none : tidyOf (length buffer) input ≡ false → Filled buffer input (record { at = 0; have = 0; over = false; ended = true; failed = false }) buffer
   unfolding keptOf
   filled-none t =
-      let none : Behind buffer 0 false (record { at = 0; have = 0; over = false; ended = true }) buffer =
-      record { start = refl; stays = refl; least = omega arith; most = omega arith; over = refl; ended = refl } in
-      filled-is refl (omega arith) (rw t) (rw t) (λ e. (refl, refl)) none
+      let none : Behind buffer 0 false (record { at = 0; have = 0; over = false; ended = true; failed = false }) buffer =
+      record { start = refl; stays = refl; least = omega arith; most = omega arith; over = refl; ended = refl; failed = λ f. refl } in
+      filled-is refl (omega arith) (rw t) (rw t) (λ e. (refl, refl, refl)) none
 
   module _ (t : tidyOf (length buffer) input ≡ true) where
     pub filled-lost : {r : Input} {buffer₂ : List ℕ} → lostOf (length buffer) input ≡ true → Behind buffer 0 true r buffer₂
@@ -192,12 +210,13 @@ pub data Next (buffer : List ℕ) (input : Input) (found : Found) : Type 0 where
       → found ≡ Line (input .at) (input .at + stop buffer input) (restOf input (input .at + stop buffer input + 1)) → Next buffer input found
   a-dropped : stop buffer input < length (unread buffer input) → input .over ≡ true
       → found ≡ Over (restOf input (input .at + stop buffer input + 1)) → Next buffer input found
-  last-line : stop buffer input ≡ length (unread buffer input) → input .ended ≡ true → input .over ≡ false → input .at < input .have
+  last-line : stop buffer input ≡ length (unread buffer input) → input .failed ≡ false → input .ended ≡ true → input .over ≡ false → input .at < input .have
       → found ≡ Line (input .at) (input .have) (restOf input (input .have)) → Next buffer input found
-  last-dropped : stop buffer input ≡ length (unread buffer input) → input .ended ≡ true → input .over ≡ true
+  last-dropped : stop buffer input ≡ length (unread buffer input) → input .failed ≡ false → input .ended ≡ true → input .over ≡ true
       → found ≡ Over (restOf input (input .have)) → Next buffer input found
   unended : stop buffer input ≡ length (unread buffer input) → input .ended ≡ false → found ≡ More → Next buffer input found
-  nothing : input .ended ≡ true → input .over ≡ false → input .have ≤ input .at → found ≡ End → Next buffer input found
+  nothing : input .failed ≡ false → input .ended ≡ true → input .over ≡ false → input .have ≤ input .at → found ≡ End → Next buffer input found
+  unreadable : stop buffer input ≡ length (unread buffer input) → input .failed ≡ true → found ≡ Failed → Next buffer input found
 
 index-most : (bytes : List ℕ) → indexOf 10 bytes ≤ length bytes
 unfolding indexOf indexAfter
@@ -215,7 +234,8 @@ module _ (buffer : List ℕ) (input : Input) (t : tidyOf (length buffer) input �
 
   pub next-cases : Next buffer input (nextOf buffer input)
   unfolding nextOf foundOf lastOf lineOf
-  next-cases = rw t (go (ltb to (input .have)) refl (input .ended) refl (input .over) refl (ltb (input .at) (input .have)) refl)
+  next-cases =
+      rw t (go (ltb to (input .have)) refl (input .failed) refl (input .ended) refl (input .over) refl (ltb (input .at) (input .have)) refl)
     where
       to : ℕ
       to = input .at + stop buffer input
@@ -231,15 +251,16 @@ module _ (buffer : List ℕ) (input : Input) (t : tidyOf (length buffer) input �
       line : Bool → ℕ → ℕ → Found
       line v end at = cond v (Over (restOf input at)) (Line (input .at) end (restOf input at))
 
-      go : (b : Bool) → ltb to (input .have) ≡ b → (e : Bool) → input .ended ≡ e → (v : Bool) → input .over ≡ v
-          → (l : Bool) → ltb (input .at) (input .have) ≡ l
-          → Next buffer input (cond b (line v to (to + 1)) (cond e (cond (v || l) (line v (input .have) (input .have)) End) More))
-      go true q e qe true qv l ql = a-dropped (there q) qv refl
-      go true q e qe false qv l ql = a-line (there q) qv refl
-      go false q true qe true qv l ql = last-dropped (none q) qe qv refl
-      go false q true qe false qv true ql = last-line (none q) qe qv (ltb-true (input .at) (input .have) ql) refl
-      go false q true qe false qv false ql = nothing qe qv (ltb-false (input .at) (input .have) ql) refl
-      go false q false qe v qv l ql = unended (none q) qe refl
+      go : (b : Bool) → ltb to (input .have) ≡ b → (f : Bool) → input .failed ≡ f → (e : Bool) → input .ended ≡ e
+          → (v : Bool) → input .over ≡ v → (l : Bool) → ltb (input .at) (input .have) ≡ l
+          → Next buffer input (cond b (line v to (to + 1)) (cond f Failed (cond e (cond (v || l) (line v (input .have) (input .have)) End) More)))
+      go true q f qf e qe true qv l ql = a-dropped (there q) qv refl
+      go true q f qf e qe false qv l ql = a-line (there q) qv refl
+      go false q true qf e qe v qv l ql = unreadable (none q) qf refl
+      go false q false qf true qe true qv l ql = last-dropped (none q) qf qe qv refl
+      go false q false qf true qe false qv true ql = last-line (none q) qf qe qv (ltb-true (input .at) (input .have) ql) refl
+      go false q false qf true qe false qv false ql = nothing qf qe qv (ltb-false (input .at) (input .have) ql) refl
+      go false q false qf false qe v qv l ql = unended (none q) qe refl
 
 -- what a caller goes by: a line that is found lies within the buffer
 pub next-inside : (buffer : List ℕ) (input : Input) {from to : ℕ} {rest : Input} → nextOf buffer input ≡ Line from to rest
@@ -252,15 +273,16 @@ next-inside buffer input {from} {to} {rest} e = go (tidyOf (length buffer) input
         let start : from ≡ input .at = cc in
         let end : to ≡ input .at + stop buffer input = cc in
         omega (arith, unread-length buffer input t)
-    inside t (last-line h g v l p) =
+    inside t (last-line h f g v l p) =
         let within = tidy-is (length buffer) input t in
         let start : from ≡ input .at = cc in
         let end : to ≡ input .have = cc in
         omega arith
     inside t (a-dropped h v p) = clash (cc)
-    inside t (last-dropped h g v p) = clash (cc)
+    inside t (last-dropped h f g v p) = clash (cc)
     inside t (unended h g p) = clash (cc)
-    inside t (nothing g v l p) = clash (cc)
+    inside t (nothing f g v l p) = clash (cc)
+    inside t (unreadable h f p) = clash (cc)
 
     go : (b : Bool) → tidyOf (length buffer) input ≡ b → (from ≤ to) × (to ≤ length buffer)
     go true t = inside t (next-cases buffer input t)

@@ -15,7 +15,7 @@ use Rattle.lines.specs.declared.Found.the-variants.{More, End, Line, Ove
 use Rattle.lines.specs.Unread.{startOf, tidyOf, restOf, nextOf, lostOf, keptOf, Filled}
 use Rattle.lines.specs.Reports.{linesOf, Report, whole, dropped, reportsOf, Turns, ends, line, over, more}
 use Rattle.lines.proofs.Laws.{tidy-is, slice-is, unread, stop, unread-length, next-cases}
-use Rattle.lines.proofs.Laws.{Next, a-line, a-dropped, last-line, last-dropped, unended, nothing}
+use Rattle.lines.proofs.Laws.{Next, a-line, a-dropped, last-line, last-dropped, unended, nothing, unreadable}
 use Rattle.lines.proofs.Split.{behindLine, meant, meant-line, meant-over, meant-on, meant-full, meant-last}
 
 -- ---- what is unread, and what is dropped
@@ -117,12 +117,13 @@ module _ {buffer : List ℕ} {input : Input} {coming : List ℕ} (o : 0 < length
   end-turn e = go (next-cases buffer input (k .tidy))
     where
       go : Next buffer input (nextOf buffer input) → Right buffer input coming []
-      go (nothing g v l p) = let none : unread buffer input ≡ [] = no-bytes (unread buffer input) (size ∙ omega arith) in rw (v, none, k .done g)
+      go (nothing f g v l p) = let none : unread buffer input ≡ [] = no-bytes (unread buffer input) (size ∙ omega arith) in rw (v, none, k .done g)
       go (a-line h v p) = clash (cc)
       go (a-dropped h v p) = clash (cc)
-      go (last-line h g v l p) = clash (cc)
-      go (last-dropped h g v p) = clash (cc)
+      go (last-line h f g v l p) = clash (cc)
+      go (last-dropped h f g v p) = clash (cc)
       go (unended h g p) = clash (cc)
+      go (unreadable h f p) = clash (cc)
 
   line-turn : {from to : ℕ} {rest : Input} → nextOf buffer input ≡ Line from to rest
       → Turn buffer input coming buffer rest coming (whole (slice from to buffer) ∷ [])
@@ -138,7 +139,7 @@ module _ {buffer : List ℕ} {input : Input} {coming : List ℕ} (o : 0 < length
           let meant′ = meant-line (length buffer) (unread buffer input) coming h (omega (arith, size, within)) in
           rw (left, start, end, line-bytes h)
           (record { sane = sane-behind h; right = λ reports t. rw v (ap (λ (r : List Report). own ∷ r) (t ∙ rest-behind h) ∙ sym meant′) })
-      go (last-line h g v l p) =
+      go (last-line h f g v l p) =
           let start : from ≡ input .at = cc in
           let end : to ≡ input .have = cc in
           let left : rest ≡ restOf input (input .have) = cc in
@@ -147,9 +148,10 @@ module _ {buffer : List ℕ} {input : Input} {coming : List ℕ} (o : 0 < length
           rw (left, start, end)
           (record { sane = sane-end g; right = λ reports t. rw v (ap (λ (r : List Report). own ∷ r) (t ∙ none-left g) ∙ sym (rw (k .done g) meant′)) })
       go (a-dropped h v p) = clash (cc)
-      go (last-dropped h g v p) = clash (cc)
+      go (last-dropped h f g v p) = clash (cc)
       go (unended h g p) = clash (cc)
-      go (nothing g v l p) = clash (cc)
+      go (unreadable h f p) = clash (cc)
+      go (nothing f g v l p) = clash (cc)
 
   over-turn : {rest : Input} → nextOf buffer input ≡ Over rest → Turn buffer input coming buffer rest coming (dropped ∷ [])
   unfolding linesOf behindLine
@@ -161,15 +163,16 @@ module _ {buffer : List ℕ} {input : Input} {coming : List ℕ} (o : 0 < length
           let meant′ = meant-over (length buffer) (unread buffer input) coming h in
           rw left
           (record { sane = sane-behind h; right = λ reports t. rw v (ap (λ (r : List Report). dropped ∷ r) (t ∙ rest-behind h) ∙ sym meant′) })
-      go (last-dropped h g v p) =
+      go (last-dropped h f g v p) =
           let left : rest ≡ restOf input (input .have) = cc in
           let meant′ = meant-on (length buffer) (unread buffer input) coming h ∙ ap (meant (length buffer) true) (k .done g) in
           rw left
           (record { sane = sane-end g; right = λ reports t. rw v (ap (λ (r : List Report). dropped ∷ r) (t ∙ none-left g) ∙ sym meant′) })
       go (a-line h v p) = clash (cc)
-      go (last-line h g v l p) = clash (cc)
+      go (last-line h f g v l p) = clash (cc)
       go (unended h g p) = clash (cc)
-      go (nothing g v l p) = clash (cc)
+      go (unreadable h f p) = clash (cc)
+      go (nothing f g v l p) = clash (cc)
 
   more-turn : {r : Input} {buffer′ coming′ : List ℕ} → nextOf buffer input ≡ More → Filled buffer input r buffer′
       → length buffer′ ≡ length buffer → coming ≡ slice (length (keptOf buffer input)) (r .have) buffer′ ++ coming′ → (r .ended ≡ true → coming′ ≡ [])
@@ -225,11 +228,12 @@ module _ {buffer : List ℕ} {input : Input} {coming : List ℕ} (o : 0 < length
 
       go : Next buffer input (nextOf buffer input) → Turn buffer input coming buffer′ r coming′ []
       go (unended h g p) = turn h (lostOf (length buffer) input) refl
+      go (unreadable h f p) = clash (cc)
       go (a-line h v p) = clash (cc)
       go (a-dropped h v p) = clash (cc)
-      go (last-line h g v l p) = clash (cc)
-      go (last-dropped h g v p) = clash (cc)
-      go (nothing g v l p) = clash (cc)
+      go (last-line h f g v l p) = clash (cc)
+      go (last-dropped h f g v p) = clash (cc)
+      go (nothing f g v l p) = clash (cc)
 
 -- ---- all turns
 

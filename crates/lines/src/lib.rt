@@ -1,10 +1,11 @@
 // Lines of standard input, read piece by piece into one lent buffer. A line ends at a newline; a last line without one
 // counts if it isn't empty. A line that has no room in the buffer with its newline is dropped, and found as over once.
+// Where reading fails, the lines that ended are found, and then that it failed.
 ghost use mathlib.Core.Path.{_≡_};
 ghost use Prim.Native.Nat.{_+_, _≤_};
 ghost use lib.ListN.{length, drop};
 ghost use lib.Seq.{paste};
-ghost use Rattle.lines.specs.Unread.{startOf, tidyOf, lineOf, lastOf, nextOf, lostOf, Behind, Filled};
+ghost use Rattle.lines.specs.Unread.{startOf, tidyOf, lineOf, lastOf, nextOf, lostOf, readOf, Behind, Filled};
 use libc::STDIN_FILENO;
 
 // What was read and isn't handed on yet: a buffer from `at` to `have`.
@@ -15,6 +16,8 @@ pub struct Input {
     pub over: bool,
     // Nothing more comes.
     pub ended: bool,
+    // A read failed: nothing more comes, and what is there may not be all.
+    pub failed: bool,
 }
 
 // What stands next in an input.
@@ -27,6 +30,8 @@ pub enum Found {
     Line { from: usize, to: usize, rest: Input },
     // A line that was dropped, and the input behind it.
     Over(Input),
+    // Reading failed.
+    Failed,
 }
 
 // Nothing is read yet.
@@ -38,6 +43,7 @@ pub fn start() -> Input
         have: 0,
         over: false,
         ended: false,
+        failed: false,
     }
 }
 
@@ -60,6 +66,7 @@ fn line(input: Input, to: usize, at: usize) -> Found
         have: input.have,
         over: false,
         ended: input.ended,
+        failed: input.failed,
     };
     if input.over {
         return Found::Over(rest);
@@ -98,6 +105,9 @@ pub fn next(buffer: &[u8], input: Input) -> Found
     if to < have {
         return line(input, to, to + 1);
     }
+    if input.failed {
+        return Found::Failed;
+    }
     if input.ended {
         return last(input);
     }
@@ -129,19 +139,28 @@ fn move_down(buffer: &mut [u8], from: usize, n: usize)
     }
 }
 
+// What a read answered, with the bytes that are there now: below 0 it failed, and without a byte nothing more comes.
+fn after(answer: isize, kept: usize, have: usize, over: bool) -> Input
+    ensures { λ r. ⌜ r ≡ readOf answer kept have over ⌝ }
+{
+    Input {
+        at: 0,
+        have,
+        over,
+        ended: have == kept,
+        failed: answer < 0,
+    }
+}
+
 // Reads behind the bytes that are kept. No contract can say which bytes the system hands over.
 fn read_behind(buffer: &mut [u8], kept: usize, over: bool) -> Input
     requires { ⌜ kept ≤ length (now buffer) ⌝ }
     ensures { λ r. ⌜ Behind (now (buffer .entry)) kept over r (now (buffer .exit)) ⌝ }
 {
     let part = &mut buffer[kept..];
-    let got = io::count(libc::read(STDIN_FILENO, part), part);
-    Input {
-        at: 0,
-        have: kept + got,
-        over,
-        ended: got == 0,
-    }
+    let answer = libc::read(STDIN_FILENO, part);
+    let have = kept + io::count(answer, part);
+    after(answer, kept, have, over)
 }
 
 // Moves what is unread to the start of the buffer and reads more behind it.
@@ -154,6 +173,7 @@ pub fn fill(buffer: &mut [u8], input: Input) -> Input
             have: 0,
             over: false,
             ended: true,
+            failed: false,
         };
     }
     if lost(input, buffer.len()) {

@@ -2,7 +2,7 @@
 use mathlib.Core.Path.{_≡_, refl, sym, ap, _∙_}
 use mathlib.Core.Bool.{Bool, true, false, cond, _&&_}
 use mathlib.Core.List.{List, [], _∷_, _++_, append-assoc}
-use mathlib.Core.Logic.{_↔_}
+use mathlib.Core.Logic.{_↔_, _⊎_, inl, inr}
 use Prim.Native.Nat.{ℕ, zero, suc, _+_, _≤_, _<_}
 use native.Mathlib.Omega.{arith}
 use borrow.Author.Tests.{le-ltb, ltb-true, ltb-false, eqb-true, eqb-false}
@@ -12,8 +12,8 @@ use lib.Seq.{getD-drop, length-take-le}
 use Rattle.quantity.specs.Refusals.{FILE-HEAD}
 use Rattle.records.specs.declared.Order.{Order}
 use Rattle.records.specs.Heads.{pairAt, numberAt, isRight, LITTLE-MAGIC, BIG-MAGIC, capturedIn, originalIn, orderOf}
-use Rattle.records.specs.Files.{refused, recordsOf, reportBy, reportsOf}
-use Rattle.records.specs.Endings.{refusalIn, refusalOf, Bytes, magic, version, linkType, RightHead, BadHead, short-file, other-magic, other-version, other-link, WholeRecord, AllWhole, inRow, WholeThen, Broken, in-head, too-long, in-bytes, BrokenOff, EndsWhole, OneOf, the-first, the-second, the-third}
+use Rattle.records.specs.Files.{Report, kept, refused, recordsOf, reportBy, reportsOf, closed}
+use Rattle.records.specs.Endings.{refusalIn, refusalOf, failedAfter, recordsIn, Bytes, magic, version, linkType, RightHead, BadHead, short-file, other-magic, other-version, other-link, WholeRecord, AllWhole, inRow, WholeThen, Broken, in-head, too-long, in-bytes, BrokenOff, EndsWhole, Headed, OneOf, the-first, the-second, the-third}
 use Rattle.records.proofs.Files.{number-front, pair-front, records-none}
 use Rattle.records.proofs.Exactly.{found, cut-head, long-record, cut-record}
 
@@ -166,40 +166,55 @@ not-both file big k (other-link b m v) = v (k .linked ∙ ap linkType (same-orde
 
 -- ---- the records
 
-module _ (big : Bool) where
+-- the number that is reported, by whether a read fails behind the bytes
+abbrev refusalBy : Bool → List Report → ℕ
+refusalBy failed reports = refusalIn (closed failed reports)
+
+behind-kept : (failed : Bool) (original : ℕ) (bytes : List ℕ) (reports : List Report)
+    → refusalBy failed (kept original bytes ∷ reports) ≡ refusalBy failed reports
+behind-kept true original bytes reports = refl
+behind-kept false original bytes reports = refl
+
+refused-stays : (failed : Bool) {reports : List Report} (number : ℕ) → reports ≡ refused number ∷ [] → refusalBy failed reports ≡ number
+refused-stays true number e = ap (refusalBy true) e
+refused-stays false number e = ap (refusalBy false) e
+
+module _ (failed big : Bool) where
   -- a whole record is kept, and the rest reported behind it
-  one-kept : (bytes rest : List ℕ) → WholeRecord big bytes → refusalIn (recordsOf big (bytes ++ rest)) ≡ refusalIn (recordsOf big rest)
+  one-kept : (bytes rest : List ℕ) → WholeRecord big bytes → refusalBy failed (recordsOf big (bytes ++ rest)) ≡ refusalBy failed (recordsOf big rest)
   one-kept bytes rest k =
       let far : length bytes ≡ 16 + capturedIn big bytes = k .size in
       let frame : List ℕ = drop 16 bytes in
       let long : length frame ≡ capturedIn big bytes = rw length-drop (omega arith) in
-      ap refusalIn
+      ap (refusalBy failed)
       (found big (bytes ++ rest) frame rest (originalIn big (bytes ++ rest)) (drop-front 16 bytes rest (omega arith))
       (simp length-append (omega arith))
       (number-front big 8 bytes rest (omega arith) ∙ sym long)
       refl
       (omega (arith, k .short)))
+      ∙ behind-kept failed (originalIn big (bytes ++ rest)) frame (recordsOf big rest)
     where
       drop-front : (n : ℕ) (l m : List ℕ) → n ≤ length l → drop n (l ++ m) ≡ drop n l ++ m
       drop-front zero l m h = refl
       drop-front (suc n) [] m h = absurd (omega arith)
       drop-front (suc n) (x ∷ l) m h = drop-front n l m (omega arith)
 
-  all-kept : (records : List (List ℕ)) (left : List ℕ) → AllWhole big records → refusalIn (recordsOf big (inRow records ++ left)) ≡ refusalIn (recordsOf big left)
+  all-kept : (records : List (List ℕ)) (left : List ℕ) → AllWhole big records → refusalBy failed (recordsOf big (inRow records ++ left)) ≡ refusalBy failed (recordsOf big left)
   all-kept [] left k = refl
   all-kept (bytes ∷ records) left k =
-      ap (λ (l : List ℕ). refusalIn (recordsOf big l)) (append-assoc bytes (inRow records) left)
+      ap (λ (l : List ℕ). refusalBy failed (recordsOf big l)) (append-assoc bytes (inRow records) left)
       ∙ one-kept bytes (inRow records ++ left) (k .0)
       ∙ all-kept records left (k .1)
 
-  then-left : (bytes left : List ℕ) → WholeThen big left bytes → refusalIn (recordsOf big bytes) ≡ refusalIn (recordsOf big left)
-  then-left bytes left k = ap (λ (l : List ℕ). refusalIn (recordsOf big l)) (k .parts) ∙ all-kept (k .records) left (k .each)
+  then-left : (bytes left : List ℕ) → WholeThen big left bytes → refusalBy failed (recordsOf big bytes) ≡ refusalBy failed (recordsOf big left)
+  then-left bytes left k = ap (λ (l : List ℕ). refusalBy failed (recordsOf big l)) (k .parts) ∙ all-kept (k .records) left (k .each)
 
-  broken-off : (left : List ℕ) → Broken big left → refusalIn (recordsOf big left) ≡ 26
-  broken-off left (in-head o h) = ap refusalIn (cut-head big left o h)
-  broken-off left (too-long h g) = ap refusalIn (long-record big left h g)
-  broken-off left (in-bytes h g) = ap refusalIn (cut-record big left h (omega arith))
+  broken-off : (left : List ℕ) → Broken big left → refusalBy failed (recordsOf big left) ≡ 26
+  broken-off left (in-head o h) = refused-stays failed 26 (cut-head big left o h)
+  broken-off left (too-long h g) = refused-stays failed 26 (long-record big left h g)
+  broken-off left (in-bytes h g) = refused-stays failed 26 (cut-record big left h (omega arith))
 
+module _ (big : Bool) where
   -- any bytes are whole records, and nothing or something broken behind them
   data Ending (bytes : List ℕ) : Type 0 where
     ended : WholeThen big [] bytes → Ending bytes
@@ -256,24 +271,30 @@ module _ (file : List ℕ) (big : Bool) (bytes : Bytes file) (k : RightHead big 
       go Order.Bad (bad b) = absurd (not-both file big k b)
 
 module _ (file : List ℕ) (bytes : Bytes file) where
-  bad-is : BadHead file → refusalOf file ≡ 25
-  unfolding reportsOf
-  bad-is k = go (ltb (length file) 24) refl
-    where
-      by : (order : Order) → Opened file order → refusalIn (reportBy order (drop 24 file)) ≡ 25
-      by Order.Little (little r) = absurd (not-both file false r k)
-      by Order.Big (big-one r) = absurd (not-both file true r k)
-      by Order.Bad (bad b) = refl
+  module _ (failed : Bool) where
+    bad-is : BadHead file → refusalBy failed (reportsOf file) ≡ 25
+    unfolding reportsOf
+    bad-is k = go (ltb (length file) 24) refl
+      where
+        by : (order : Order) → Opened file order → refusalBy failed (reportBy order (drop 24 file)) ≡ 25
+        by Order.Little (little r) = absurd (not-both file false r k)
+        by Order.Big (big-one r) = absurd (not-both file true r k)
+        by Order.Bad (bad b) = refused-stays failed 25 refl
 
-      go : (short : Bool) → ltb (length file) 24 ≡ short → refusalIn (cond short (refused FILE-HEAD ∷ []) (reportBy (orderOf (take 24 file)) (drop 24 file))) ≡ 25
-      go true p = refl
-      go false p = by (orderOf (take 24 file)) (order-tells file (ltb-false _ _ p) bytes)
+        go : (short : Bool) → ltb (length file) 24 ≡ short
+            → refusalBy failed (cond short (refused FILE-HEAD ∷ []) (reportBy (orderOf (take 24 file)) (drop 24 file))) ≡ 25
+        go true p = refused-stays failed 25 refl
+        go false p = by (orderOf (take 24 file)) (order-tells file (ltb-false _ _ p) bytes)
 
-  broken-is : BrokenOff file → refusalOf file ≡ 26
-  broken-is k = ap refusalIn (opens file (k .big) bytes (k .head)) ∙ then-left (k .big) (drop 24 file) (k .left) (k .before) ∙ broken-off (k .big) (k .left) (k .broken)
+    -- what is left behind whole records
+    left-is : (big : Bool) (left : List ℕ) → RightHead big file → WholeThen big left (drop 24 file) → refusalBy failed (reportsOf file) ≡ refusalBy failed (recordsOf big left)
+    left-is big left h k = ap (refusalBy failed) (opens file big bytes h) ∙ then-left failed big (drop 24 file) left k
 
-  whole-is : EndsWhole file → refusalOf file ≡ 0
-  whole-is k = ap refusalIn (opens file (k .big) bytes (k .head)) ∙ then-left (k .big) (drop 24 file) [] (k .whole) ∙ ap refusalIn (records-none (k .big) [] refl)
+    broken-is : BrokenOff file → refusalBy failed (reportsOf file) ≡ 26
+    broken-is k = left-is (k .big) (k .left) (k .head) (k .before) ∙ broken-off failed (k .big) (k .left) (k .broken)
+
+    whole-is : EndsWhole file → refusalBy failed (reportsOf file) ≡ refusalBy failed []
+    whole-is k = left-is (k .big) [] (k .head) (k .whole) ∙ ap (refusalBy failed) (records-none (k .big) [] refl)
 
   -- one of the three at least
   data Kind : Type 0 where
@@ -299,29 +320,29 @@ module _ (file : List ℕ) (bytes : Bytes file) where
 
   -- "25 bad file header or another link type": exactly then
   pub exactly-25 : (refusalOf file ≡ 25) ↔ BadHead file
-  exactly-25 = (λ e. go e kind, bad-is)
+  exactly-25 = (λ e. go e kind, bad-is false)
     where
       go : refusalOf file ≡ 25 → Kind → BadHead file
       go e (is-bad k) = k
-      go e (is-broken k) = let z = broken-is k in absurd (omega arith)
-      go e (is-whole k) = let z = whole-is k in absurd (omega arith)
+      go e (is-broken k) = let z = broken-is false k in absurd (omega arith)
+      go e (is-whole k) = let z = whole-is false k in absurd (omega arith)
 
   -- "26 record cut off or over 65,536 bytes": exactly then
   pub exactly-26 : (refusalOf file ≡ 26) ↔ BrokenOff file
-  exactly-26 = (λ e. go e kind, broken-is)
+  exactly-26 = (λ e. go e kind, broken-is false)
     where
       go : refusalOf file ≡ 26 → Kind → BrokenOff file
-      go e (is-bad k) = let z = bad-is k in absurd (omega arith)
+      go e (is-bad k) = let z = bad-is false k in absurd (omega arith)
       go e (is-broken k) = k
-      go e (is-whole k) = let z = whole-is k in absurd (omega arith)
+      go e (is-whole k) = let z = whole-is false k in absurd (omega arith)
 
   -- an end between records: exactly where the file isn't refused
   pub exactly-whole : (refusalOf file ≡ 0) ↔ EndsWhole file
-  exactly-whole = (λ e. go e kind, whole-is)
+  exactly-whole = (λ e. go e kind, whole-is false)
     where
       go : refusalOf file ≡ 0 → Kind → EndsWhole file
-      go e (is-bad k) = let z = bad-is k in absurd (omega arith)
-      go e (is-broken k) = let z = broken-is k in absurd (omega arith)
+      go e (is-bad k) = let z = bad-is false k in absurd (omega arith)
+      go e (is-broken k) = let z = broken-is false k in absurd (omega arith)
       go e (is-whole k) = k
 
   -- of every file one of the three is so, and one alone
@@ -329,15 +350,55 @@ module _ (file : List ℕ) (bytes : Bytes file) where
   exactly-one = go kind
     where
       bad-broken : BadHead file → BrokenOff file → ⊥
-      bad-broken a b = let p = bad-is a in let q = broken-is b in absurd (omega arith)
+      bad-broken a b = let p = bad-is false a in let q = broken-is false b in absurd (omega arith)
 
       bad-whole : BadHead file → EndsWhole file → ⊥
-      bad-whole a b = let p = bad-is a in let q = whole-is b in absurd (omega arith)
+      bad-whole a b = let p = bad-is false a in let q = whole-is false b in absurd (omega arith)
 
       broken-whole : BrokenOff file → EndsWhole file → ⊥
-      broken-whole a b = let p = broken-is a in let q = whole-is b in absurd (omega arith)
+      broken-whole a b = let p = broken-is false a in let q = whole-is false b in absurd (omega arith)
 
       go : Kind → OneOf (BadHead file) (BrokenOff file) (EndsWhole file)
       go (is-bad k) = the-first k (bad-broken k) (bad-whole k)
       go (is-broken k) = the-second k (λ a. bad-broken a k) (broken-whole k)
       go (is-whole k) = the-third k (λ a. bad-whole a k) (λ b. broken-whole b k)
+
+  -- ---- a read that fails behind the bytes
+
+  -- within the file's first 24 bytes, and behind a head that isn't right: 25
+  pub failed-25 : (failedAfter file ≡ 25) ↔ BadHead file
+  failed-25 = (λ e. go e kind, bad-is true)
+    where
+      go : failedAfter file ≡ 25 → Kind → BadHead file
+      go e (is-bad k) = k
+      go e (is-broken k) = let z = broken-is true k in absurd (omega arith)
+      go e (is-whole k) = let z = whole-is true k in absurd (omega arith)
+
+  -- behind a right head: 26, within a record and between two of them
+  pub failed-26 : (failedAfter file ≡ 26) ↔ Headed file
+  failed-26 = (λ e. go e kind, λ h. cut (h .big) (h .head) kind)
+    where
+      go : failedAfter file ≡ 26 → Kind → Headed file
+      go e (is-bad k) = let z = bad-is true k in absurd (omega arith)
+      go e (is-broken k) = record { big = k .big; head = k .head }
+      go e (is-whole k) = record { big = k .big; head = k .head }
+
+      cut : (big : Bool) → RightHead big file → Kind → failedAfter file ≡ 26
+      cut big h (is-bad k) = absurd (not-both file big h k)
+      cut big h (is-broken k) = broken-is true k
+      cut big h (is-whole k) = whole-is true k
+
+  -- never an end
+  pub failed-refused : (failedAfter file ≡ 25) ⊎ (failedAfter file ≡ 26)
+  failed-refused = go kind
+    where
+      go : Kind → (failedAfter file ≡ 25) ⊎ (failedAfter file ≡ 26)
+      go (is-bad k) = inl (bad-is true k)
+      go (is-broken k) = inr (broken-is true k)
+      go (is-whole k) = inr (whole-is true k)
+
+-- and the records are those of a file that ends there
+pub failed-records : (reports : List Report) → recordsIn (closed true reports) ≡ recordsIn reports
+failed-records [] = refl
+failed-records (kept original bytes ∷ reports) = ap (λ (l : List Report). kept original bytes ∷ l) (failed-records reports)
+failed-records (refused number ∷ reports) = refl

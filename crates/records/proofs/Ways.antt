@@ -18,7 +18,7 @@ use Rattle.records.specs.declared.Order.{Order}
 use Rattle.records.specs.declared.Found.{Found}
 use Rattle.records.specs.declared.Found.the-variants as found
 use Rattle.records.specs.Heads.{capturedIn, originalIn, orderOf}
-use Rattle.records.specs.Unread.{LONGEST, ROOM, behindOf, shortOf, openedBy, headFound, recordFound, bytesIn, nextOf}
+use Rattle.records.specs.Unread.{LONGEST, ROOM, behindOf, shortOf, betweenOf, openedBy, headFound, recordFound, bytesIn, nextOf}
 use Rattle.records.specs.Files.{Report, kept, refused, whole, broken, firstOf, recordsOf, reportBy, reportsOf}
 use Rattle.records.proofs.Files.{number-front, first-head, first-long, first-cut, first-whole, records-broken, records-whole}
 
@@ -32,7 +32,8 @@ abbrev pub Coming : lines.Input → List ℕ → Type 0
 Coming unread coming = unread .ended ≡ true → coming ≡ []
 
 pub data Next (opened big : Bool) (unread : lines.Input) (bytes : List ℕ) (f : Found) : Type 0 where
-  nothing : unread .ended ≡ true → opened ≡ true → length bytes ≡ 0 → f ≡ found.End → Next opened big unread bytes f
+  nothing : unread .ended ≡ true → unread .failed ≡ false → opened ≡ true → length bytes ≡ 0 → f ≡ found.End → Next opened big unread bytes f
+  fails : unread .ended ≡ true → unread .failed ≡ true → opened ≡ true → length bytes ≡ 0 → f ≡ found.Refused RECORD → Next opened big unread bytes f
   waits : unread .ended ≡ false → length bytes < ROOM → f ≡ found.More → Next opened big unread bytes f
   breaks : (number : ℕ) → ((coming : List ℕ) → Coming unread coming → meant opened big (bytes ++ coming) ≡ refused number ∷ [])
       → f ≡ found.Refused number → Next opened big unread bytes f
@@ -80,7 +81,7 @@ module _ (unread : lines.Input) (bytes : List ℕ) where
     unfolding recordFound
     record-cases =
         go (eqb (length bytes) 0) refl (ltb (length bytes) 16) refl (ltb LONGEST (capturedIn big bytes)) refl
-        (ltb (length bytes - 16) (capturedIn big bytes)) refl (unread .ended) refl
+        (ltb (length bytes - 16) (capturedIn big bytes)) refl (unread .ended) refl (unread .failed) refl
       where
         captured : ℕ
         captured = capturedIn big bytes
@@ -107,31 +108,32 @@ module _ (unread : lines.Input) (bytes : List ℕ) where
             ∙ rw (drop-append-le 16 bytes coming h, take-append-le captured (drop 16 bytes) coming l, drop-append-le (16 + captured) bytes coming inside)
 
         go : (z : Bool) → eqb (length bytes) 0 ≡ z → (a : Bool) → ltb (length bytes) 16 ≡ a → (b : Bool) → ltb LONGEST captured ≡ b
-            → (d : Bool) → ltb (length bytes - 16) captured ≡ d → (ended : Bool) → unread .ended ≡ ended
+            → (d : Bool) → ltb (length bytes - 16) captured ≡ d → (ended : Bool) → unread .ended ≡ ended → (failed : Bool) → unread .failed ≡ failed
             → Next true big unread bytes
-            (cond z (cond ended found.End found.More) (cond a (cond ended (found.Refused RECORD) found.More) (cond b (found.Refused RECORD) (cond d (cond ended (found.Refused RECORD) found.More)
+            (cond z (cond ended (cond failed (found.Refused RECORD) found.End) found.More) (cond a (cond ended (found.Refused RECORD) found.More) (cond b (found.Refused RECORD) (cond d (cond ended (found.Refused RECORD) found.More)
             (found.Record (unread .at + 16) (unread .at + 16 + captured) (originalIn big bytes) (behindOf unread (16 + captured) big))))))
-        go true pz a pa b pb d pd true q = nothing q refl (eqb-true (length bytes) 0 pz) refl
-        go true pz a pa b pb d pd false q = waits q (let h = eqb-true (length bytes) 0 pz in omega arith) refl
-        go false pz true pa b pb d pd true q =
+        go true pz a pa b pb d pd true q true r = fails q r refl (eqb-true (length bytes) 0 pz) refl
+        go true pz a pa b pb d pd true q false r = nothing q r refl (eqb-true (length bytes) 0 pz) refl
+        go true pz a pa b pb d pd false q failed r = waits q (let h = eqb-true (length bytes) 0 pz in omega arith) refl
+        go false pz true pa b pb d pd true q failed r =
             let o : length bytes ≡ 0 → ⊥ = eqb-false (length bytes) 0 pz in
             let h = ltb-true (length bytes) 16 pa in
             breaks RECORD (λ coming c. ends coming c q (first-head big bytes (omega arith) h)) refl
-        go false pz true pa b pb d pd false q = waits q (let h = ltb-true (length bytes) 16 pa in omega arith) refl
-        go false pz false pa true pb d pd ended q =
+        go false pz true pa b pb d pd false q failed r = waits q (let h = ltb-true (length bytes) 16 pa in omega arith) refl
+        go false pz false pa true pb d pd ended q failed r =
             let h = ltb-false (length bytes) 16 pa in
             let g = ltb-true LONGEST captured pb in
             breaks RECORD (λ coming c. records-broken big (bytes ++ coming) (first-long big (bytes ++ coming) (more h coming) (rw (same h coming) g))) refl
-        go false pz false pa false pb true pd true q =
+        go false pz false pa false pb true pd true q failed r =
             let h = ltb-false (length bytes) 16 pa in
             let g = ltb-true (length bytes - 16) captured pd in
             breaks RECORD (λ coming c. ends coming c q (first-cut big bytes h g)) refl
-        go false pz false pa false pb true pd false q =
+        go false pz false pa false pb true pd false q failed r =
             let h = ltb-false (length bytes) 16 pa in
             let k = ltb-false LONGEST captured pb in
             let g = ltb-true (length bytes - 16) captured pd in
             waits q (omega arith) refl
-        go false pz false pa false pb false pd ended q =
+        go false pz false pa false pb false pd ended q failed r =
             let h : 16 ≤ length bytes = ltb-false (length bytes) 16 pa in
             let k : captured ≤ LONGEST = ltb-false LONGEST captured pb in
             let g : captured ≤ length bytes - 16 = ltb-false (length bytes - 16) captured pd in
@@ -185,7 +187,8 @@ next-inside buffer input {from} {to} {original} {rest} e = go (pieces.tidyOf (le
         let start : from ≡ input .unread .at + 16 = cc in
         let end : to ≡ input .unread .at + 16 + captured = cc in
         omega (arith, unread-length buffer (input .unread) t)
-    inside t (nothing g o l p) = clash (cc)
+    inside t (nothing g h o l p) = clash (cc)
+    inside t (fails g h o l p) = clash (cc)
     inside t (waits g l p) = clash (cc)
     inside t (breaks number f p) = clash (cc)
     inside t (opens big l f p) = clash (cc)

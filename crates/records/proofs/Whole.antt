@@ -16,7 +16,7 @@ use Rattle.lines.proofs.Laws.{tidy-is, unread-length}
 use Rattle.records.specs.declared.Input.{Input}
 use Rattle.records.specs.declared.Found.the-variants as found
 use Rattle.records.specs.Unread.{ROOM, startOf, behindOf, bytesIn, nextOf, Refilled}
-use Rattle.records.specs.Files.{Report, kept, refused, recordsOf, reportsOf, Turns, ends, refuses, opens, finds, more}
+use Rattle.records.specs.Files.{Report, kept, refused, recordsOf, reportsOf, cutOff, closed, Turns, ends, refuses, opens, finds, more}
 use Rattle.records.proofs.Files.{records-none}
 use Rattle.records.proofs.Ways as next
 use Rattle.records.proofs.Ways.{meant, Next, next-cases}
@@ -45,22 +45,32 @@ slice-part from to i n l h g =
 
 -- ---- a turn
 
--- what holds between two turns: at the end of the input nothing comes, and nothing was dropped
-record Sane (buffer : List ℕ) (input : Input) (coming : List ℕ) : Type 0 where
+-- what is refused is refused whether or not a read fails behind it, and what is kept is kept
+refused-closed : (failed : Bool) {reports : List Report} {number : ℕ} → reports ≡ refused number ∷ [] → closed failed reports ≡ refused number ∷ []
+refused-closed true e = ap cutOff e
+refused-closed false e = e
+
+kept-closed : (failed : Bool) (original : ℕ) (bytes : List ℕ) (reports : List Report)
+    → kept original bytes ∷ closed failed reports ≡ closed failed (kept original bytes ∷ reports)
+kept-closed true original bytes reports = refl
+kept-closed false original bytes reports = refl
+
+-- what holds between two turns: at the end of the input nothing comes, and whether a read failed is known; nothing was dropped
+record Sane (failed : Bool) (buffer : List ℕ) (input : Input) (coming : List ℕ) : Type 0 where
   tidy : tidyOf (length buffer) (input .unread) ≡ true
-  done : input .unread .ended ≡ true → coming ≡ []
+  done : input .unread .ended ≡ true → (input .unread .failed ≡ failed) × (coming ≡ [])
   entire : input .unread .over ≡ false
 
 -- the reports from here on are those that are meant
-abbrev Right : List ℕ → Input → List ℕ → List Report → Type 0
-Right buffer input coming reports = reports ≡ meant (input .opened) (input .big) (bytesIn buffer input ++ coming)
+abbrev Right : Bool → List ℕ → Input → List ℕ → List Report → Type 0
+Right failed buffer input coming reports = reports ≡ closed failed (meant (input .opened) (input .big) (bytesIn buffer input ++ coming))
 
 -- a turn to another input keeps that, where it makes n reports itself
-record Turn (buffer : List ℕ) (input : Input) (coming buffer′ : List ℕ) (input′ : Input) (coming′ : List ℕ) (own : List Report) : Type 0 where
-  sane : Sane buffer′ input′ coming′
-  right : (reports : List Report) → Right buffer′ input′ coming′ reports → Right buffer input coming (own ++ reports)
+record Turn (failed : Bool) (buffer : List ℕ) (input : Input) (coming buffer′ : List ℕ) (input′ : Input) (coming′ : List ℕ) (own : List Report) : Type 0 where
+  sane : Sane failed buffer′ input′ coming′
+  right : (reports : List Report) → Right failed buffer′ input′ coming′ reports → Right failed buffer input coming (own ++ reports)
 
-module _ {buffer : List ℕ} {input : Input} {coming : List ℕ} (room : ROOM ≤ length buffer) (k : Sane buffer input coming) where
+module _ {failed : Bool} {buffer : List ℕ} {input : Input} {coming : List ℕ} (room : ROOM ≤ length buffer) (k : Sane failed buffer input coming) where
   within : (input .unread .at ≤ input .unread .have) × (input .unread .have ≤ length buffer)
   within = tidy-is (length buffer) (input .unread) (k .tidy)
 
@@ -72,52 +82,64 @@ module _ {buffer : List ℕ} {input : Input} {coming : List ℕ} (room : ROOM �
 
   -- behind n bytes
   module _ (n : ℕ) (big : Bool) (h : n ≤ length (bytesIn buffer input)) where
-    sane-behind : Sane buffer (behindOf (input .unread) n big) coming
+    sane-behind : Sane failed buffer (behindOf (input .unread) n big) coming
     sane-behind = record { tidy = tidy-made (length buffer) (restOf (input .unread) (input .unread .at + n)) (omega (arith, size, within)) (within .1); done = k .done; entire = refl }
 
     bytes-behind : bytesIn buffer (behindOf (input .unread) n big) ≡ drop n (bytesIn buffer input)
     unfolding slice
     bytes-behind = sym (drop-drop n (input .unread .at) (take (input .unread .have) buffer))
 
-  end-turn : nextOf buffer input ≡ found.End → Right buffer input coming []
+  end-turn : nextOf buffer input ≡ found.End → Right failed buffer input coming []
   end-turn e = go cases
     where
-      go : Next (input .opened) (input .big) (input .unread) (bytesIn buffer input) (nextOf buffer input) → Right buffer input coming []
-      go (next.nothing g o l p) = rw (o, k .done g, no-bytes (bytesIn buffer input) l) (sym (records-none (input .big) [] refl))
+      go : Next (input .opened) (input .big) (input .unread) (bytesIn buffer input) (nextOf buffer input) → Right failed buffer input coming []
+      go (next.nothing g h o l p) =
+          let d = k .done g in
+          let whole : failed ≡ false = sym (d .0) ∙ h in
+          rw (whole, o, d .1, no-bytes (bytesIn buffer input) l) (sym (records-none (input .big) [] refl))
+      go (next.fails g h o l p) = clash (cc)
       go (next.waits g l p) = clash (cc)
       go (next.breaks number f p) = clash (cc)
       go (next.opens big l f p) = clash (cc)
       go (next.finds captured original o l f p) = clash (cc)
 
-  refuse-turn : {number : ℕ} → nextOf buffer input ≡ found.Refused number → Right buffer input coming (refused number ∷ [])
+  refuse-turn : {number : ℕ} → nextOf buffer input ≡ found.Refused number → Right failed buffer input coming (refused number ∷ [])
   refuse-turn {number} e = go cases
     where
-      go : Next (input .opened) (input .big) (input .unread) (bytesIn buffer input) (nextOf buffer input) → Right buffer input coming (refused number ∷ [])
-      go (next.breaks n f p) = let same : n ≡ number = cc in sym (f coming (k .done) ∙ ap (λ (m : ℕ). refused m ∷ []) same)
-      go (next.nothing g o l p) = clash (cc)
+      go : Next (input .opened) (input .big) (input .unread) (bytesIn buffer input) (nextOf buffer input) → Right failed buffer input coming (refused number ∷ [])
+      go (next.breaks n f p) =
+          let same : n ≡ number = cc in
+          sym (refused-closed failed (f coming (λ g. k .done g .1)) ∙ ap (λ (m : ℕ). refused m ∷ []) same)
+      go (next.fails g h o l p) =
+          let d = k .done g in
+          let same : 26 ≡ number = cc in
+          let cut : failed ≡ true = sym (d .0) ∙ h in
+          rw (cut, o, d .1, no-bytes (bytesIn buffer input) l) (sym (ap cutOff (records-none (input .big) [] refl) ∙ ap (λ (m : ℕ). refused m ∷ []) same))
+      go (next.nothing g h o l p) = clash (cc)
       go (next.waits g l p) = clash (cc)
       go (next.opens big l f p) = clash (cc)
       go (next.finds captured original o l f p) = clash (cc)
 
-  open-turn : {rest : Input} → nextOf buffer input ≡ found.Head rest → Turn buffer input coming buffer rest coming []
+  open-turn : {rest : Input} → nextOf buffer input ≡ found.Head rest → Turn failed buffer input coming buffer rest coming []
   open-turn {rest} e = go cases
     where
-      go : Next (input .opened) (input .big) (input .unread) (bytesIn buffer input) (nextOf buffer input) → Turn buffer input coming buffer rest coming []
+      go : Next (input .opened) (input .big) (input .unread) (bytesIn buffer input) (nextOf buffer input) → Turn failed buffer input coming buffer rest coming []
       go (next.opens big l f p) =
           let left : rest ≡ behindOf (input .unread) 24 big = cc in
           rw left
-          (record { sane = sane-behind 24 big l; right = λ reports t. t ∙ ap (λ (b : List ℕ). recordsOf big (b ++ coming)) (bytes-behind 24 big l) ∙ sym (f coming) })
-      go (next.nothing g o l p) = clash (cc)
+          (record { sane = sane-behind 24 big l; right = λ reports t. t ∙ ap (closed failed) (ap (λ (b : List ℕ). recordsOf big (b ++ coming)) (bytes-behind 24 big l) ∙ sym (f coming)) })
+      go (next.nothing g h o l p) = clash (cc)
+      go (next.fails g h o l p) = clash (cc)
       go (next.waits g l p) = clash (cc)
       go (next.breaks number f p) = clash (cc)
       go (next.finds captured original o l f p) = clash (cc)
 
   find-turn : {from to original : ℕ} {rest : Input} → nextOf buffer input ≡ found.Record from to original rest
-      → Turn buffer input coming buffer rest coming (kept original (slice from to buffer) ∷ [])
+      → Turn failed buffer input coming buffer rest coming (kept original (slice from to buffer) ∷ [])
   find-turn {from} {to} {original} {rest} e = go cases
     where
       go : Next (input .opened) (input .big) (input .unread) (bytesIn buffer input) (nextOf buffer input)
-          → Turn buffer input coming buffer rest coming (kept original (slice from to buffer) ∷ [])
+          → Turn failed buffer input coming buffer rest coming (kept original (slice from to buffer) ∷ [])
       go (next.finds captured o opened l f p) =
           let at : ℕ = input .unread .at in
           let start : from ≡ at + 16 = cc in
@@ -129,10 +151,12 @@ module _ {buffer : List ℕ} {input : Input} {coming : List ℕ} (room : ROOM �
           (record {
             sane = sane-behind (16 + captured) (input .big) l;
             right = λ reports t. ap (λ (r : List Report). kept o (take captured (drop 16 (bytesIn buffer input))) ∷ r)
-                (t ∙ ap (λ (b : List ℕ). recordsOf (input .big) (b ++ coming)) (bytes-behind (16 + captured) (input .big) l))
-                ∙ sym (f coming);
+                (t ∙ ap (λ (b : List ℕ). closed failed (recordsOf (input .big) (b ++ coming))) (bytes-behind (16 + captured) (input .big) l))
+                ∙ kept-closed failed o (take captured (drop 16 (bytesIn buffer input))) (recordsOf (input .big) (drop (16 + captured) (bytesIn buffer input) ++ coming))
+                ∙ ap (closed failed) (sym (f coming));
           })
-      go (next.nothing g o l p) = clash (cc)
+      go (next.nothing g h o l p) = clash (cc)
+      go (next.fails g h o l p) = clash (cc)
       go (next.waits g l p) = clash (cc)
       go (next.breaks number f p) = clash (cc)
       go (next.opens big l f p) = clash (cc)
@@ -152,7 +176,7 @@ module _ {buffer : List ℕ} {input : Input} {coming : List ℕ} (room : ROOM �
 
   more-turn : {r : Input} {buffer′ coming′ : List ℕ} → nextOf buffer input ≡ found.More → Refilled buffer input r buffer′
       → length buffer′ ≡ length buffer → coming ≡ slice (length (keptOf buffer (input .unread))) (r .unread .have) buffer′ ++ coming′
-      → (r .unread .ended ≡ true → coming′ ≡ []) → Turn buffer input coming buffer′ r coming′ []
+      → (r .unread .ended ≡ true → (r .unread .failed ≡ failed) × (coming′ ≡ [])) → Turn failed buffer input coming buffer′ r coming′ []
   unfolding keptOf slice
   more-turn {r} {buffer′} {coming′} e f same c d = go cases
     where
@@ -170,7 +194,7 @@ module _ {buffer : List ℕ} {input : Input} {coming : List ℕ} (room : ROOM �
           ∙ append-assoc held got coming′
           ∙ ap (λ (l : List ℕ). held ++ l) (sym c)
 
-      turn : length (bytesIn buffer input) < ROOM → Turn buffer input coming buffer′ r coming′ []
+      turn : length (bytesIn buffer input) < ROOM → Turn failed buffer input coming buffer′ r coming′ []
       turn h =
           let q = unlost h in
           let keeps : held ≡ bytesIn buffer input = rw (k .tidy, q) in
@@ -183,26 +207,27 @@ module _ {buffer : List ℕ} {input : Input} {coming : List ℕ} (room : ROOM �
             right = λ reports t. t ∙ rw (f .opened, f .big, all, keeps);
           }
 
-      go : Next (input .opened) (input .big) (input .unread) (bytesIn buffer input) (nextOf buffer input) → Turn buffer input coming buffer′ r coming′ []
+      go : Next (input .opened) (input .big) (input .unread) (bytesIn buffer input) (nextOf buffer input) → Turn failed buffer input coming buffer′ r coming′ []
       go (next.waits g l p) = turn l
-      go (next.nothing g o l p) = clash (cc)
+      go (next.nothing g h o l p) = clash (cc)
+      go (next.fails g h o l p) = clash (cc)
       go (next.breaks number g p) = clash (cc)
       go (next.opens big l g p) = clash (cc)
       go (next.finds captured original o l g p) = clash (cc)
 
 -- ---- all turns
 
-right-turns : {buffer : List ℕ} {input : Input} {coming : List ℕ} {reports : List Report} → ROOM ≤ length buffer → Sane buffer input coming
-    → Turns buffer input coming reports → Right buffer input coming reports
+right-turns : {failed : Bool} {buffer : List ℕ} {input : Input} {coming : List ℕ} {reports : List Report} → ROOM ≤ length buffer → Sane failed buffer input coming
+    → Turns failed buffer input coming reports → Right failed buffer input coming reports
 right-turns o k (ends e) = end-turn o k e
 right-turns o k (refuses e) = refuse-turn o k e
 right-turns o k (opens e t) = let s = open-turn o k e in s .right _ (right-turns o (s .sane) t)
 right-turns o k (finds e t) = let s = find-turn o k e in s .right _ (right-turns o (s .sane) t)
 right-turns o k (more e f same c d t) = let s = more-turn o k e f same c d in s .right _ (right-turns (omega arith) (s .sane) t)
 
--- from the start on, every record of the file is reported, once and in order, and 25 or 26 where the file is refused
-pub every-record : (buffer coming : List ℕ) (reports : List Report) → ROOM ≤ length buffer → Turns buffer startOf coming reports
-    → reports ≡ reportsOf coming
+-- from the start on, every record of the file is reported, once and in order, and 25 or 26 where the file is refused or a read fails
+pub every-record : {failed : Bool} (buffer coming : List ℕ) (reports : List Report) → ROOM ≤ length buffer → Turns failed buffer startOf coming reports
+    → reports ≡ closed failed (reportsOf coming)
 unfolding slice
 every-record buffer coming reports o t =
     right-turns o (record { tidy = tidy-made (length buffer) (startOf .unread) (omega arith) (omega arith); done = λ e. absurd (false≢true e); entire = refl }) t

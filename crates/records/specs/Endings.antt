@@ -5,7 +5,7 @@ use mathlib.Core.List.{List, [], _∷_, _++_}
 use Prim.Native.Nat.{ℕ, _+_, _≤_, _<_}
 use lib.ListN.{length, getD, take, drop}
 use Rattle.records.specs.Heads.{capturedIn}
-use Rattle.records.specs.Files.{Report, kept, refused, reportsOf}
+use Rattle.records.specs.Files.{Report, kept, refused, reportsOf, closed}
 
 -- the number by which a file is refused, or 0
 abbrev pub refusalIn : List Report → ℕ
@@ -15,6 +15,16 @@ refusalIn (refused number ∷ reports) = number
 
 abbrev pub refusalOf : List ℕ → ℕ
 refusalOf file = refusalIn (reportsOf file)
+
+-- the number that is reported where a read fails behind some bytes of a file
+abbrev pub failedAfter : List ℕ → ℕ
+failedAfter bytes = refusalIn (closed true (reportsOf bytes))
+
+-- the records that are reported
+abbrev pub recordsIn : List Report → List Report
+recordsIn [] = []
+recordsIn (kept original bytes ∷ reports) = kept original bytes ∷ recordsIn reports
+recordsIn (refused number ∷ reports) = recordsIn reports
 
 -- what a file is made of
 abbrev pub Bytes : List ℕ → Type 0
@@ -90,6 +100,11 @@ pub record EndsWhole (file : List ℕ) : Type 0 where
   pub big : Bool
   pub head : RightHead big file
   pub whole : WholeThen big [] (drop 24 file)
+
+-- a file's head that is right, whatever stands behind it
+pub record Headed (file : List ℕ) : Type 0 where
+  pub big : Bool
+  pub head : RightHead big file
 
 -- one of three, and neither of the others
 pub data OneOf (A B C : Type 0) : Type 0 where

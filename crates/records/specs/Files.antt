@@ -56,18 +56,30 @@ reportBy Order.Big bytes = recordsOf true bytes
 unfoldable pub reportsOf : List ℕ → List Report
 reportsOf file = cond (ltb (length file) 24) (refused FILE-HEAD ∷ []) (reportBy (orderOf (take 24 file)) (drop 24 file))
 
--- the turns of a program: by the buffer, the input and the bytes that are still to come, what it reports
-pub data Turns : List ℕ → Input → List ℕ → List Report → Type 0 where
-  ends : {buffer : List ℕ} {input : Input} {coming : List ℕ} → nextOf buffer input ≡ found.End → Turns buffer input coming []
+-- what is reported of the bytes before a read that failed: what is reported of a file of them, and where that isn't refused, the record that may follow is
+-- "cut off"
+abbrev pub cutOff : List Report → List Report
+cutOff [] = refused RECORD ∷ []
+cutOff (kept original bytes ∷ reports) = kept original bytes ∷ cutOff reports
+cutOff (refused number ∷ reports) = refused number ∷ reports
+
+-- by whether a read fails behind the bytes, or they are the whole file
+abbrev pub closed : Bool → List Report → List Report
+closed failed reports = cond failed (cutOff reports) reports
+
+-- the turns of a program: by whether a read fails in the end, the buffer, the input and the bytes that are still to come, what it reports
+pub data Turns (failed : Bool) : List ℕ → Input → List ℕ → List Report → Type 0 where
+  ends : {buffer : List ℕ} {input : Input} {coming : List ℕ} → nextOf buffer input ≡ found.End → Turns failed buffer input coming []
   refuses : {buffer : List ℕ} {input : Input} {coming : List ℕ} {number : ℕ}
-      → nextOf buffer input ≡ found.Refused number → Turns buffer input coming (refused number ∷ [])
+      → nextOf buffer input ≡ found.Refused number → Turns failed buffer input coming (refused number ∷ [])
   opens : {buffer : List ℕ} {input rest : Input} {coming : List ℕ} {reports : List Report}
-      → nextOf buffer input ≡ found.Head rest → Turns buffer rest coming reports → Turns buffer input coming reports
+      → nextOf buffer input ≡ found.Head rest → Turns failed buffer rest coming reports → Turns failed buffer input coming reports
   finds : {buffer : List ℕ} {input rest : Input} {from to original : ℕ} {coming : List ℕ} {reports : List Report}
-      → nextOf buffer input ≡ found.Record from to original rest → Turns buffer rest coming reports
-      → Turns buffer input coming (kept original (slice from to buffer) ∷ reports)
-  -- the bytes that were read come first of those to come, and where none were read, none are
+      → nextOf buffer input ≡ found.Record from to original rest → Turns failed buffer rest coming reports
+      → Turns failed buffer input coming (kept original (slice from to buffer) ∷ reports)
+  -- the bytes that were read come first of those to come, and where none were read, none are, and the read failed or the file has ended
   more : {buffer buffer′ : List ℕ} {input r : Input} {coming coming′ : List ℕ} {reports : List Report}
       → nextOf buffer input ≡ found.More → Refilled buffer input r buffer′ → length buffer′ ≡ length buffer
-      → coming ≡ slice (length (keptOf buffer (input .unread))) (r .unread .have) buffer′ ++ coming′ → (r .unread .ended ≡ true → coming′ ≡ [])
-      → Turns buffer′ r coming′ reports → Turns buffer input coming reports
+      → coming ≡ slice (length (keptOf buffer (input .unread))) (r .unread .have) buffer′ ++ coming′
+      → (r .unread .ended ≡ true → (r .unread .failed ≡ failed) × (coming′ ≡ []))
+      → Turns failed buffer′ r coming′ reports → Turns failed buffer input coming reports

@@ -37,6 +37,10 @@ behindOf unread n big = record { unread = pieces.restOf unread (unread .at + n);
 abbrev pub shortOf : Bool → ℕ → Found
 shortOf ended number = cond ended (Refused number) More
 
+-- between two records: the end, if nothing more comes; if reading failed, the record that may follow is "cut off"
+abbrev pub betweenOf : lines.Input → Found
+betweenOf unread = cond (unread .ended) (cond (unread .failed) (Refused RECORD) End) More
+
 -- by the byte order of a file's head
 abbrev pub openedBy : lines.Input → Order → Found
 openedBy unread Order.Bad = Refused FILE-HEAD
@@ -50,7 +54,7 @@ headFound bytes unread = cond (ltb (length bytes) 24) (shortOf (unread .ended) F
 -- of a record: an end between two of them; a head that is cut off; a length that is too large; bytes that are cut off; a whole one
 unfoldable pub recordFound : List ℕ → lines.Input → Bool → Found
 recordFound bytes unread big =
-    cond (eqb (length bytes) 0) (cond (unread .ended) End More)
+    cond (eqb (length bytes) 0) (betweenOf unread)
     (cond (ltb (length bytes) 16) (shortOf (unread .ended) RECORD)
     (cond (ltb LONGEST (capturedIn big bytes)) (Refused RECORD)
     (cond (ltb (length bytes - 16) (capturedIn big bytes)) (shortOf (unread .ended) RECORD)

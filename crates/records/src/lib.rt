@@ -5,7 +5,7 @@ ghost use Prim.Native.Nat.{_+_, _≤_, _<_};
 ghost use lib.ListN.{length, getD};
 ghost use Rattle.lines.specs.Unread.{tidyOf};
 ghost use Rattle.records.specs.Heads.{numberAt, pairAt, isRight, orderOf};
-ghost use Rattle.records.specs.Unread.{startOf, behindOf, shortOf, headFound, recordFound, nextOf, Refilled};
+ghost use Rattle.records.specs.Unread.{startOf, behindOf, shortOf, betweenOf, headFound, recordFound, nextOf, Refilled};
 use quantity::refusal::FILE_HEAD;
 use quantity::refusal::RECORD;
 
@@ -160,6 +160,7 @@ fn behind(unread: lines::Input, n: usize, big: bool) -> Input
         have: unread.have,
         over: false,
         ended: unread.ended,
+        failed: unread.failed,
     };
     Input {
         unread: rest,
@@ -174,6 +175,20 @@ fn short(ended: bool, number: u8) -> Found
 {
     if ended {
         return Found::Refused(number);
+    }
+    Found::More
+}
+
+// What is found between two records: the end, if nothing more comes; where reading failed, the record that may follow
+// is cut off.
+fn between(unread: lines::Input) -> Found
+    ensures { λ r. ⌜ r ≡ betweenOf unread ⌝ }
+{
+    if unread.ended {
+        if unread.failed {
+            return Found::Refused(RECORD);
+        }
+        return Found::End;
     }
     Found::More
 }
@@ -199,10 +214,7 @@ fn record_found(bytes: &[u8], unread: lines::Input, big: bool) -> Found
     ensures { λ r. ⌜ r ≡ recordFound (now (bytes .entry)) unread big ⌝ }
 {
     if bytes.len() == 0 {
-        if unread.ended {
-            return Found::End;
-        }
-        return Found::More;
+        return between(unread);
     }
     if bytes.len() < RECORD_HEAD {
         return short(unread.ended, RECORD);

@@ -5,7 +5,7 @@ use mathlib.Core.Path.{_≡_, sym, _∙_}
 use lib.ListN.{length}
 use Rattle.lines.specs.Unread.{tidyOf}
 use borrow.Author.Tests.{not-true, not-false}
-use Rattle.lines.proofs.Laws.{tidy-is, next-end, next-line, next-last, next-more}
+use Rattle.lines.proofs.Laws.{tidy-is, next-end, next-line, next-failed, next-last, next-more}
 use borrow.Author.Needs.{needs}
 use Rattle.lines.proofs.next.Statement.{statement}
 use Rattle.lines.proofs.next.Tie as tie
@@ -33,18 +33,25 @@ returns-2 c =
     let at = c .before .before .before in
     c .line .ensures ∙ next-line _ _ (tidied at) (c .before .before .find .ensures .0) (omega arith)
 
+returns-3 : tie.Need-returns-3
+returns-3 c =
+    let at = c .before .before .before in
+    next-failed _ _ (tidied at) (c .before .before .find .ensures .0) (omega arith) (c .if3 .taken)
+
 last-requires : tie.Need-last-requires
 last-requires c κs = search needs
 
-returns-3 : tie.Need-returns-3
-returns-3 c =
-    let at = c .before .before .before .before in
-    c .last .ensures ∙ next-last _ _ (tidied at) (c .before .before .before .find .ensures .0) (omega arith) (c .before .if3 .taken)
-
 returns-4 : tie.Need-returns-4
 returns-4 c =
-    let at = c .before .before .before in
-    next-more _ _ (tidied at) (c .before .before .find .ensures .0) (omega arith) (c .if3 .left)
+    let test = c .before .before in
+    let at = test .before .before .before in
+    c .last .ensures ∙ next-last _ _ (tidied at) (test .before .before .find .ensures .0) (omega arith) (test .if3 .left) (c .before .if4 .taken)
+
+returns-5 : tie.Need-returns-5
+returns-5 c =
+    let test = c .before in
+    let at = test .before .before .before in
+    next-more _ _ (tidied at) (test .before .before .find .ensures .0) (omega arith) (test .if3 .left) (c .if4 .left)
 
 pub next-spec : {M : Type 1} → statement M
 next-spec =
@@ -56,6 +63,7 @@ next-spec =
     add-line
     line-requires
     returns-2
-    last-requires
     returns-3
-    returns-4)
+    last-requires
+    returns-4
+    returns-5)

@@ -20,16 +20,20 @@ read-requires c κs = search needs
 count-requires : tie.Need-count-requires
 count-requires c κs = search needs
 
-add-t7 : tie.Need-add-t7
-add-t7 c = search needs
+add-have : tie.Need-add-have
+add-have c = search needs
+
+after-requires : tie.Need-after-requires
+after-requires c κs = search needs
 
 same-length : tie.Need-same-length
 same-length c = search needs
 
 returns : tie.Need-returns
 returns c =
-    let read = c .before .before .before .before .before .before .read in
-    behind-is _ _ _ _ (read .last .1 .0) (omega arith) (read .kept .1 .0) (c .before .before .count .ensures .0 .0)
+    let counted = c .before .before .before in
+    let read = counted .before .before .before .before .read in
+    behind-is _ _ _ _ _ (read .last .1 .0) (omega arith) (read .kept .1 .0) (counted .count .ensures .0 .0) (counted .count .ensures .1) (c .after .ensures)
 
 pub read-behind-spec : {M : Type 1} → statement M
 read-behind-spec =
@@ -40,6 +44,7 @@ read-behind-spec =
     part-part-end
     read-requires
     count-requires
-    add-t7
+    add-have
+    after-requires
     same-length
     returns)

@@ -5,37 +5,36 @@ use borrow.Author.Needs.{needs}
 use Rattle.records.proofs.record_found.Statement.{statement}
 use Rattle.records.proofs.record_found.Tie as tie
 
+between-requires : tie.Need-between-requires
+between-requires c κs = search needs
+
 returns : tie.Need-returns
 unfolding recordFound
-returns c = rw (eq-eqb _ 0 (c .before .if1 .taken), c .if2 .taken)
-
-returns-2 : tie.Need-returns-2
-unfolding recordFound
-returns-2 c = rw (eq-eqb _ 0 (c .before .if1 .taken), c .if2 .left)
+returns c = rw (eq-eqb _ 0 (c .before .if1 .taken)) (c .between .ensures)
 
 short-requires : tie.Need-short-requires
 short-requires c κs = search needs
 
-returns-3 : tie.Need-returns-3
+returns-2 : tie.Need-returns-2
 unfolding recordFound
-returns-3 c = rw (ne-eqb _ 0 (c .before .before .if1 .left), lt-ltb _ 16 (c .before .if3 .taken)) (c .short .ensures)
+returns-2 c = rw (ne-eqb _ 0 (c .before .before .if1 .left), lt-ltb _ 16 (c .before .if2 .taken)) (c .short .ensures)
 
 number-requires : tie.Need-number-requires
 number-requires c κs = search needs
 
-returns-4 : tie.Need-returns-4
+returns-3 : tie.Need-returns-3
 unfolding recordFound
-returns-4 c = rw (← (c .before .number .ensures)) (simp (ne-eqb _ 0 (c .before .before .before .if1 .left), le-ltb _ 16 (c .before .before .if3 .left), lt-ltb LONGEST _ (c .if4 .taken)))
+returns-3 c = rw (← (c .before .number .ensures)) (simp (ne-eqb _ 0 (c .before .before .before .if1 .left), le-ltb _ 16 (c .before .before .if2 .left), lt-ltb LONGEST _ (c .if3 .taken)))
 
-sub-if5 : tie.Need-sub-if5
-sub-if5 c = search needs
+sub-if4 : tie.Need-sub-if4
+sub-if4 c = search needs
 
 short-requires-2 : tie.Need-short-requires-2
 short-requires-2 c κs = search needs
 
-returns-5 : tie.Need-returns-5
+returns-4 : tie.Need-returns-4
 unfolding recordFound
-returns-5 c = rw (← (c .before .before .before .number .ensures)) (simp (ne-eqb _ 0 (c .before .before .before .before .before .if1 .left), le-ltb _ 16 (c .before .before .before .before .if3 .left), le-ltb LONGEST _ (c .before .before .if4 .left), lt-ltb _ _ (c .before .if5 .taken)) (c .short2 .ensures))
+returns-4 c = rw (← (c .before .before .before .number .ensures)) (simp (ne-eqb _ 0 (c .before .before .before .before .before .if1 .left), le-ltb _ 16 (c .before .before .before .before .if2 .left), le-ltb LONGEST _ (c .before .before .if3 .left), lt-ltb _ _ (c .before .if4 .taken)) (c .short2 .ensures))
 
 add-from : tie.Need-add-from
 add-from c = search needs
@@ -52,26 +51,26 @@ add-behind c = search needs
 behind-requires : tie.Need-behind-requires
 behind-requires c κs = search needs
 
-returns-6 : tie.Need-returns-6
+returns-5 : tie.Need-returns-5
 unfolding recordFound
-returns-6 c = rw (← (c .before .before .before .before .before .number .ensures), ← (c .before .number2 .ensures)) (simp (ne-eqb _ 0 (c .before .before .before .before .before .before .before .if1 .left), le-ltb _ 16 (c .before .before .before .before .before .before .if3 .left), le-ltb LONGEST _ (c .before .before .before .before .if4 .left), le-ltb _ _ (c .before .before .before .if5 .left), c .behind .ensures))
+returns-5 c = rw (← (c .before .before .before .before .before .number .ensures), ← (c .before .number2 .ensures)) (simp (ne-eqb _ 0 (c .before .before .before .before .before .before .before .if1 .left), le-ltb _ 16 (c .before .before .before .before .before .before .if2 .left), le-ltb LONGEST _ (c .before .before .before .before .if3 .left), le-ltb _ _ (c .before .before .before .if4 .left), c .behind .ensures))
 
 pub record-found-spec : {M : Type 1} → statement M
 record-found-spec =
     tie.close
     (tie.spec
+    between-requires
     returns
-    returns-2
     short-requires
-    returns-3
+    returns-2
     number-requires
-    returns-4
-    sub-if5
+    returns-3
+    sub-if4
     short-requires-2
-    returns-5
+    returns-4
     add-from
     add-to
     number-requires-2
     add-behind
     behind-requires
-    returns-6)
+    returns-5)
