@@ -9,7 +9,7 @@ use lib.Dec.{eqb, leb}
 use lib.ListN.{length, getD, replicate, length-replicate, getD-replicate}
 use Rattle.quantity.specs.declared.count.DatalinkId.{DatalinkId}
 use Rattle.meaning.specs.declared.message.End.{End}
-use Rattle.records.specs.Files.{Report, kept, reportsOf, Turns}
+use Rattle.records.specs.Files.{Report, kept, reportsOf, closed, Turns}
 use Rattle.records.specs.Unread.{ROOM, startOf}
 use Rattle.records.proofs.Whole.{every-record}
 use Rattle.records.specs.Files as files
@@ -90,10 +90,11 @@ module _ (ports : Ports) (id : DatalinkId) where
       tallied outcomes zeros (placeOf count) inside (rw zero-there (omega arith))
       ∙ rw (zero-there, total-same (λ outcome. amountIn (placeOf count) (addsOf outcome)) (amountOf count) (counted count k) outcomes (outcomes-fair reports)) (omega arith)
 
-  -- ---- the same of a file that comes in whatever pieces, each record found being counted
+  -- ---- the same of a file that comes in whatever pieces, or whose reading fails, each record found being counted
 
-  pub whole-count : (buffer file : List ℕ) (reports : List Report) → ROOM ≤ length buffer → Turns buffer startOf file reports → (count : Count) → Counted count
-      → getD (countAll (outcomesOf ports id reports) (replicate PLACES 0)) (placeOf count) 0 ≡ min MOST (totalOf (amountOf count) (outcomesOf ports id (reportsOf file)))
+  pub whole-count : {failed : Bool} (buffer file : List ℕ) (reports : List Report) → ROOM ≤ length buffer → Turns failed buffer startOf file reports → (count : Count) → Counted count
+      → getD (countAll (outcomesOf ports id reports) (replicate PLACES 0)) (placeOf count) 0
+      ≡ min MOST (totalOf (amountOf count) (outcomesOf ports id (closed failed (reportsOf file))))
   whole-count buffer file reports room turns count k =
       every-count reports count k
       ∙ ap (λ (r : List Report). min MOST (totalOf (amountOf count) (outcomesOf ports id r))) (every-record buffer file reports room turns)

@@ -15,7 +15,7 @@ use Rattle.quantity.specs.Limits.{CHANNEL-IDS}
 use Rattle.meaning.specs.declared.message.End.{End}
 use Rattle.meaning.specs.declared.message.Sequence.{Sequence}
 use Rattle.reader.specs.Readings.{Verdict, readControl, readData}
-use Rattle.records.specs.Files.{Report, kept, refused, reportsOf, Turns}
+use Rattle.records.specs.Files.{Report, kept, refused, reportsOf, closed, Turns}
 use Rattle.records.specs.Unread.{ROOM, startOf}
 use Rattle.records.proofs.Whole.{every-record}
 use Rattle.ethernet.specs.declared.Kind.{Kind}
@@ -259,8 +259,8 @@ module _ (ports : Ports) (id : DatalinkId) (reports : List Report) (channel : �
     pub finding-exactly : (f : Finding) → (findingOf left channel ≡ f → Says ports id reports channel f) × (Says ports id reports channel f → findingOf left channel ≡ f)
     finding-exactly f = (λ e. rw (← e) finding-says, λ s. says-one (findingOf left channel) f finding-says s)
 
--- the same of a file that comes in whatever pieces, each record found being judged
-pub whole-finding : (ports : Ports) (id : DatalinkId) (buffer file : List ℕ) (reports : List Report) → ROOM ≤ length buffer → Turns buffer startOf file reports
-    → (channel n : ℕ) → channel < CHANNEL-IDS → WORDS ≤ n → Says ports id (reportsOf file) channel (findingOf (judgedAll ports id 1 reports (replicate n 0)) channel)
+-- the same of a file that comes in whatever pieces, or whose reading fails, each record found being judged
+pub whole-finding : {failed : Bool} (ports : Ports) (id : DatalinkId) (buffer file : List ℕ) (reports : List Report) → ROOM ≤ length buffer → Turns failed buffer startOf file reports
+    → (channel n : ℕ) → channel < CHANNEL-IDS → WORDS ≤ n → Says ports id (closed failed (reportsOf file)) channel (findingOf (judgedAll ports id 1 reports (replicate n 0)) channel)
 whole-finding ports id buffer file reports room turns channel n known words =
     rw (← (every-record buffer file reports room turns)) (finding-says ports id reports channel n known words)
