@@ -34,6 +34,11 @@ pub enum Found {
     Failed,
 }
 
+// What a program says on standard error where reading, or writing, failed.
+pub const UNREAD: [u8; 33] = *b"standard input could not be read\n";
+
+pub const UNWRITTEN: [u8; 37] = *b"standard output could not be written\n";
+
 // Nothing is read yet.
 pub fn start() -> Input
     ensures { λ r. ⌜ r ≡ startOf ⌝ }

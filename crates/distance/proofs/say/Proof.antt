@@ -1,6 +1,6 @@
--- `say` is safe: the answer and its newline lie within the output. Assumes nothing.
+-- `say` is safe: the answer fills the output as it was lent. Assumes nothing.
 use mathlib.Core.Path.{sym}
-use Rattle.text.proofs.Writing.{lays-inside, wrote-size, wrote-inside}
+use Rattle.text.proofs.Writing.{wrote-size}
 use borrow.Author.Needs.{needs}
 use Rattle.distance.proofs.say.Statement.{statement}
 use Rattle.distance.proofs.say.Tie as tie
@@ -17,17 +17,11 @@ slice-aggregate-put-2 c = search needs
 put-requires : tie.Need-put-requires
 put-requires c κs = search needs
 
-sub-write-all : tie.Need-sub-write-all
-sub-write-all c = search needs
+slice-aggregate-print : tie.Need-slice-aggregate-print
+slice-aggregate-print c = search needs
 
-part-write-all-start : tie.Need-part-write-all-start
-part-write-all-start c = search needs
-
-part-write-all-end : tie.Need-part-write-all-end
-part-write-all-end c = lays-inside (wrote-inside (c .before .before .before .before .before .answer .ensures)) (c .before .before .put .ensures)
-
-write-all-requires : tie.Need-write-all-requires
-write-all-requires c κs = search needs
+print-requires : tie.Need-print-requires
+print-requires c κs = search needs
 
 returns : tie.Need-returns
 returns c = search needs
@@ -40,8 +34,6 @@ say-spec =
     slice-aggregate-put
     slice-aggregate-put-2
     put-requires
-    sub-write-all
-    part-write-all-start
-    part-write-all-end
-    write-all-requires
+    slice-aggregate-print
+    print-requires
     returns)

@@ -1,17 +1,17 @@
 -- `serve` is safe and ends: a line that is found lies within the buffer, and the turns that are left fall. Assumes nothing.
 use Prim.Native.Nat.{_≤_}
-use borrow.Author.Needs.{needs}
 use mathlib.Core.Path.{_≡_, sym, _∙_}
 use lib.ListN.{length}
 use Rattle.lines.proofs.Laws.{next-inside}
+use borrow.Author.Needs.{needs}
 use Rattle.distance.proofs.serve.Statement.{statement}
 use Rattle.distance.proofs.serve.Tie as tie
 
 abbrev Inv-loop : tie.InvT-loop
-Inv-loop buffer₀ input₀ turns₀ t8 buffer input turns = length buffer ≡ length buffer₀
+Inv-loop buffer₀ input₀ turns₀ t8 t9 buffer input turns = length buffer ≡ length buffer₀
 
 abbrev μ-loop : tie.MeasureT-loop
-μ-loop buffer₀ input₀ turns₀ t8 buffer input turns = turns
+μ-loop buffer₀ input₀ turns₀ t8 t9 buffer input turns = turns
 
 inside : (c : tie.After-known-told Inv-loop μ-loop) → let line = c .before .from .given .0 in
     (line .0 ≤ line .1 .0) × (line .1 .0 ≤ length (c .before .before .before .before .before .before .loop .buffer))
@@ -65,6 +65,12 @@ part-say-end c = inside (c .before) .1
 say-requires : tie.Need-say-requires Inv-loop μ-loop
 say-requires c κs = search needs
 
+same-length-2 : tie.Need-same-length-2 Inv-loop μ-loop
+same-length-2 c = search needs
+
+returns-2 : tie.Need-returns-2 Inv-loop μ-loop
+returns-2 c = search needs
+
 loop-less-2 : tie.Need-loop-less-2 Inv-loop μ-loop
 loop-less-2 c = search needs
 
@@ -80,17 +86,38 @@ slice-aggregate-say c = search needs
 say-requires-2 : tie.Need-say-requires-2 Inv-loop μ-loop
 say-requires-2 c κs = search needs
 
+same-length-3 : tie.Need-same-length-3 Inv-loop μ-loop
+same-length-3 c = search needs
+
+returns-3 : tie.Need-returns-3 Inv-loop μ-loop
+returns-3 c = search needs
+
 loop-less-3 : tie.Need-loop-less-3 Inv-loop μ-loop
 loop-less-3 c = search needs
 
 loop-again-3 : tie.Need-loop-again-3 Inv-loop μ-loop
 loop-again-3 c = search needs
 
-same-length-2 : tie.Need-same-length-2 Inv-loop μ-loop
-same-length-2 c = search needs
+enum-told-3 : tie.Need-enum-told-3 Inv-loop μ-loop
+enum-told-3 c = search needs
 
-returns-2 : tie.Need-returns-2 Inv-loop μ-loop
-returns-2 c = search needs
+slice-aggregate-write-all : tie.Need-slice-aggregate-write-all Inv-loop μ-loop
+slice-aggregate-write-all c = search needs
+
+write-all-requires : tie.Need-write-all-requires Inv-loop μ-loop
+write-all-requires c κs = search needs
+
+same-length-4 : tie.Need-same-length-4 Inv-loop μ-loop
+same-length-4 c = search needs
+
+returns-4 : tie.Need-returns-4 Inv-loop μ-loop
+returns-4 c = search needs
+
+same-length-5 : tie.Need-same-length-5 Inv-loop μ-loop
+same-length-5 c = search needs
+
+returns-5 : tie.Need-returns-5 Inv-loop μ-loop
+returns-5 c = search needs
 
 pub serve-spec : {M : Type 1} → statement M
 serve-spec =
@@ -114,12 +141,21 @@ serve-spec =
     part-say-start
     part-say-end
     say-requires
+    same-length-2
+    returns-2
     loop-less-2
     loop-again-2
     enum-known-rest
     slice-aggregate-say
     say-requires-2
+    same-length-3
+    returns-3
     loop-less-3
     loop-again-3
-    same-length-2
-    returns-2)
+    enum-told-3
+    slice-aggregate-write-all
+    write-all-requires
+    same-length-4
+    returns-4
+    same-length-5
+    returns-5)
