@@ -112,3 +112,12 @@ meant-last size bytes h o short =
     let cut = none-at [] bytes h in
     reports-first size (bytes ++ []) (simp length-append (omega arith))
     ∙ rw (cut .line, cut .rest, append-nil bytes, lt-ltb (length bytes) size short)
+
+-- and one line at most
+pub meant-one : (size : ℕ) (over : Bool) (bytes : List ℕ) → indexOf 10 bytes ≡ length bytes → length (meant size over (bytes ++ [])) ≤ 1
+unfolding behindLine linesOf
+meant-one size true bytes h = let e : length (meant size true (bytes ++ [])) ≡ 1 = ap length (meant-on size bytes [] h) in omega arith
+meant-one size false [] h = omega arith
+meant-one size false (byte ∷ bytes) h =
+    let cut = none-at [] (byte ∷ bytes) h in
+    rw (reports-first size ((byte ∷ bytes) ++ []) (simp length-append (omega arith)), cut .rest) (omega arith)

@@ -11,12 +11,12 @@ use lib.Seq.{take-take, drop-drop}
 use Rattle.facts.proofs.Tests.{neither, clash}
 use Rattle.bytes.specs.Bytes.{slice}
 use Rattle.lines.specs.declared.Input.{Input}
-use Rattle.lines.specs.declared.Found.the-variants.{More, End, Line, Over}
+use Rattle.lines.specs.declared.Found.the-variants.{More, End, Line, Over, Failed}
 use Rattle.lines.specs.Unread.{startOf, tidyOf, restOf, nextOf, lostOf, keptOf, Filled}
-use Rattle.lines.specs.Reports.{linesOf, Report, whole, dropped, reportsOf, Turns, ends, line, over, more}
+use Rattle.lines.specs.Reports.{linesOf, Report, whole, dropped, reportsOf, Turns, ends, fails, line, over, more, AllButLast}
 use Rattle.lines.proofs.Laws.{tidy-is, slice-is, unread, stop, unread-length, next-cases}
 use Rattle.lines.proofs.Laws.{Next, a-line, a-dropped, last-line, last-dropped, unended, nothing, unreadable}
-use Rattle.lines.proofs.Split.{behindLine, meant, meant-line, meant-over, meant-on, meant-full, meant-last}
+use Rattle.lines.proofs.Split.{behindLine, meant, meant-line, meant-over, meant-on, meant-full, meant-last, meant-one}
 
 -- ---- what is unread, and what is dropped
 
@@ -57,10 +57,12 @@ module _ (size : ℕ) (input : Input) where
 
 -- ---- a turn
 
--- what holds between two turns: at the end of the input nothing comes, and what is unread has room with a newline
-record Sane (buffer : List ℕ) (input : Input) (coming : List ℕ) : Type 0 where
+-- what holds between two turns: at the end of the input nothing comes, and whether a read failed is known; a read fails at the end alone; what is
+-- unread has room with a newline
+record Sane (failed : Bool) (buffer : List ℕ) (input : Input) (coming : List ℕ) : Type 0 where
   tidy : tidyOf (length buffer) input ≡ true
-  done : input .ended ≡ true → coming ≡ []
+  done : input .ended ≡ true → (input .failed ≡ failed) × (coming ≡ [])
+  last : input .failed ≡ true → input .ended ≡ true
   short : input .ended ≡ true → input .over ≡ false → length (unread buffer input) < length buffer
 
 -- the reports from here on are those that are meant
@@ -68,25 +70,25 @@ abbrev Right : List ℕ → Input → List ℕ → List Report → Type 0
 Right buffer input coming reports = reports ≡ meant (length buffer) (input .over) (unread buffer input ++ coming)
 
 -- a turn to another input keeps that, where it makes n reports itself
-record Turn (buffer : List ℕ) (input : Input) (coming buffer′ : List ℕ) (input′ : Input) (coming′ : List ℕ) (own : List Report) : Type 0 where
-  sane : Sane buffer′ input′ coming′
+record Turn (failed : Bool) (buffer : List ℕ) (input : Input) (coming buffer′ : List ℕ) (input′ : Input) (coming′ : List ℕ) (own : List Report) : Type 0 where
+  sane : Sane failed buffer′ input′ coming′
   right : (reports : List Report) → Right buffer′ input′ coming′ reports → Right buffer input coming (own ++ reports)
 
-module _ {buffer : List ℕ} {input : Input} {coming : List ℕ} (o : 0 < length buffer) (k : Sane buffer input coming) where
+module _ {failed : Bool} {buffer : List ℕ} {input : Input} {coming : List ℕ} (o : 0 < length buffer) (k : Sane failed buffer input coming) where
   within : (input .at ≤ input .have) × (input .have ≤ length buffer)
   within = tidy-is (length buffer) input (k .tidy)
 
   size : length (unread buffer input) ≡ input .have - input .at
   size = unread-length buffer input (k .tidy)
 
-  sane-rest : (at : ℕ) → at ≤ input .have → input .have - at < length buffer → Sane buffer (restOf input at) coming
+  sane-rest : (at : ℕ) → at ≤ input .have → input .have - at < length buffer → Sane failed buffer (restOf input at) coming
   sane-rest at h g =
       let t : tidyOf (length buffer) (restOf input at) ≡ true = tidy-made (length buffer) (restOf input at) h (within .1) in
-      record { tidy = t; done = k .done; short = λ e l. rw (unread-length buffer (restOf input at) t) g }
+      record { tidy = t; done = k .done; last = k .last; short = λ e l. rw (unread-length buffer (restOf input at) t) g }
 
   -- behind a newline
   module _ (h : stop buffer input < length (unread buffer input)) where
-    sane-behind : Sane buffer (restOf input (input .at + stop buffer input + 1)) coming
+    sane-behind : Sane failed buffer (restOf input (input .at + stop buffer input + 1)) coming
     sane-behind = sane-rest (input .at + stop buffer input + 1) (omega (arith, size)) (omega (arith, size, within))
 
     line-bytes : slice (input .at) (input .at + stop buffer input) buffer ≡ take (stop buffer input) (unread buffer input)
@@ -103,21 +105,21 @@ module _ {buffer : List ℕ} {input : Input} {coming : List ℕ} (o : 0 < length
 
   -- at the end
   module _ (g : input .ended ≡ true) where
-    sane-end : Sane buffer (restOf input (input .have)) coming
+    sane-end : Sane failed buffer (restOf input (input .have)) coming
     sane-end = sane-rest (input .have) (omega arith) (omega arith)
 
     none-left : reportsOf (length buffer) (unread buffer (restOf input (input .have)) ++ coming) ≡ []
     unfolding linesOf
     none-left =
         let last : Input = restOf input (input .have) in
-        rw (k .done g, no-bytes (unread buffer last) (unread-length buffer last (sane-end .tidy) ∙ omega arith))
+        rw (k .done g .1, no-bytes (unread buffer last) (unread-length buffer last (sane-end .tidy) ∙ omega arith))
 
   end-turn : nextOf buffer input ≡ End → Right buffer input coming []
   unfolding linesOf
   end-turn e = go (next-cases buffer input (k .tidy))
     where
       go : Next buffer input (nextOf buffer input) → Right buffer input coming []
-      go (nothing f g v l p) = let none : unread buffer input ≡ [] = no-bytes (unread buffer input) (size ∙ omega arith) in rw (v, none, k .done g)
+      go (nothing f g v l p) = let none : unread buffer input ≡ [] = no-bytes (unread buffer input) (size ∙ omega arith) in rw (v, none, k .done g .1)
       go (a-line h v p) = clash (cc)
       go (a-dropped h v p) = clash (cc)
       go (last-line h f g v l p) = clash (cc)
@@ -125,12 +127,38 @@ module _ {buffer : List ℕ} {input : Input} {coming : List ℕ} (o : 0 < length
       go (unended h g p) = clash (cc)
       go (unreadable h f p) = clash (cc)
 
+  -- where an end is found, no read failed
+  end-whole : nextOf buffer input ≡ End → failed ≡ false
+  end-whole e = go (next-cases buffer input (k .tidy))
+    where
+      go : Next buffer input (nextOf buffer input) → failed ≡ false
+      go (nothing f g v l p) = sym (k .done g .0) ∙ f
+      go (a-line h v p) = clash (cc)
+      go (a-dropped h v p) = clash (cc)
+      go (last-line h f g v l p) = clash (cc)
+      go (last-dropped h f g v p) = clash (cc)
+      go (unended h g p) = clash (cc)
+      go (unreadable h f p) = clash (cc)
+
+  -- where a read failed, one report is left out at most: of the line that didn't end
+  fail-turn : nextOf buffer input ≡ Failed → (failed ≡ true) × (length (meant (length buffer) (input .over) (unread buffer input ++ coming)) ≤ 1)
+  fail-turn e = go (next-cases buffer input (k .tidy))
+    where
+      go : Next buffer input (nextOf buffer input) → (failed ≡ true) × (length (meant (length buffer) (input .over) (unread buffer input ++ coming)) ≤ 1)
+      go (unreadable h f p) = let d = k .done (k .last f) in (sym (d .0) ∙ f, rw (d .1) (meant-one (length buffer) (input .over) (unread buffer input) h))
+      go (nothing f g v l p) = clash (cc)
+      go (a-line h v p) = clash (cc)
+      go (a-dropped h v p) = clash (cc)
+      go (last-line h f g v l p) = clash (cc)
+      go (last-dropped h f g v p) = clash (cc)
+      go (unended h g p) = clash (cc)
+
   line-turn : {from to : ℕ} {rest : Input} → nextOf buffer input ≡ Line from to rest
-      → Turn buffer input coming buffer rest coming (whole (slice from to buffer) ∷ [])
+      → Turn failed buffer input coming buffer rest coming (whole (slice from to buffer) ∷ [])
   unfolding linesOf
   line-turn {from} {to} {rest} e = go (next-cases buffer input (k .tidy))
     where
-      go : Next buffer input (nextOf buffer input) → Turn buffer input coming buffer rest coming (whole (slice from to buffer) ∷ [])
+      go : Next buffer input (nextOf buffer input) → Turn failed buffer input coming buffer rest coming (whole (slice from to buffer) ∷ [])
       go (a-line h v p) =
           let start : from ≡ input .at = cc in
           let end : to ≡ input .at + stop buffer input = cc in
@@ -146,18 +174,18 @@ module _ {buffer : List ℕ} {input : Input} {coming : List ℕ} (o : 0 < length
           let own : Report = whole (unread buffer input) in
           let meant′ = meant-last (length buffer) (unread buffer input) h (omega (arith, size)) (k .short g v) in
           rw (left, start, end)
-          (record { sane = sane-end g; right = λ reports t. rw v (ap (λ (r : List Report). own ∷ r) (t ∙ none-left g) ∙ sym (rw (k .done g) meant′)) })
+          (record { sane = sane-end g; right = λ reports t. rw v (ap (λ (r : List Report). own ∷ r) (t ∙ none-left g) ∙ sym (rw (k .done g .1) meant′)) })
       go (a-dropped h v p) = clash (cc)
       go (last-dropped h f g v p) = clash (cc)
       go (unended h g p) = clash (cc)
       go (unreadable h f p) = clash (cc)
       go (nothing f g v l p) = clash (cc)
 
-  over-turn : {rest : Input} → nextOf buffer input ≡ Over rest → Turn buffer input coming buffer rest coming (dropped ∷ [])
+  over-turn : {rest : Input} → nextOf buffer input ≡ Over rest → Turn failed buffer input coming buffer rest coming (dropped ∷ [])
   unfolding linesOf behindLine
   over-turn {rest} e = go (next-cases buffer input (k .tidy))
     where
-      go : Next buffer input (nextOf buffer input) → Turn buffer input coming buffer rest coming (dropped ∷ [])
+      go : Next buffer input (nextOf buffer input) → Turn failed buffer input coming buffer rest coming (dropped ∷ [])
       go (a-dropped h v p) =
           let left : rest ≡ restOf input (input .at + stop buffer input + 1) = cc in
           let meant′ = meant-over (length buffer) (unread buffer input) coming h in
@@ -165,7 +193,7 @@ module _ {buffer : List ℕ} {input : Input} {coming : List ℕ} (o : 0 < length
           (record { sane = sane-behind h; right = λ reports t. rw v (ap (λ (r : List Report). dropped ∷ r) (t ∙ rest-behind h) ∙ sym meant′) })
       go (last-dropped h f g v p) =
           let left : rest ≡ restOf input (input .have) = cc in
-          let meant′ = meant-on (length buffer) (unread buffer input) coming h ∙ ap (meant (length buffer) true) (k .done g) in
+          let meant′ = meant-on (length buffer) (unread buffer input) coming h ∙ ap (meant (length buffer) true) (k .done g .1) in
           rw left
           (record { sane = sane-end g; right = λ reports t. rw v (ap (λ (r : List Report). dropped ∷ r) (t ∙ none-left g) ∙ sym meant′) })
       go (a-line h v p) = clash (cc)
@@ -175,8 +203,8 @@ module _ {buffer : List ℕ} {input : Input} {coming : List ℕ} (o : 0 < length
       go (nothing f g v l p) = clash (cc)
 
   more-turn : {r : Input} {buffer′ coming′ : List ℕ} → nextOf buffer input ≡ More → Filled buffer input r buffer′
-      → length buffer′ ≡ length buffer → coming ≡ slice (length (keptOf buffer input)) (r .have) buffer′ ++ coming′ → (r .ended ≡ true → coming′ ≡ [])
-      → Turn buffer input coming buffer′ r coming′ []
+      → length buffer′ ≡ length buffer → coming ≡ slice (length (keptOf buffer input)) (r .have) buffer′ ++ coming′ → (r .ended ≡ true → (r .failed ≡ failed) × (coming′ ≡ []))
+      → Turn failed buffer input coming buffer′ r coming′ []
   unfolding keptOf slice
   more-turn {r} {buffer′} {coming′} e f same c d = go (next-cases buffer input (k .tidy))
     where
@@ -205,7 +233,7 @@ module _ {buffer : List ℕ} {input : Input} {coming : List ℕ} (o : 0 < length
           meant-full (length buffer) (unread buffer input) coming h (omega (arith, size)) o
 
       turn : stop buffer input ≡ length (unread buffer input) → (b : Bool) → lostOf (length buffer) input ≡ b
-          → Turn buffer input coming buffer′ r coming′ []
+          → Turn failed buffer input coming buffer′ r coming′ []
       turn h false q =
           let n = lost-not (length buffer) input o (within .1) q in
           let over′ : r .over ≡ false = f .over ∙ rw (k .tidy, q) in
@@ -214,7 +242,7 @@ module _ {buffer : List ℕ} {input : Input} {coming : List ℕ} (o : 0 < length
           let left = unread-length buffer′ r tidied in
           let same-bytes = all ∙ ap (λ (l : List ℕ). l ++ coming) bytes in
           record {
-            sane = record { tidy = tidied; done = d; short = λ g l. omega (arith, full g, ap length bytes, size) };
+            sane = record { tidy = tidied; done = d; last = f .failed; short = λ g l. omega (arith, full g, ap length bytes, size) };
             right = λ reports t. t ∙ rw (same, over′, n .0) (ap (reportsOf (length buffer)) same-bytes);
           }
       turn h true q =
@@ -222,11 +250,11 @@ module _ {buffer : List ℕ} {input : Input} {coming : List ℕ} (o : 0 < length
           let bytes : kept ≡ [] = rw (k .tidy, q) in
           let same-bytes = all ∙ ap (λ (l : List ℕ). l ++ coming) bytes in
           record {
-            sane = record { tidy = tidied; done = d; short = λ g l. absurd (true≢false (sym over′ ∙ l)) };
+            sane = record { tidy = tidied; done = d; last = f .failed; short = λ g l. absurd (true≢false (sym over′ ∙ l)) };
             right = λ reports t. t ∙ rw (same, over′) (ap (meant (length buffer) true) same-bytes) ∙ sym (drops (input .over) refl h q);
           }
 
-      go : Next buffer input (nextOf buffer input) → Turn buffer input coming buffer′ r coming′ []
+      go : Next buffer input (nextOf buffer input) → Turn failed buffer input coming buffer′ r coming′ []
       go (unended h g p) = turn h (lostOf (length buffer) input) refl
       go (unreadable h f p) = clash (cc)
       go (a-line h v p) = clash (cc)
@@ -237,17 +265,48 @@ module _ {buffer : List ℕ} {input : Input} {coming : List ℕ} (o : 0 < length
 
 -- ---- all turns
 
-right-turns : {buffer : List ℕ} {input : Input} {coming : List ℕ} {reports : List Report} → 0 < length buffer → Sane buffer input coming
-    → Turns buffer input coming reports → Right buffer input coming reports
+right-turns : {buffer : List ℕ} {input : Input} {coming : List ℕ} {reports : List Report} → 0 < length buffer → Sane false buffer input coming
+    → Turns false buffer input coming reports → Right buffer input coming reports
 right-turns o k (ends e) = end-turn o k e
+right-turns o k (fails e) = absurd (false≢true (fail-turn o k e .0))
 right-turns o k (line e t) = let s = line-turn o k e in s .right _ (right-turns o (s .sane) t)
 right-turns o k (over e t) = let s = over-turn o k e in s .right _ (right-turns o (s .sane) t)
 right-turns o k (more e f same c d t) = let s = more-turn o k e f same c d in s .right _ (right-turns (omega arith) (s .sane) t)
 
--- from the start on, every line of the input is reported, once and in order
-pub every-line : (buffer coming : List ℕ) (reports : List Report) → 0 < length buffer → Turns buffer startOf coming reports
-    → reports ≡ reportsOf (length buffer) coming
-unfolding slice
-every-line buffer coming reports o t =
-    let t′ : tidyOf (length buffer) startOf ≡ true = tidy-made (length buffer) startOf (omega arith) (omega arith) in
-    right-turns o (record { tidy = t′; done = λ e. absurd (false≢true e); short = λ e. absurd (false≢true e) }) t
+-- what is reported behind a turn's own reports
+behind-turn : {buffer : List ℕ} {input : Input} {coming buffer′ : List ℕ} {input′ : Input} {coming′ : List ℕ} {own reports : List Report}
+    → Turn true buffer input coming buffer′ input′ coming′ own
+    → AllButLast reports (meant (length buffer′) (input′ .over) (unread buffer′ input′ ++ coming′))
+    → AllButLast (own ++ reports) (meant (length buffer) (input .over) (unread buffer input ++ coming))
+behind-turn {own = own} {reports = reports} s a = record {
+  last = a .last;
+  one = a .one;
+  parts = sym (s .right _ refl) ∙ ap (λ (l : List Report). own ++ l) (a .parts) ∙ sym (append-assoc own reports (a .last));
+}
+
+failed-turns : {buffer : List ℕ} {input : Input} {coming : List ℕ} {reports : List Report} → 0 < length buffer → Sane true buffer input coming
+    → Turns true buffer input coming reports → AllButLast reports (meant (length buffer) (input .over) (unread buffer input ++ coming))
+failed-turns o k (ends e) = absurd (true≢false (end-whole o k e))
+failed-turns o k (fails e) = record { last = _; one = fail-turn o k e .1; parts = refl }
+failed-turns o k (line e t) = let s = line-turn o k e in behind-turn s (failed-turns o (s .sane) t)
+failed-turns o k (over e t) = let s = over-turn o k e in behind-turn s (failed-turns o (s .sane) t)
+failed-turns o k (more e f same c d t) = let s = more-turn o k e f same c d in behind-turn s (failed-turns (omega arith) (s .sane) t)
+
+module _ (buffer coming : List ℕ) (reports : List Report) (o : 0 < length buffer) where
+  start-sane : (failed : Bool) → Sane failed buffer startOf coming
+  start-sane failed = record {
+    tidy = tidy-made (length buffer) startOf (omega arith) (omega arith);
+    done = λ e. absurd (false≢true e);
+    last = λ e. absurd (false≢true e);
+    short = λ e. absurd (false≢true e);
+  }
+
+  -- from the start on, every line of the input is reported, once and in order
+  pub every-line : Turns false buffer startOf coming reports → reports ≡ reportsOf (length buffer) coming
+  unfolding slice
+  every-line t = right-turns o (start-sane false) t
+
+  -- where a read fails, every line before it, but for the last one at most
+  pub failed-lines : Turns true buffer startOf coming reports → AllButLast reports (reportsOf (length buffer) coming)
+  unfolding slice
+  failed-lines t = failed-turns o (start-sane true) t

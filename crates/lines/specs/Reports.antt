@@ -1,13 +1,13 @@
 -- What is found of a whole input, in whatever pieces it comes.
 use mathlib.Core.Path.{_≡_}
-use mathlib.Core.Bool.{true, cond}
+use mathlib.Core.Bool.{Bool, true, cond}
 use mathlib.Core.List.{List, [], _∷_, _++_, map}
-use Prim.Native.Nat.{ℕ}
+use Prim.Native.Nat.{ℕ, _≤_}
 use lib.Dec.{ltb, eqb}
 use lib.ListN.{length}
 use Rattle.bytes.specs.Bytes.{slice}
 use Rattle.lines.specs.declared.Input.{Input}
-use Rattle.lines.specs.declared.Found.the-variants.{More, End, Line, Over}
+use Rattle.lines.specs.declared.Found.the-variants.{More, End, Line, Over, Failed}
 use Rattle.lines.specs.Unread.{nextOf, keptOf, Filled}
 
 -- a byte before the first of some lines
@@ -33,16 +33,23 @@ reportOf size line = cond (ltb (length line) size) (whole line) dropped
 abbrev pub reportsOf : ℕ → List ℕ → List Report
 reportsOf size bytes = map (reportOf size) (linesOf bytes)
 
--- the turns of a program: by the buffer, the input and the bytes that are still to come, what it reports
-pub data Turns : List ℕ → Input → List ℕ → List Report → Type 0 where
-  ends : {buffer : List ℕ} {input : Input} {coming : List ℕ} → nextOf buffer input ≡ End → Turns buffer input coming []
+-- the turns of a program: by whether a read fails in the end, the buffer, the input and the bytes that are still to come, what it reports
+pub data Turns (failed : Bool) : List ℕ → Input → List ℕ → List Report → Type 0 where
+  ends : {buffer : List ℕ} {input : Input} {coming : List ℕ} → nextOf buffer input ≡ End → Turns failed buffer input coming []
+  fails : {buffer : List ℕ} {input : Input} {coming : List ℕ} → nextOf buffer input ≡ Failed → Turns failed buffer input coming []
   line : {buffer : List ℕ} {input rest : Input} {from to : ℕ} {coming : List ℕ} {reports : List Report}
-      → nextOf buffer input ≡ Line from to rest → Turns buffer rest coming reports
-      → Turns buffer input coming (whole (slice from to buffer) ∷ reports)
+      → nextOf buffer input ≡ Line from to rest → Turns failed buffer rest coming reports
+      → Turns failed buffer input coming (whole (slice from to buffer) ∷ reports)
   over : {buffer : List ℕ} {input rest : Input} {coming : List ℕ} {reports : List Report}
-      → nextOf buffer input ≡ Over rest → Turns buffer rest coming reports → Turns buffer input coming (dropped ∷ reports)
-  -- the bytes that were read come first of those to come, and where none were read, none are
+      → nextOf buffer input ≡ Over rest → Turns failed buffer rest coming reports → Turns failed buffer input coming (dropped ∷ reports)
+  -- the bytes that were read come first of those to come, and where none were read, none are, and the read failed or the input has ended
   more : {buffer buffer′ : List ℕ} {input r : Input} {coming coming′ : List ℕ} {reports : List Report}
       → nextOf buffer input ≡ More → Filled buffer input r buffer′ → length buffer′ ≡ length buffer
-      → coming ≡ slice (length (keptOf buffer input)) (r .have) buffer′ ++ coming′ → (r .ended ≡ true → coming′ ≡ [])
-      → Turns buffer′ r coming′ reports → Turns buffer input coming reports
+      → coming ≡ slice (length (keptOf buffer input)) (r .have) buffer′ ++ coming′ → (r .ended ≡ true → (r .failed ≡ failed) × (coming′ ≡ []))
+      → Turns failed buffer′ r coming′ reports → Turns failed buffer input coming reports
+
+-- all reports but one at most, of a last line
+pub record AllButLast (reports all : List Report) : Type 0 where
+  pub last : List Report
+  pub one : length last ≤ 1
+  pub parts : all ≡ reports ++ last
