@@ -2,7 +2,6 @@
 ghost use mathlib.Core.Path.{_≡_};
 ghost use Rattle.capture_words.specs.Settings.{settingOf, refusedOf, numbersSay, wordsSay, Asked};
 use ethernet::Ports;
-use libc::STDERR_FILENO;
 use quantity::count::DatalinkId;
 use text::Number;
 
@@ -19,6 +18,10 @@ const HIGHEST_DATALINK: u64 = 255;
 
 // A longer word is no number that is asked for.
 const WORD: usize = 8;
+
+// What a program says on standard error of words that say nothing.
+pub const USAGE: [u8; 102] =
+    *b"three words or none: RADIO-PORT IPS-PORT DATALINK (ports 0 to 65535 and not equal, DATALINK 0 to 255)\n";
 
 // What the words say: the ports and the Datalink ID, if they say so.
 pub struct Setting {
@@ -98,12 +101,4 @@ pub fn asked() -> Setting
         return words_say(word(1), word(2), word(3));
     }
     refused()
-}
-
-// Says on standard error which words there may be.
-pub fn complain() {
-    io::write_all(
-        STDERR_FILENO,
-        b"three words or none: RADIO-PORT IPS-PORT DATALINK (ports 0 to 65535 and not equal, DATALINK 0 to 255)\n",
-    );
 }

@@ -5,6 +5,7 @@ ghost use Rattle.judge.specs.Serving.{Served, closedBy, Judged};
 use conduct::Finding;
 use conduct::WORDS;
 use ethernet::Ports;
+use libc::STDERR_FILENO;
 use libc::STDOUT_FILENO;
 use quantity::count::DatalinkId;
 use quantity::limit::CHANNEL_IDS;
@@ -29,18 +30,30 @@ fn put_finding(out: &mut [u8], at: usize, finding: Finding) -> usize {
     }
 }
 
-fn say_finding(out: &mut [u8], channel: u8, finding: Finding) {
-    let at = text::put_number(out, 0, channel as u64);
-    let end = put_finding(out, at, finding);
-    if end <= out.len() {
-        io::write_all(STDOUT_FILENO, &out[0..end]);
+// Prints the first bytes of a stretch. Whether they were written; if not, that is said on standard error.
+fn print(out: &[u8], count: usize) -> bool {
+    if count <= out.len() {
+        if io::write_all(STDOUT_FILENO, &out[0..count]) {
+            return true;
+        }
     }
+    io::write_all(STDERR_FILENO, &lines::UNWRITTEN);
+    false
 }
 
+fn say_finding(out: &mut [u8], channel: u8, finding: Finding) -> bool {
+    let at = text::put_number(out, 0, channel as u64);
+    let end = put_finding(out, at, finding);
+    print(out, end)
+}
+
+// Prints verdict after verdict, up to one that can't be written.
 fn say_findings(out: &mut [u8], words: &[u64]) {
     let mut channel: usize = 0;
     while channel < CHANNEL_IDS {
-        say_finding(out, channel as u8, conduct::finding(words, channel as u8));
+        if !say_finding(out, channel as u8, conduct::finding(words, channel as u8)) {
+            return;
+        }
         channel += 1;
     }
 }
@@ -108,10 +121,13 @@ fn hold(
 fn main() {
     let setting = capture_words::asked();
     if !setting.good {
-        capture_words::complain();
+        io::write_all(STDERR_FILENO, &capture_words::USAGE);
         return;
     }
-    io::write_all(STDOUT_FILENO, b"channel verdict\n");
+    let header = b"channel verdict\n";
+    if !print(header, header.len()) {
+        return;
+    }
     let ports = setting.ports;
     let id = setting.id;
     let mut buffer = [0u8; ROOM];

@@ -8,6 +8,7 @@ use census::RECORDS;
 use census::REFUSALS;
 use census::SKIPPED;
 use ethernet::Ports;
+use libc::STDERR_FILENO;
 use libc::STDOUT_FILENO;
 use quantity::count::DatalinkId;
 use quantity::refusal::FILE_HEAD;
@@ -57,35 +58,47 @@ fn put_name(out: &mut [u8], place: usize) -> usize {
     put_channel(out, place)
 }
 
-// Prints a number behind what was laid before it.
-fn say_number(out: &mut [u8], at: usize, value: u64) {
+// Prints the first bytes of a stretch. Whether they were written; if not, that is said on standard error.
+fn print(out: &[u8], count: usize) -> bool {
+    if count <= out.len() {
+        if io::write_all(STDOUT_FILENO, &out[0..count]) {
+            return true;
+        }
+    }
+    io::write_all(STDERR_FILENO, &lines::UNWRITTEN);
+    false
+}
+
+// Prints a number behind what was laid before it. Whether it was written, as the three below say of theirs.
+fn say_number(out: &mut [u8], at: usize, value: u64) -> bool {
     let end = text::put_number(out, at, value);
     let behind = text::put(out, end, b"\n");
-    if behind <= out.len() {
-        io::write_all(STDOUT_FILENO, &out[0..behind]);
-    }
+    print(out, behind)
 }
 
-fn say_count(out: &mut [u8], place: usize, value: u64) {
+fn say_count(out: &mut [u8], place: usize, value: u64) -> bool {
     let at = put_name(out, place);
-    say_number(out, at, value);
+    say_number(out, at, value)
 }
 
-fn say_counts(out: &mut [u8], counts: &[u64]) {
+fn say_counts(out: &mut [u8], counts: &[u64]) -> bool {
     let mut place = 0;
     while place < counts.len() {
-        say_count(out, place, counts[place]);
+        if !say_count(out, place, counts[place]) {
+            return false;
+        }
         place += 1;
     }
+    true
 }
 
 // The last line, where the capture is refused by a number; 0 is none.
-fn say_refusal(out: &mut [u8], number: u8) {
+fn say_refusal(out: &mut [u8], number: u8) -> bool {
     if number == 0 {
-        return;
+        return true;
     }
     let at = text::put(out, 0, b"refused ");
-    say_number(out, at, number as u64);
+    say_number(out, at, number as u64)
 }
 
 // Counts record after record. Gives the number by which the capture is refused, or 0. Nothing says that an input ends,
@@ -121,8 +134,9 @@ fn report(buffer: &mut [u8], counts: &mut [u64], out: &mut [u8], ports: Ports, i
         say_refusal(out, number);
         return;
     }
-    say_counts(out, counts);
-    say_refusal(out, number);
+    if say_counts(out, counts) {
+        say_refusal(out, number);
+    }
 }
 
 // An array that is lent as an array asks no proof of its length.
@@ -139,10 +153,13 @@ fn hold(
 fn main() {
     let setting = capture_words::asked();
     if !setting.good {
-        capture_words::complain();
+        io::write_all(STDERR_FILENO, &capture_words::USAGE);
         return;
     }
-    io::write_all(STDOUT_FILENO, b"count value\n");
+    let header = b"count value\n";
+    if !print(header, header.len()) {
+        return;
+    }
     let ports = setting.ports;
     let id = setting.id;
     let mut buffer = [0u8; ROOM];

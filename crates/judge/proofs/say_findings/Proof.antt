@@ -28,6 +28,12 @@ finding-requires c κs = search needs
 say-finding-requires : tie.Need-say-finding-requires Inv-loop μ-loop
 say-finding-requires c κs = search needs
 
+same-length : tie.Need-same-length Inv-loop μ-loop
+same-length c = search needs
+
+returns : tie.Need-returns Inv-loop μ-loop
+returns c = search needs
+
 add-channel : tie.Need-add-channel Inv-loop μ-loop
 add-channel c = search needs
 
@@ -37,11 +43,11 @@ loop-less c = search needs
 loop-again : tie.Need-loop-again Inv-loop μ-loop
 loop-again c = search needs
 
-same-length : tie.Need-same-length Inv-loop μ-loop
-same-length c = search needs
+same-length-2 : tie.Need-same-length-2 Inv-loop μ-loop
+same-length-2 c = search needs
 
-returns : tie.Need-returns Inv-loop μ-loop
-returns c = search needs
+returns-2 : tie.Need-returns-2 Inv-loop μ-loop
+returns-2 c = search needs
 
 pub say-findings-spec : {M : Type 1} → statement M
 say-findings-spec =
@@ -54,8 +60,10 @@ say-findings-spec =
     cast-finding
     finding-requires
     say-finding-requires
+    same-length
+    returns
     add-channel
     loop-less
     loop-again
-    same-length
-    returns)
+    same-length-2
+    returns-2)

@@ -24,6 +24,12 @@ shared-slice-read-say-count c = search needs
 say-count-requires : tie.Need-say-count-requires Inv-loop μ-loop
 say-count-requires c κs = search needs
 
+same-length : tie.Need-same-length Inv-loop μ-loop
+same-length c = search needs
+
+returns : tie.Need-returns Inv-loop μ-loop
+returns c = search needs
+
 add-place : tie.Need-add-place Inv-loop μ-loop
 add-place c = search needs
 
@@ -33,11 +39,11 @@ loop-less c = search needs
 loop-again : tie.Need-loop-again Inv-loop μ-loop
 loop-again c = search needs
 
-same-length : tie.Need-same-length Inv-loop μ-loop
-same-length c = search needs
+same-length-2 : tie.Need-same-length-2 Inv-loop μ-loop
+same-length-2 c = search needs
 
-returns : tie.Need-returns Inv-loop μ-loop
-returns c = search needs
+returns-2 : tie.Need-returns-2 Inv-loop μ-loop
+returns-2 c = search needs
 
 pub say-counts-spec : {M : Type 1} → statement M
 say-counts-spec =
@@ -49,8 +55,10 @@ say-counts-spec =
     mul-say-count
     shared-slice-read-say-count
     say-count-requires
+    same-length
+    returns
     add-place
     loop-less
     loop-again
-    same-length
-    returns)
+    same-length-2
+    returns-2)
