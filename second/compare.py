@@ -5,7 +5,8 @@
     compare.py captures PROGRAM SEED COUNT RECORDS  COUNT random captures of up to RECORDS records, likewise
     compare.py pieces PROGRAM SEED COUNT RECORDS    the same, handed over in pieces of 1 byte, of 15, of 16, of 17 and so on
     compare.py capture PROGRAM FILE WORD..          one capture, with the program's words
-    compare.py cases                                the small captures of judge_cases.py, the samples of `judge` among them
+    compare.py cases                                the small captures of judge_cases.py, the samples of `judge` among them, and
+                                                    each program where reading or writing fails (failures.py)
 
 `random` is for `distance`, `session` and `station`, the captures for `report` and `judge`.
 """
@@ -20,6 +21,7 @@ from dataclasses import astuple
 from itertools import chain, cycle, repeat
 
 from captures import Dice, draw_capture, draw_setting
+from failures import compare_failures
 from judge_captures import draw_session
 from judge_cases import CASES
 from own_captures import draw_recording
@@ -170,7 +172,7 @@ def main():
     if len(sys.argv) == 6 and sys.argv[1] == "pieces" and sys.argv[2] in CAPTURES:
         return compare_captures(*sys.argv[2:], PIECES)
     if sys.argv[1:] == ["cases"]:
-        return sum(compare_capture("judge", capture, [], name) for name, (capture, _) in CASES.items())
+        return sum(compare_capture("judge", capture, [], name) for name, (capture, _) in CASES.items()) + compare_failures()
     if len(sys.argv) >= 4 and sys.argv[1] == "capture" and sys.argv[2] in CAPTURES:
         return compare_capture(sys.argv[2], pathlib.Path(sys.argv[3]).read_bytes(), sys.argv[4:], sys.argv[3])
     print(__doc__, file=sys.stderr)

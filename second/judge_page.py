@@ -12,7 +12,9 @@ HEAD = """# Judging another maker's session
 |---|---|
 | `C passes` | every data message that the IPS end sent on channel C obeys; with none, too |
 | `C breach RECORD` | the first that doesn't is the record of that number: the file's records, all of them, are counted from 1 |
-| `C undecided` | of every channel: the capture has a fragment or a record that it shortened, or it is one that `report` refuses by 25 or 26 |
+| `C undecided` | of every channel: the capture has a fragment or a record that it shortened, or it is one that `report` refuses by 25 or 26, as where it can't be read to its end |
+
+A line that can't be written ends the program, and standard error says so.
 
 What a channel is, the latest radio control message before says: not seen while there is none; free without a Flow Window option for it; without a window where the option has no field; else under that window. A data message that names no channel is on channel 0. It obeys
 

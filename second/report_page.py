@@ -9,7 +9,7 @@ HEAD = """# A report over a capture
 
 A datagram to the radio's port is a message of the IPS end, one to the IPS port a message of the radio. Packets and bytes count the accepted data messages of both ends (bytes: Packet Data's length), windows the Flow Windows with the field in accepted radio control messages. A count at 18446744073709551615 stays there. Addresses, source ports, times and checksums aren't looked at.
 
-A file with another head is answered by the first line and `refused 25`; where a record is cut off or over 65,536 bytes, the report so far is printed, with a last line `refused 26`.
+A file with another head is answered by the first line and `refused 25`; where a record is cut off or over 65,536 bytes, the report so far is printed, with a last line `refused 26`. Where the file can't be read any further, it is as if it were cut off there: `refused 25` within its first 24 bytes, else `refused 26`, between two records too. A line that can't be written ends the program, and standard error says so.
 
 ## The sample's records
 
