@@ -1,4 +1,4 @@
-// The station script, the radio's end: reads a line, writes its answer, and never stops early. A command is a row of `station_read`'s table and a call here.
+// The station script, the radio's end: reads a line, writes its answer, and stops early only where reading or writing fails. A command is a row of `station_read`'s table and a call here.
 ghost use mathlib.Core.Path.{_≡_};
 ghost use mathlib.Core.List.{[]};
 ghost use Prim.Native.Nat.{_≤_, min};
@@ -9,6 +9,7 @@ ghost use Rattle.radio_end_words.specs.Words.{stateIn};
 ghost use Rattle.station_read.specs.Lines.{contextSaid};
 ghost use Rattle.station_print.specs.Answers.{ANSWER, UNASKED, TELL, HEARD, UNCHANGED, KEPT};
 ghost use Rattle.station.specs.Turns.{linkSaid, showTexts, called, commanded, stated, begun, asking, answered, Turns, Calls};
+use libc::STDERR_FILENO;
 use libc::STDOUT_FILENO;
 use lines::Found;
 use meaning::message::Instance;
@@ -47,6 +48,12 @@ struct Held {
 struct Turn {
     held: Held,
     count: usize,
+}
+
+// What is held behind a line, and whether its answer was written.
+struct Said {
+    held: Held,
+    written: bool,
 }
 
 // The smaller of two lengths.
@@ -247,6 +254,17 @@ fn answer_line(
     )
 }
 
+// Prints the first bytes of a stretch. Whether they were written; if not, that is said on standard error.
+fn print(out: &[u8], count: usize) -> bool {
+    if count <= out.len() {
+        if io::write_all(STDOUT_FILENO, &out[0..count]) {
+            return true;
+        }
+    }
+    io::write_all(STDERR_FILENO, &lines::UNWRITTEN);
+    false
+}
+
 // Prints the answer to a line.
 fn say(
     held: Held,
@@ -255,16 +273,17 @@ fn say(
     bytes: &mut [u8],
     output: &mut [u8],
     out: &mut [u8],
-) -> Held {
+) -> Said {
     let turn = answer_line(held, words, line, bytes, output, out);
     let end = text::put(out, turn.count, b"\n");
-    if end <= out.len() {
-        io::write_all(STDOUT_FILENO, &out[0..end]);
+    let left = turn.held;
+    Said {
+        held: left,
+        written: print(out, end),
     }
-    turn.held
 }
 
-// Answers line after line. Nothing says that an input ends, so the turns are counted.
+// Answers line after line, up to the end or to what can't be read or written. Nothing says that an input ends, so the turns are counted.
 fn serve(
     buffer: &mut [u8],
     words: &mut [u64],
@@ -284,12 +303,24 @@ fn serve(
             Found::More => input = lines::fill(buffer, input),
             Found::End => return,
             Found::Line { from, to, rest } => {
-                held = say(held, words, &buffer[from..to], bytes, output, out);
+                let said = say(held, words, &buffer[from..to], bytes, output, out);
+                if !said.written {
+                    return;
+                }
+                held = said.held;
                 input = rest;
             }
             Found::Over(rest) => {
-                held = say(held, words, b"", bytes, output, out);
+                let said = say(held, words, b"", bytes, output, out);
+                if !said.written {
+                    return;
+                }
+                held = said.held;
                 input = rest;
+            }
+            Found::Failed => {
+                io::write_all(STDERR_FILENO, &lines::UNREAD);
+                return;
             }
         }
     }
