@@ -1,4 +1,4 @@
-// The session script: reads a line, writes its answer, and never stops early. A command is a row of `session_read`'s table and a call here.
+// The session script: reads a line, writes its answer, and stops early only where reading or writing fails. A command is a row of `session_read`'s table and a call here.
 ghost use mathlib.Core.Path.{_≡_};
 ghost use Prim.Native.Nat.{_≤_};
 ghost use lib.ListN.{length, take};
@@ -11,6 +11,7 @@ use endpoint::Place;
 use endpoint::Refusal;
 use endpoint::StartAnswer;
 use handful::HandfulAnswer;
+use libc::STDERR_FILENO;
 use libc::STDOUT_FILENO;
 use lines::Found;
 use message_words::whole::refused;
@@ -49,6 +50,12 @@ struct Held {
 struct Turn {
     held: Held,
     count: usize,
+}
+
+// What is held behind a line, and whether its answer was written.
+struct Said {
+    held: Held,
+    written: bool,
 }
 
 // The smaller of two lengths.
@@ -367,6 +374,17 @@ fn answer_line(
     )
 }
 
+// Prints the first bytes of a stretch. Whether they were written; if not, that is said on standard error.
+fn print(out: &[u8], count: usize) -> bool {
+    if count <= out.len() {
+        if io::write_all(STDOUT_FILENO, &out[0..count]) {
+            return true;
+        }
+    }
+    io::write_all(STDERR_FILENO, &lines::UNWRITTEN);
+    false
+}
+
 // Prints the answer to a line.
 fn say(
     held: Held,
@@ -376,16 +394,17 @@ fn say(
     bytes: &mut [u8],
     output: &mut [u8],
     out: &mut [u8],
-) -> Held {
+) -> Said {
     let turn = answer_line(held, words, memory, line, bytes, output, out);
     let end = text::put(out, turn.count, b"\n");
-    if end <= out.len() {
-        io::write_all(STDOUT_FILENO, &out[0..end]);
+    let left = turn.held;
+    Said {
+        held: left,
+        written: print(out, end),
     }
-    turn.held
 }
 
-// Answers line after line. Nothing says that an input ends, so the turns are counted.
+// Answers line after line, up to the end or to what can't be read or written. Nothing says that an input ends, so the turns are counted.
 fn serve(
     buffer: &mut [u8],
     words: &mut [u64],
@@ -403,12 +422,24 @@ fn serve(
             Found::More => input = lines::fill(buffer, input),
             Found::End => return,
             Found::Line { from, to, rest } => {
-                held = say(held, words, memory, &buffer[from..to], bytes, output, out);
+                let said = say(held, words, memory, &buffer[from..to], bytes, output, out);
+                if !said.written {
+                    return;
+                }
+                held = said.held;
                 input = rest;
             }
             Found::Over(rest) => {
-                held = say(held, words, memory, b"", bytes, output, out);
+                let said = say(held, words, memory, b"", bytes, output, out);
+                if !said.written {
+                    return;
+                }
+                held = said.held;
                 input = rest;
+            }
+            Found::Failed => {
+                io::write_all(STDERR_FILENO, &lines::UNREAD);
+                return;
             }
         }
     }

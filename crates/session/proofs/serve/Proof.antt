@@ -1,18 +1,18 @@
 -- `serve` is safe and ends: a line that is found lies within the buffer, and the turns that are left fall. Assumes nothing.
 use Prim.Native.Nat.{_≤_}
-use borrow.Author.Needs.{needs}
 use mathlib.Core.Path.{_≡_, sym, _∙_}
 use lib.ListN.{length}
 use Rattle.lines.proofs.Laws.{next-inside}
+use borrow.Author.Needs.{needs}
 use Rattle.session.proofs.serve.Statement.{statement}
 use Rattle.session.proofs.serve.Tie as tie
 
 abbrev Inv-loop : tie.InvT-loop
-Inv-loop buffer₀ words₀ memory₀ bytes₀ output₀ out₀ held₀ input₀ turns₀ t14 buffer words memory bytes output out held input turns =
+Inv-loop buffer₀ words₀ memory₀ bytes₀ output₀ out₀ held₀ input₀ turns₀ t16 t17 buffer words memory bytes output out held input turns =
     (length buffer ≡ length buffer₀) × (length words ≡ length words₀) × (length memory ≡ length memory₀) × (length bytes ≡ length bytes₀) × (length output ≡ length output₀) × (length out ≡ length out₀)
 
 abbrev μ-loop : tie.MeasureT-loop
-μ-loop buffer₀ words₀ memory₀ bytes₀ output₀ out₀ held₀ input₀ turns₀ t14 buffer words memory bytes output out held input turns =
+μ-loop buffer₀ words₀ memory₀ bytes₀ output₀ out₀ held₀ input₀ turns₀ t16 t17 buffer words memory bytes output out held input turns =
     turns
 
 inside : (c : tie.After-known-told Inv-loop μ-loop) → let line = c .before .from .given .0 in (line .0 ≤ line .1 .0) × (line .1 .0 ≤ length (c .before .before .before .before .before .before .loop .buffer))
@@ -84,27 +84,6 @@ part-say-end c = inside (c .before .before .before) .1
 say-requires : tie.Need-say-requires Inv-loop μ-loop
 say-requires c κs = search needs
 
-loop-less-2 : tie.Need-loop-less-2 Inv-loop μ-loop
-loop-less-2 c = search needs
-
-loop-again-2 : tie.Need-loop-again-2 Inv-loop μ-loop
-loop-again-2 c = search needs
-
-enum-known-rest : tie.Need-enum-known-rest Inv-loop μ-loop
-enum-known-rest c = search needs
-
-slice-aggregate-say : tie.Need-slice-aggregate-say Inv-loop μ-loop
-slice-aggregate-say c = search needs
-
-say-requires-2 : tie.Need-say-requires-2 Inv-loop μ-loop
-say-requires-2 c κs = search needs
-
-loop-less-3 : tie.Need-loop-less-3 Inv-loop μ-loop
-loop-less-3 c = search needs
-
-loop-again-3 : tie.Need-loop-again-3 Inv-loop μ-loop
-loop-again-3 c = search needs
-
 same-length-7 : tie.Need-same-length-7 Inv-loop μ-loop
 same-length-7 c = search needs
 
@@ -125,6 +104,101 @@ same-length-12 c = search needs
 
 returns-2 : tie.Need-returns-2 Inv-loop μ-loop
 returns-2 c = search needs
+
+loop-less-2 : tie.Need-loop-less-2 Inv-loop μ-loop
+loop-less-2 c = search needs
+
+loop-again-2 : tie.Need-loop-again-2 Inv-loop μ-loop
+loop-again-2 c =
+    let inv = c .before .before .before .before .before .before .before .before .before .before .before .before .before .before .before .before .before .before .before .before .before .before .before .before .before .before .before .loop .inv in
+    (search needs, search needs, search needs, search needs, search (inv .4, needs), search (inv .5, needs))
+
+enum-known-rest : tie.Need-enum-known-rest Inv-loop μ-loop
+enum-known-rest c = search needs
+
+slice-aggregate-say : tie.Need-slice-aggregate-say Inv-loop μ-loop
+slice-aggregate-say c = search needs
+
+say-requires-2 : tie.Need-say-requires-2 Inv-loop μ-loop
+say-requires-2 c κs = search needs
+
+same-length-13 : tie.Need-same-length-13 Inv-loop μ-loop
+same-length-13 c = search needs
+
+same-length-14 : tie.Need-same-length-14 Inv-loop μ-loop
+same-length-14 c = search needs
+
+same-length-15 : tie.Need-same-length-15 Inv-loop μ-loop
+same-length-15 c = search needs
+
+same-length-16 : tie.Need-same-length-16 Inv-loop μ-loop
+same-length-16 c = search needs
+
+same-length-17 : tie.Need-same-length-17 Inv-loop μ-loop
+same-length-17 c = search needs
+
+same-length-18 : tie.Need-same-length-18 Inv-loop μ-loop
+same-length-18 c = search needs
+
+returns-3 : tie.Need-returns-3 Inv-loop μ-loop
+returns-3 c = search needs
+
+loop-less-3 : tie.Need-loop-less-3 Inv-loop μ-loop
+loop-less-3 c = search needs
+
+loop-again-3 : tie.Need-loop-again-3 Inv-loop μ-loop
+loop-again-3 c = search needs
+
+enum-told-3 : tie.Need-enum-told-3 Inv-loop μ-loop
+enum-told-3 c = search needs
+
+slice-aggregate-write-all : tie.Need-slice-aggregate-write-all Inv-loop μ-loop
+slice-aggregate-write-all c = search needs
+
+write-all-requires : tie.Need-write-all-requires Inv-loop μ-loop
+write-all-requires c κs = search needs
+
+same-length-19 : tie.Need-same-length-19 Inv-loop μ-loop
+same-length-19 c = search needs
+
+same-length-20 : tie.Need-same-length-20 Inv-loop μ-loop
+same-length-20 c = search needs
+
+same-length-21 : tie.Need-same-length-21 Inv-loop μ-loop
+same-length-21 c = search needs
+
+same-length-22 : tie.Need-same-length-22 Inv-loop μ-loop
+same-length-22 c = search needs
+
+same-length-23 : tie.Need-same-length-23 Inv-loop μ-loop
+same-length-23 c = search needs
+
+same-length-24 : tie.Need-same-length-24 Inv-loop μ-loop
+same-length-24 c = search needs
+
+returns-4 : tie.Need-returns-4 Inv-loop μ-loop
+returns-4 c = search needs
+
+same-length-25 : tie.Need-same-length-25 Inv-loop μ-loop
+same-length-25 c = search needs
+
+same-length-26 : tie.Need-same-length-26 Inv-loop μ-loop
+same-length-26 c = search needs
+
+same-length-27 : tie.Need-same-length-27 Inv-loop μ-loop
+same-length-27 c = search needs
+
+same-length-28 : tie.Need-same-length-28 Inv-loop μ-loop
+same-length-28 c = search needs
+
+same-length-29 : tie.Need-same-length-29 Inv-loop μ-loop
+same-length-29 c = search needs
+
+same-length-30 : tie.Need-same-length-30 Inv-loop μ-loop
+same-length-30 c = search needs
+
+returns-5 : tie.Need-returns-5 Inv-loop μ-loop
+returns-5 c = search needs
 
 pub serve-spec : {M : Type 1} → statement M
 serve-spec =
@@ -154,17 +228,41 @@ serve-spec =
     part-say-start
     part-say-end
     say-requires
-    loop-less-2
-    loop-again-2
-    enum-known-rest
-    slice-aggregate-say
-    say-requires-2
-    loop-less-3
-    loop-again-3
     same-length-7
     same-length-8
     same-length-9
     same-length-10
     same-length-11
     same-length-12
-    returns-2)
+    returns-2
+    loop-less-2
+    loop-again-2
+    enum-known-rest
+    slice-aggregate-say
+    say-requires-2
+    same-length-13
+    same-length-14
+    same-length-15
+    same-length-16
+    same-length-17
+    same-length-18
+    returns-3
+    loop-less-3
+    loop-again-3
+    enum-told-3
+    slice-aggregate-write-all
+    write-all-requires
+    same-length-19
+    same-length-20
+    same-length-21
+    same-length-22
+    same-length-23
+    same-length-24
+    returns-4
+    same-length-25
+    same-length-26
+    same-length-27
+    same-length-28
+    same-length-29
+    same-length-30
+    returns-5)
