@@ -5,3 +5,6 @@ pub mod Ways
 pub mod Whole
 pub mod Exactly
 pub mod Endings
+pub mod Rows
+pub mod Memory
+pub mod Pieces

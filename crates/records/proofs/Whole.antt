@@ -23,7 +23,7 @@ use Rattle.records.proofs.Ways.{meant, Next, next-cases}
 
 -- ---- stretches
 
-tidy-made : (size : ℕ) (unread : lines.Input) → unread .at ≤ unread .have → unread .have ≤ size → tidyOf size unread ≡ true
+pub tidy-made : (size : ℕ) (unread : lines.Input) → unread .at ≤ unread .have → unread .have ≤ size → tidyOf size unread ≡ true
 unfolding tidyOf
 tidy-made size unread h g = rw (le-leb (unread .at) (unread .have) h, le-leb (unread .have) size g)
 
@@ -56,21 +56,21 @@ kept-closed true original bytes reports = refl
 kept-closed false original bytes reports = refl
 
 -- what holds between two turns: at the end of the input nothing comes, and whether a read failed is known; nothing was dropped
-record Sane (failed : Bool) (buffer : List ℕ) (input : Input) (coming : List ℕ) : Type 0 where
-  tidy : tidyOf (length buffer) (input .unread) ≡ true
-  done : input .unread .ended ≡ true → (input .unread .failed ≡ failed) × (coming ≡ [])
-  entire : input .unread .over ≡ false
+pub record Sane (failed : Bool) (buffer : List ℕ) (input : Input) (coming : List ℕ) : Type 0 where
+  pub tidy : tidyOf (length buffer) (input .unread) ≡ true
+  pub done : input .unread .ended ≡ true → (input .unread .failed ≡ failed) × (coming ≡ [])
+  pub entire : input .unread .over ≡ false
 
 -- the reports from here on are those that are meant
-abbrev Right : Bool → List ℕ → Input → List ℕ → List Report → Type 0
+abbrev pub Right : Bool → List ℕ → Input → List ℕ → List Report → Type 0
 Right failed buffer input coming reports = reports ≡ closed failed (meant (input .opened) (input .big) (bytesIn buffer input ++ coming))
 
 -- a turn to another input keeps that, where it makes n reports itself
-record Turn (failed : Bool) (buffer : List ℕ) (input : Input) (coming buffer′ : List ℕ) (input′ : Input) (coming′ : List ℕ) (own : List Report) : Type 0 where
-  sane : Sane failed buffer′ input′ coming′
-  right : (reports : List Report) → Right failed buffer′ input′ coming′ reports → Right failed buffer input coming (own ++ reports)
+pub record Turn (failed : Bool) (buffer : List ℕ) (input : Input) (coming buffer′ : List ℕ) (input′ : Input) (coming′ : List ℕ) (own : List Report) : Type 0 where
+  pub sane : Sane failed buffer′ input′ coming′
+  pub right : (reports : List Report) → Right failed buffer′ input′ coming′ reports → Right failed buffer input coming (own ++ reports)
 
-module _ {failed : Bool} {buffer : List ℕ} {input : Input} {coming : List ℕ} (room : ROOM ≤ length buffer) (k : Sane failed buffer input coming) where
+module _ {failed : Bool} {buffer : List ℕ} {input : Input} {coming : List ℕ} (k : Sane failed buffer input coming) where
   within : (input .unread .at ≤ input .unread .have) × (input .unread .have ≤ length buffer)
   within = tidy-is (length buffer) (input .unread) (k .tidy)
 
@@ -89,7 +89,7 @@ module _ {failed : Bool} {buffer : List ℕ} {input : Input} {coming : List ℕ}
     unfolding slice
     bytes-behind = sym (drop-drop n (input .unread .at) (take (input .unread .have) buffer))
 
-  end-turn : nextOf buffer input ≡ found.End → Right failed buffer input coming []
+  pub end-turn : nextOf buffer input ≡ found.End → Right failed buffer input coming []
   end-turn e = go cases
     where
       go : Next (input .opened) (input .big) (input .unread) (bytesIn buffer input) (nextOf buffer input) → Right failed buffer input coming []
@@ -103,7 +103,7 @@ module _ {failed : Bool} {buffer : List ℕ} {input : Input} {coming : List ℕ}
       go (next.opens big l f p) = clash (cc)
       go (next.finds captured original o l f p) = clash (cc)
 
-  refuse-turn : {number : ℕ} → nextOf buffer input ≡ found.Refused number → Right failed buffer input coming (refused number ∷ [])
+  pub refuse-turn : {number : ℕ} → nextOf buffer input ≡ found.Refused number → Right failed buffer input coming (refused number ∷ [])
   refuse-turn {number} e = go cases
     where
       go : Next (input .opened) (input .big) (input .unread) (bytesIn buffer input) (nextOf buffer input) → Right failed buffer input coming (refused number ∷ [])
@@ -120,7 +120,7 @@ module _ {failed : Bool} {buffer : List ℕ} {input : Input} {coming : List ℕ}
       go (next.opens big l f p) = clash (cc)
       go (next.finds captured original o l f p) = clash (cc)
 
-  open-turn : {rest : Input} → nextOf buffer input ≡ found.Head rest → Turn failed buffer input coming buffer rest coming []
+  pub open-turn : {rest : Input} → nextOf buffer input ≡ found.Head rest → Turn failed buffer input coming buffer rest coming []
   open-turn {rest} e = go cases
     where
       go : Next (input .opened) (input .big) (input .unread) (bytesIn buffer input) (nextOf buffer input) → Turn failed buffer input coming buffer rest coming []
@@ -134,7 +134,7 @@ module _ {failed : Bool} {buffer : List ℕ} {input : Input} {coming : List ℕ}
       go (next.breaks number f p) = clash (cc)
       go (next.finds captured original o l f p) = clash (cc)
 
-  find-turn : {from to original : ℕ} {rest : Input} → nextOf buffer input ≡ found.Record from to original rest
+  pub find-turn : {from to original : ℕ} {rest : Input} → nextOf buffer input ≡ found.Record from to original rest
       → Turn failed buffer input coming buffer rest coming (kept original (slice from to buffer) ∷ [])
   find-turn {from} {to} {original} {rest} e = go cases
     where
@@ -162,9 +162,9 @@ module _ {failed : Bool} {buffer : List ℕ} {input : Input} {coming : List ℕ}
       go (next.opens big l f p) = clash (cc)
 
   -- a buffer with room for the longest record is not full
-  unlost : length (bytesIn buffer input) < ROOM → lostOf (length buffer) (input .unread) ≡ false
+  unlost : ROOM ≤ length buffer → length (bytesIn buffer input) < ROOM → lostOf (length buffer) (input .unread) ≡ false
   unfolding lostOf
-  unlost h = rw (k .entire) (part (eqb (input .unread .at) 0) refl (eqb (input .unread .have) (length buffer)) refl)
+  unlost room h = rw (k .entire) (part (eqb (input .unread .at) 0) refl (eqb (input .unread .have) (length buffer)) refl)
     where
       part : (a : Bool) → eqb (input .unread .at) 0 ≡ a → (b : Bool) → eqb (input .unread .have) (length buffer) ≡ b → (a && b) ≡ false
       part false p b q = refl
@@ -174,11 +174,11 @@ module _ {failed : Bool} {buffer : List ℕ} {input : Input} {coming : List ℕ}
           let end = eqb-true (input .unread .have) (length buffer) q in
           absurd (omega (arith, size))
 
-  more-turn : {r : Input} {buffer′ coming′ : List ℕ} → nextOf buffer input ≡ found.More → Refilled buffer input r buffer′
+  more-turn : {r : Input} {buffer′ coming′ : List ℕ} → ROOM ≤ length buffer → nextOf buffer input ≡ found.More → Refilled buffer input r buffer′
       → length buffer′ ≡ length buffer → coming ≡ slice (length (keptOf buffer (input .unread))) (r .unread .have) buffer′ ++ coming′
       → (r .unread .ended ≡ true → (r .unread .failed ≡ failed) × (coming′ ≡ [])) → Turn failed buffer input coming buffer′ r coming′ []
   unfolding keptOf slice
-  more-turn {r} {buffer′} {coming′} e f same c d = go cases
+  more-turn {r} {buffer′} {coming′} room e f same c d = go cases
     where
       held : List ℕ
       held = keptOf buffer (input .unread)
@@ -196,7 +196,7 @@ module _ {failed : Bool} {buffer : List ℕ} {input : Input} {coming : List ℕ}
 
       turn : length (bytesIn buffer input) < ROOM → Turn failed buffer input coming buffer′ r coming′ []
       turn h =
-          let q = unlost h in
+          let q = unlost room h in
           let keeps : held ≡ bytesIn buffer input = rw (k .tidy, q) in
           record {
             sane = record {
@@ -219,11 +219,11 @@ module _ {failed : Bool} {buffer : List ℕ} {input : Input} {coming : List ℕ}
 
 right-turns : {failed : Bool} {buffer : List ℕ} {input : Input} {coming : List ℕ} {reports : List Report} → ROOM ≤ length buffer → Sane failed buffer input coming
     → Turns failed buffer input coming reports → Right failed buffer input coming reports
-right-turns o k (ends e) = end-turn o k e
-right-turns o k (refuses e) = refuse-turn o k e
-right-turns o k (opens e t) = let s = open-turn o k e in s .right _ (right-turns o (s .sane) t)
-right-turns o k (finds e t) = let s = find-turn o k e in s .right _ (right-turns o (s .sane) t)
-right-turns o k (more e f same c d t) = let s = more-turn o k e f same c d in s .right _ (right-turns (omega arith) (s .sane) t)
+right-turns o k (ends e) = end-turn k e
+right-turns o k (refuses e) = refuse-turn k e
+right-turns o k (opens e t) = let s = open-turn k e in s .right _ (right-turns o (s .sane) t)
+right-turns o k (finds e t) = let s = find-turn k e in s .right _ (right-turns o (s .sane) t)
+right-turns o k (more e f same c d t) = let s = more-turn k o e f same c d in s .right _ (right-turns (omega arith) (s .sane) t)
 
 -- from the start on, every record of the file is reported, once and in order, and 25 or 26 where the file is refused or a read fails
 pub every-record : {failed : Bool} (buffer coming : List ℕ) (reports : List Report) → ROOM ≤ length buffer → Turns failed buffer startOf coming reports

@@ -2,3 +2,4 @@ pub mod Heads
 pub mod Unread
 pub mod Files
 pub mod Endings
+pub mod Reading

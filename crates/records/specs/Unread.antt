@@ -27,6 +27,10 @@ ROOM = 65552
 abbrev pub startOf : Input
 startOf = record { unread = pieces.startOf; opened = false; big = false }
 
+-- all n bytes of a file are held already
+abbrev pub heldOf : ℕ → Input
+heldOf n = record { unread = record { at = 0; have = n; over = false; ended = true; failed = false }; opened = false; big = false }
+
 -- ---- what stands next
 
 -- the input of an opened file behind n bytes

@@ -5,7 +5,8 @@ ghost use Prim.Native.Nat.{_+_, _≤_, _<_};
 ghost use lib.ListN.{length, getD};
 ghost use Rattle.lines.specs.Unread.{tidyOf};
 ghost use Rattle.records.specs.Heads.{numberAt, pairAt, isRight, orderOf};
-ghost use Rattle.records.specs.Unread.{startOf, behindOf, shortOf, betweenOf, headFound, recordFound, nextOf, Refilled};
+ghost use Rattle.records.specs.Unread.{startOf, heldOf, behindOf, shortOf, betweenOf, headFound, recordFound, nextOf, Refilled};
+ghost use Rattle.records.specs.Reading.{cameBy, recordIn, Comes};
 use quantity::refusal::FILE_HEAD;
 use quantity::refusal::RECORD;
 
@@ -60,12 +61,45 @@ pub enum Found {
     Refused(u8),
 }
 
+// What a reader of records is handed: the next one, or why there is none.
+pub enum Came {
+    // Nothing any more.
+    End,
+    // A record of the buffer, how many bytes there were, and the input behind it.
+    Record {
+        from: usize,
+        to: usize,
+        original: usize,
+        rest: Input,
+    },
+    // 25 or 26.
+    Refused(u8),
+}
+
 // Nothing is read yet.
 pub fn start() -> Input
     ensures { λ r. ⌜ r ≡ startOf ⌝ }
 {
     Input {
         unread: lines::start(),
+        opened: false,
+        big: false,
+    }
+}
+
+// All n bytes of a file are held already.
+pub fn held(n: usize) -> Input
+    ensures { λ r. ⌜ r ≡ heldOf n ⌝ }
+{
+    let unread = lines::Input {
+        at: 0,
+        have: n,
+        over: false,
+        ended: true,
+        failed: false,
+    };
+    Input {
+        unread,
         opened: false,
         big: false,
     }
@@ -252,6 +286,43 @@ pub fn next(buffer: &[u8], input: Input) -> Found
     head_found(&buffer[at..have], unread)
 }
 
+// What is handed on of what stands next. What isn't whole, with nothing more to be read, is cut off; an opened file has no head.
+fn handed(found: Found) -> Came
+    ensures { λ r. ⌜ r ≡ cameBy found ⌝ }
+{
+    match found {
+        Found::More => Came::Refused(RECORD),
+        Found::End => Came::End,
+        Found::Head(_) => Came::Refused(FILE_HEAD),
+        Found::Record {
+            from,
+            to,
+            original,
+            rest,
+        } => Came::Record {
+            from,
+            to,
+            original,
+            rest,
+        },
+        Found::Refused(number) => Came::Refused(number),
+    }
+}
+
+// The next record of a capture of which all is in memory; the file's head is passed over.
+pub fn record_in(capture: &[u8], input: Input) -> Came
+    ensures { λ r. ⌜ r ≡ recordIn (now (capture .entry)) input ⌝ }
+{
+    let found = next(capture, input);
+    match found {
+        Found::More => handed(found),
+        Found::End => handed(found),
+        Found::Head(rest) => handed(next(capture, rest)),
+        Found::Record { .. } => handed(found),
+        Found::Refused(_) => handed(found),
+    }
+}
+
 // Moves what is unread to the start of the buffer and reads more behind it.
 pub fn fill(buffer: &mut [u8], input: Input) -> Input
     ensures { λ r. ⌜ Refilled (now (buffer .entry)) input r (now (buffer .exit)) ⌝ }
@@ -263,4 +334,36 @@ pub fn fill(buffer: &mut [u8], input: Input) -> Input
         opened: input.opened,
         big: input.big,
     }
+}
+
+// Hands over the next record, or says why there is none, reading more as it is needed; the file's head is passed over. Nothing says that an input ends,
+// so the turns are counted, and what isn't whole by then is cut off.
+pub fn read_record(buffer: &mut [u8], input: Input) -> Came
+    ensures { λ r. ⌜ Comes (now (buffer .entry)) input r (now (buffer .exit)) ⌝ }
+{
+    let mut at = input;
+    let mut turns = u64::MAX;
+    while turns > 0 {
+        turns -= 1;
+        match next(buffer, at) {
+            Found::More => at = fill(buffer, at),
+            Found::End => return Came::End,
+            Found::Head(rest) => at = rest,
+            Found::Record {
+                from,
+                to,
+                original,
+                rest,
+            } => {
+                return Came::Record {
+                    from,
+                    to,
+                    original,
+                    rest,
+                };
+            }
+            Found::Refused(number) => return Came::Refused(number),
+        }
+    }
+    Came::Refused(RECORD)
 }
