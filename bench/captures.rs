@@ -1,4 +1,4 @@
-// An hour's capture in memory, read and counted by the proved code (the crates `bench_reader`, `bench_census`) and by plain Rust: all counts and readings
+// An hour's capture in memory, read and counted by the proved code (the crates `bench_reader`, `whole_captures`) and by plain Rust: all counts and readings
 // must agree, then both are timed on the same bytes. `captures compare` only compares; `captures write FILE little|big` writes the capture.
 use std::hint::black_box;
 

@@ -18,7 +18,8 @@ use Rattle.ethernet.specs.Kinds.{kindOf}
 use Rattle.conduct_rules.specs.declared.Flow.{Flow}
 use Rattle.conduct_rules.specs.Rules.{obeysOf}
 use Rattle.conduct_rules.specs.Kept.{flowWord, flowIn, baseIn, baseAfter, breachAfter}
-use Rattle.conduct.specs.Outcomes.{outcomeBy, outcomeOf}
+use Rattle.conduct.specs.declared.verdict.Seen.{Seen}
+use Rattle.conduct.specs.Outcomes.{outcomeBy, outcomeOf, seenBy, seenOf}
 use Rattle.conduct.specs.Account.{windowIn}
 use Rattle.conduct.specs.Words.{BREACH, FLOW, BASE, EACH, word, heardUpTo, packetJudged, judgedBy}
 
@@ -69,3 +70,7 @@ pub kind-is : (ports : Ports) (id : DatalinkId) (number original : ℕ) (frame w
     → kind ≡ kindOf ports original frame → kind ≡ given → words′ ≡ judgedBy number (outcomeBy given id (datagramOf frame)) words
     → words′ ≡ judgedBy number (outcomeOf ports id original frame) words
 kind-is ports id number original frame words e f k = k ∙ ap (λ (kind : Kind). judgedBy number (outcomeBy kind id (datagramOf frame)) words) (sym f ∙ e)
+
+pub seen-is : (ports : Ports) (id : DatalinkId) (original : ℕ) (frame : List ℕ) {kind given : Kind} {seen : Seen} → kind ≡ kindOf ports original frame → kind ≡ given
+    → seen ≡ seenBy given id (datagramOf frame) → seen ≡ seenOf ports id original frame
+seen-is ports id original frame e f k = k ∙ ap (λ (kind : Kind). seenBy kind id (datagramOf frame)) (sym f ∙ e)

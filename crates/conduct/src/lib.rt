@@ -4,12 +4,14 @@ ghost use Prim.Native.Nat.{_+_, _*_};
 ghost use lib.ListN.{length, getD, set, replicate};
 ghost use Rattle.ethernet.specs.Layers.{datagramOf};
 ghost use Rattle.quantity.specs.Limits.{CHANNEL-IDS};
-ghost use Rattle.conduct.specs.Outcomes.{channelOf, sequenceOf, heardIn, sentIn, outcomeOf};
+ghost use Rattle.conduct.specs.Outcomes.{channelOf, sequenceOf, heardIn, sentIn, outcomeOf, seenIn, seenOf, oneMore, talliedBy};
 ghost use Rattle.conduct.specs.Words.{heardUpTo, packetJudged, undecided, judgedBy, findingBy, findingOf};
 
 pub mod verdict;
 
 pub use crate::verdict::Finding;
+pub use crate::verdict::Seen;
+pub use crate::verdict::Tally;
 use conduct_rules::kept;
 use ethernet::Kind;
 use ethernet::Ports;
@@ -137,8 +139,9 @@ fn sequence_of(counted: Counted) -> Sequence
     }
 }
 
-fn judge_ips(words: &mut [u64], number: u64, datagram: &[u8], id: DatalinkId)
-    ensures { λ _. ⌜ now (words .exit) ≡ judgedBy number (sentIn id (now (datagram .entry))) (now (words .entry)) ⌝ }
+fn judge_ips(words: &mut [u64], number: u64, datagram: &[u8], id: DatalinkId) -> Seen
+    ensures words { λ _. ⌜ now (words .exit) ≡ judgedBy number (sentIn id (now (datagram .entry))) (now (words .entry)) ⌝ }
+    ensures seen { λ r. ⌜ r ≡ seenIn (sentIn id (now (datagram .entry))) ⌝ }
 {
     let carried = data::read_with_packet(datagram, End::Ips, id);
     let reading = carried.reading;
@@ -156,9 +159,10 @@ fn judge_ips(words: &mut [u64], number: u64, datagram: &[u8], id: DatalinkId)
                 ByteCount(size),
                 sequence_of(sequence),
             );
+            Seen::Judged
         }
-        Verdict::Refused(_) => {}
-        Verdict::OtherPlane => {}
+        Verdict::Refused(_) => Seen::Other,
+        Verdict::OtherPlane => Seen::Other,
     }
 }
 
@@ -177,21 +181,58 @@ pub fn judge(
     original: usize,
     ports: Ports,
     id: DatalinkId,
-)
-    ensures { λ _. ⌜ now (words .exit) ≡ judgedBy number (outcomeOf ports id original (now (frame .entry))) (now (words .entry)) ⌝ }
+) -> Seen
+    ensures words { λ _. ⌜ now (words .exit) ≡ judgedBy number (outcomeOf ports id original (now (frame .entry))) (now (words .entry)) ⌝ }
+    ensures seen { λ r. ⌜ r ≡ seenOf ports id original (now (frame .entry)) ⌝ }
 {
     match ethernet::kind_of(frame, original, ports) {
         Kind::Ips => judge_ips(words, number, ethernet::datagram(frame), id),
-        Kind::Radio => judge_radio(words, number, ethernet::datagram(frame), id),
-        Kind::Shortened => undecide(words),
-        Kind::Fragment => undecide(words),
-        Kind::Short => {}
-        Kind::OtherType => {}
-        Kind::NotIpv4 => {}
-        Kind::OtherProtocol => {}
-        Kind::Ipv4Length => {}
-        Kind::UdpLength => {}
-        Kind::OtherPort => {}
+        Kind::Radio => {
+            judge_radio(words, number, ethernet::datagram(frame), id);
+            Seen::Other
+        }
+        Kind::Shortened => {
+            undecide(words);
+            Seen::Skipped
+        }
+        Kind::Fragment => {
+            undecide(words);
+            Seen::Skipped
+        }
+        Kind::Short => Seen::Skipped,
+        Kind::OtherType => Seen::Skipped,
+        Kind::NotIpv4 => Seen::Skipped,
+        Kind::OtherProtocol => Seen::Skipped,
+        Kind::Ipv4Length => Seen::Skipped,
+        Kind::UdpLength => Seen::Skipped,
+        Kind::OtherPort => Seen::Skipped,
+    }
+}
+
+// One more, up to the most that a word holds.
+fn one_more(count: u64) -> u64
+    ensures { λ r. ⌜ r ≡ oneMore count ⌝ }
+{
+    if count < u64::MAX {
+        return count + 1;
+    }
+    count
+}
+
+// The counts with a record more.
+pub fn tallied(tally: Tally, seen: Seen) -> Tally
+    ensures { λ r. ⌜ r ≡ talliedBy tally seen ⌝ }
+{
+    match seen {
+        Seen::Skipped => Tally {
+            judged: tally.judged,
+            skipped: one_more(tally.skipped),
+        },
+        Seen::Judged => Tally {
+            judged: one_more(tally.judged),
+            skipped: tally.skipped,
+        },
+        Seen::Other => tally,
     }
 }
 

@@ -6,3 +6,16 @@ pub enum Finding {
     Breach(u64),
     Undecided,
 }
+
+// What a record was to the judge: of a kind that is skipped; a data message of the IPS end, judged; or another datagram of one of the ends.
+pub enum Seen {
+    Skipped,
+    Judged,
+    Other,
+}
+
+// How many data messages were judged, and how many records skipped.
+pub struct Tally {
+    pub judged: u64,
+    pub skipped: u64,
+}

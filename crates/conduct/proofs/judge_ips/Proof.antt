@@ -1,5 +1,5 @@
 -- `judge_ips` meets its contract, by the verdict. Assumes nothing.
-use mathlib.Core.Path.{_≡_}
+use mathlib.Core.Path.{_≡_, refl}
 use native.Mathlib.Omega.{arith}
 use Rattle.reader.specs.Readings.{readData}
 use Rattle.meaning.specs.declared.message.End.{End}
@@ -40,13 +40,13 @@ same-length : tie.Need-same-length
 same-length c = search needs
 
 returns : tie.Need-returns
-returns c = let told = c .before .before .before .before .before .before .before .before in let read = c .before .before .before .before .before .before .before .before .before .before .before in let size = carried-size (read .read-with-packet .result) (read .before .before .before .args .datagram .now) (read .read-with-packet .ensures .1) (told .enum-told .given .1) in rw (← same read, told .enum-told .given .1, ← (c .before .before .before .before .channel-of .ensures), ← (c .before .before .before .sequence-of .ensures), size) (c .before .before .judge-packet .ensures)
+returns c = let told = c .before .before .before .before .before .before .before .before in let read = c .before .before .before .before .before .before .before .before .before .before .before in let size = carried-size (read .read-with-packet .result) (read .before .before .before .args .datagram .now) (read .read-with-packet .ensures .1) (told .enum-told .given .1) in rw (← same read, told .enum-told .given .1, ← (c .before .before .before .before .channel-of .ensures), ← (c .before .before .before .sequence-of .ensures), size) (c .before .before .judge-packet .ensures, refl)
 
 returns-2 : tie.Need-returns-2
-returns-2 c = rw (← same (c .before .before .before), c .enum-told2 .given .1)
+returns-2 c = rw (← same (c .before .before .before), c .enum-told2 .given .1) (refl, refl)
 
 returns-3 : tie.Need-returns-3
-returns-3 c = rw (← same (c .before .before .before), c .enum-told3 .given .1)
+returns-3 c = rw (← same (c .before .before .before), c .enum-told3 .given .1) (refl, refl)
 
 pub judge-ips-spec : {M : Type 1} → statement M
 judge-ips-spec =
