@@ -134,14 +134,32 @@ def judge_lines(setting, file):
     yield from (f"{channel} {verdict_of(channel, messages)}" for channel in CHANNELS)
 
 
+def figures(setting, file):
+    """How many data messages of the IPS end are accepted, and how many records skipped, up to the end or to where the file is refused."""
+    order = read_order(file)
+    judged = skipped = 0
+    try:
+        for original, frame in read_records(file, order) if order else ():
+            kind, datagram = find_datagram(setting, original, frame)
+            skipped += kind not in (IPS, RADIO)
+            if kind == IPS:
+                judged += sum(message.meaning.plane == DATA for message in accepted(setting, 0, kind, datagram))
+    except Refusal:
+        pass
+    return judged, skipped
+
+
 def main():
-    """Print the verdicts."""
+    """Print the verdicts, and on standard error how many data messages were judged and records skipped."""
     setting = read_setting(sys.argv[1:])
     if setting is None:
         print(USAGE, file=sys.stderr)
         return
-    for line in judge_lines(setting, sys.stdin.buffer.read()):
+    file = sys.stdin.buffer.read()
+    for line in judge_lines(setting, file):
         print(line)
+    judged, skipped = figures(setting, file)
+    print(f"judged {judged} skipped {skipped}", file=sys.stderr)
 
 
 if __name__ == "__main__":

@@ -22,6 +22,8 @@ What a channel is, the latest radio control message before says: not seen while 
 - under a window, if it carries the base plus its packet's bytes, modulo 2^32, and these are at most the distance from the base to the window. The base is the Flow Sequence that the last data message with one carried on the channel; for the first it is its own less its bytes;
 - never while there is no window, or before any radio control message.
 
+On standard error it then says `judged N skipped M`: how many data messages of the IPS end the reader accepted, and how many records were neither a datagram to the radio's port nor one to the IPS end's (as `report` skips them), up to the end of the capture or to where it is refused. With `judged 0` every channel passes, and nothing is said of the endpoint.
+
 Statuses aren't judged. Queries, the radio's data messages, datagrams that the reader refuses and records of other kinds are passed over, and count as records.
 
 ## What else can look like a breach
@@ -30,11 +32,13 @@ The verdict is about the recording. These make a good endpoint look bad, or hide
 
 - **More than one session in a capture.** Addresses and source ports aren't looked at: two routers, or one that was started anew, are judged as one. Cut the capture apart first (`tcpdump -r FILE -w PART host ADDRESS`).
 - **Another order than the IPS end's.** The capture has to hold the messages in the order in which the IPS end saw them. Recorded at the radio, a window that was on its way while a packet was sent stands before that packet: a smaller or withdrawn one then looks like a breach, a larger one hides one.
+- **Frames recorded twice.** A mirror port may hand over each frame as it comes and as it goes. The copy of a data message with a Flow Sequence carries the same number once more, and is a breach. Take the copies out first (`editcap -d FILE PART`).
 - **Records that are missing.** A data message that the capture lost makes the next one a breach, by its sequence. A lost radio control message leaves the window before it in force.
 - **Radio messages that the IPS end didn't take.** One that was lost behind the place of the recording, or that the endpoint refused for a reason which the bytes don't show (ours refuses one whose time is before its clock, number 21), is heard here: if it granted less, a packet within the window before it looks like a breach.
 - **A capture that begins in the middle.** Data messages before the first radio control message are breaches.
 - **A channel that the IPS end takes as plain.** Where the radio grants it windows, every packet without a Flow Sequence is a breach, whichever end is configured wrongly.
 - **Other ports or another Datalink ID.** Messages under another are passed over, and a channel without data messages passes. `report` counts what was read.
+- **A session behind VLAN tags.** Each of its records is of another kind and skipped: every channel passes, and none was judged (`judged 0`).
 - **Fragments behind VLAN tags or in IPv6** are records of other kinds: they are passed over, and nothing is undecided for them.
 
 ## The sample's records

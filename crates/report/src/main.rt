@@ -1,4 +1,6 @@
 // Document 02, "A report over captures": counts what a capture holds of CIRI, and prints every count.
+ghost use mathlib.Core.Path.{_≡_};
+ghost use Rattle.report.specs.Serving.{TurnedTo, Served};
 use census::BYTES;
 use census::IPS;
 use census::PACKETS;
@@ -12,7 +14,8 @@ use libc::STDERR_FILENO;
 use libc::STDOUT_FILENO;
 use quantity::count::DatalinkId;
 use quantity::refusal::FILE_HEAD;
-use records::Found;
+use records::Came;
+use records::Input;
 
 // How many bytes of the capture are held at once.
 const ROOM: usize = 2 * records::ROOM;
@@ -101,27 +104,39 @@ fn say_refusal(out: &mut [u8], number: u8) -> bool {
     say_number(out, at, number as u64)
 }
 
-// Counts record after record. Gives the number by which the capture is refused, or 0. Nothing says that an input ends,
-// so the turns are counted.
-fn serve(buffer: &mut [u8], counts: &mut [u64], ports: Ports, id: DatalinkId) -> u8 {
+// One turn: the next record is counted.
+fn turn(buffer: &mut [u8], counts: &mut [u64], input: Input, ports: Ports, id: DatalinkId) -> Came
+    ensures { λ r. ⌜ TurnedTo ports id (now (buffer .entry)) input (now (counts .entry)) r (now (buffer .exit)) (now (counts .exit)) ⌝ }
+{
+    let came = records::read_record(buffer, input);
+    match came {
+        Came::End => came,
+        Came::Record {
+            from,
+            to,
+            original,
+            ..
+        } => {
+            census::count(counts, &buffer[from..to], original, ports, id);
+            came
+        }
+        Came::Refused(_) => came,
+    }
+}
+
+// Turn after turn. Gives the number by which the capture is refused, or 0. Nothing says that a capture ends, so the turns
+// are counted.
+fn serve(buffer: &mut [u8], counts: &mut [u64], ports: Ports, id: DatalinkId) -> u8
+    ensures { λ r. ⌜ Served ports id (now (buffer .entry)) (now (counts .entry)) r (now (counts .exit)) ⌝ }
+{
     let mut input = records::start();
-    let mut turns = u64::MAX;
-    while turns > 0 {
-        turns -= 1;
-        match records::next(buffer, input) {
-            Found::More => input = records::fill(buffer, input),
-            Found::End => return 0,
-            Found::Head(rest) => input = rest,
-            Found::Record {
-                from,
-                to,
-                original,
-                rest,
-            } => {
-                census::count(counts, &buffer[from..to], original, ports, id);
-                input = rest;
-            }
-            Found::Refused(number) => return number,
+    let mut number: u64 = 0;
+    while number < u64::MAX {
+        number += 1;
+        match turn(buffer, counts, input, ports, id) {
+            Came::End => return 0,
+            Came::Record { rest, .. } => input = rest,
+            Came::Refused(refusal) => return refusal,
         }
     }
     0

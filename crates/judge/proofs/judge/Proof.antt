@@ -1,6 +1,6 @@
--- `judge` meets its contract: the words are those of the loop, from zeros on, closed by its answer. Assumes nothing.
-use Rattle.judge.proofs.Serving.{judged-by}
+-- `judge` meets its contract: the words are those of all turns, from zeros on. Assumes nothing.
 use borrow.Author.Needs.{needs}
+use Rattle.judge.proofs.Serving.{judged-by}
 use Rattle.judge.proofs.judge.Statement.{statement}
 use Rattle.judge.proofs.judge.Tie as tie
 
@@ -10,11 +10,11 @@ start-requires c κs = search needs
 serve-requires : tie.Need-serve-requires
 serve-requires c κs = search needs
 
-close-requires : tie.Need-close-requires
-close-requires c κs = search needs
-
 say-findings-requires : tie.Need-say-findings-requires
 say-findings-requires c κs = search needs
+
+say-tally-requires : tie.Need-say-tally-requires
+say-tally-requires c κs = search needs
 
 same-length : tie.Need-same-length
 same-length c = search needs
@@ -26,7 +26,7 @@ same-length-3 : tie.Need-same-length-3
 same-length-3 c = search needs
 
 returns : tie.Need-returns
-returns c = judged-by (c .before .before .before .before .before .before .before .before .before .before .before .before .before .before .before .before .before .before .start .ensures) (c .before .before .before .before .before .before .before .before .before .before .before .before .before .serve .ensures) (c .before .before .before .before .before .before .before .close .ensures)
+returns c = judged-by (c .before .before .before .before .before .before .before .before .before .before .before .before .before .before .before .before .before .before .start .ensures) (c .before .before .before .before .before .before .before .before .before .before .before .before .before .serve .ensures)
 
 pub judge-spec : {M : Type 1} → statement M
 judge-spec =
@@ -34,8 +34,8 @@ judge-spec =
     (tie.spec
     start-requires
     serve-requires
-    close-requires
     say-findings-requires
+    say-tally-requires
     same-length
     same-length-2
     same-length-3

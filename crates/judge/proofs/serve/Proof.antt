@@ -1,25 +1,18 @@
--- `serve` meets its contract: each turn is one that `Serving` knows. A record that is found lies within the buffer, the turns that are left fall, and no more
--- records are counted than turns were made. Assumes nothing.
-use Prim.Native.Nat.{_≤_}
+-- `serve` meets its contract: turn after turn, each on what the one before left. Assumes nothing.
+use mathlib.Core.Path.{_∙_}
+use Prim.Native.Nat.{_-_}
 use native.Mathlib.Omega.{arith}
-use mathlib.Core.Path.{_≡_, sym, _∙_}
-use lib.ListN.{length}
 use borrow.Author.Needs.{needs}
-use Rattle.records.proofs.Ways.{next-inside}
-use Rattle.judge.proofs.Serving.{Serving, serving-start, serving-end, serving-refused, serving-tired, serving-head, serving-fill, serving-record}
+use Rattle.records.specs.Reading.{MOST-TURNS}
+use Rattle.judge.proofs.Serving.{Serving, serving-start, serving-end, serving-refused, serving-tired, serving-on}
 use Rattle.judge.proofs.serve.Statement.{statement}
 use Rattle.judge.proofs.serve.Tie as tie
 
 abbrev Inv-loop : tie.InvT-loop
-Inv-loop buffer₀ words₀ ports id input₀ turns₀ number₀ buffer words input turns number =
-    Serving ports id buffer₀ words₀ buffer words input turns number
+Inv-loop buffer₀ words₀ ports id input₀ tally₀ number₀ buffer words input tally number = Serving ports id buffer₀ words₀ buffer words input tally number
 
 abbrev μ-loop : tie.MeasureT-loop
-μ-loop buffer₀ words₀ ports id input₀ turns₀ number₀ buffer words input turns number = turns
-
-inside : (c : tie.After-known-told2 Inv-loop μ-loop) → let found = c .before .from .given .0 in
-    (found .0 ≤ found .1 .0) × (found .1 .0 ≤ length (c .before .before .before .before .before .before .loop .buffer))
-inside c = next-inside _ _ (sym (c .before .before .before .next .ensures) ∙ c .before .from .given .1)
+μ-loop buffer₀ words₀ ports id input₀ tally₀ number₀ buffer words input tally number = MOST-TURNS - number
 
 start-requires : tie.Need-start-requires Inv-loop μ-loop
 start-requires c κs = search needs
@@ -27,83 +20,47 @@ start-requires c κs = search needs
 loop-holds : tie.Need-loop-holds Inv-loop μ-loop
 loop-holds c = rw (c .start .ensures) (serving-start _ _)
 
-sub-turns : tie.Need-sub-turns Inv-loop μ-loop
-sub-turns c = search needs
+add-number : tie.Need-add-number Inv-loop μ-loop
+add-number c = search needs
 
-next-requires : tie.Need-next-requires Inv-loop μ-loop
-next-requires c κs = search needs
+turn-requires : tie.Need-turn-requires Inv-loop μ-loop
+turn-requires c κs = search needs
 
 enum-told : tie.Need-enum-told Inv-loop μ-loop
 enum-told c = search needs
 
-fill-requires : tie.Need-fill-requires Inv-loop μ-loop
-fill-requires c κs = search needs
+same-length : tie.Need-same-length Inv-loop μ-loop
+same-length c = c .before .before .before .before .before .before .buffer .given ∙ c .before .before .before .before .before .before .before .before .before .before .before .loop .inv .going .size
+
+same-length-2 : tie.Need-same-length-2 Inv-loop μ-loop
+same-length-2 c = c .before .before .before .before .words .given ∙ c .before .before .before .before .before .before .before .before .before .before .before .loop .inv .words-size
+
+returns : tie.Need-returns Inv-loop μ-loop
+returns c = serving-end (c .before .before .before .before .before .before .before .before .before .before .before .loop .inv) (omega arith) (c .before .before .before .before .before .before .before .turn .ensures) (c .enum-told .given .1)
+
+enum-known-came : tie.Need-enum-known-came Inv-loop μ-loop
+enum-known-came c = search needs
 
 loop-less : tie.Need-loop-less Inv-loop μ-loop
-loop-less c = search needs
+loop-less c = omega (arith, c .before .before .before .before .before .before .before .before .before .before .before .loop-test .taken)
 
 loop-again : tie.Need-loop-again Inv-loop μ-loop
-loop-again c = serving-fill (c .before .before .before .before .before .before .before .before .before .loop .inv) (omega (arith, c .before .before .before .before .before .before .before .before .loop-test .taken)) (sym (c .before .before .before .before .before .before .next .ensures) ∙ c .before .before .before .before .enum-told .given .1) (c .before .before .fill .ensures) (c .before .buffer .given)
+loop-again c = serving-on (c .before .before .before .before .before .before .before .before .before .before .before .before .loop .inv) (omega arith) (c .before .before .before .before .before .before .before .before .turn .ensures) (c .before .before .before .before .before .before .before .before .before .before .before .loop-test .taken) (c .before .came .given .1) (c .before .before .before .before .before .before .before .buffer .given) (c .before .before .before .before .before .words .given)
 
 enum-told-2 : tie.Need-enum-told-2 Inv-loop μ-loop
 enum-told-2 c = search needs
 
-same-length : tie.Need-same-length Inv-loop μ-loop
-same-length c = c .before .before .before .before .before .loop .inv .buffer-size
-
-same-length-2 : tie.Need-same-length-2 Inv-loop μ-loop
-same-length-2 c = c .before .before .before .before .before .loop .inv .words-size
-
-returns : tie.Need-returns Inv-loop μ-loop
-returns c = serving-end (c .before .before .before .before .before .loop .inv) (sym (c .before .before .next .ensures) ∙ c .enum-told2 .given .1)
-
-enum-known-rest : tie.Need-enum-known-rest Inv-loop μ-loop
-enum-known-rest c = search needs
-
-loop-less-2 : tie.Need-loop-less-2 Inv-loop μ-loop
-loop-less-2 c = search needs
-
-loop-again-2 : tie.Need-loop-again-2 Inv-loop μ-loop
-loop-again-2 c = serving-head (c .before .before .before .before .before .before .loop .inv) (omega (arith, c .before .before .before .before .before .loop-test .taken)) (sym (c .before .before .before .next .ensures) ∙ c .before .rest .given .1)
-
-enum-known-from : tie.Need-enum-known-from Inv-loop μ-loop
-enum-known-from c = search needs
-
-add-number : tie.Need-add-number Inv-loop μ-loop
-add-number c = omega (arith, c .before .before .before .before .before .before .loop .inv .sum, c .before .before .before .before .before .before .loop .inv .counted, c .before .before .before .before .before .loop-test .taken)
-
-sub-judge : tie.Need-sub-judge Inv-loop μ-loop
-sub-judge c = inside (c .before) .0
-
-part-judge-start : tie.Need-part-judge-start Inv-loop μ-loop
-part-judge-start c = inside (c .before .before) .0
-
-part-judge-end : tie.Need-part-judge-end Inv-loop μ-loop
-part-judge-end c = inside (c .before .before) .1
-
-judge-requires : tie.Need-judge-requires Inv-loop μ-loop
-judge-requires c κs = search needs
-
-loop-less-3 : tie.Need-loop-less-3 Inv-loop μ-loop
-loop-less-3 c = search needs
-
-loop-again-3 : tie.Need-loop-again-3 Inv-loop μ-loop
-loop-again-3 c = serving-record (c .before .before .before .before .before .before .before .before .before .before .before .before .loop .inv) (omega (arith, c .before .before .before .before .before .before .before .before .before .before .before .loop-test .taken)) (sym (c .before .before .before .before .before .before .before .before .before .next .ensures) ∙ c .before .before .before .before .before .before .before .from .given .1) (omega arith) (c .before .before .judge .ensures) (c .before .words .given)
-
-enum-told-3 : tie.Need-enum-told-3 Inv-loop μ-loop
-enum-told-3 c = search needs
-
 same-length-3 : tie.Need-same-length-3 Inv-loop μ-loop
-same-length-3 c = c .before .before .before .before .before .loop .inv .buffer-size
+same-length-3 c = c .before .before .before .before .before .before .buffer .given ∙ c .before .before .before .before .before .before .before .before .before .before .before .loop .inv .going .size
 
 same-length-4 : tie.Need-same-length-4 Inv-loop μ-loop
-same-length-4 c = c .before .before .before .before .before .loop .inv .words-size
+same-length-4 c = c .before .before .before .before .words .given ∙ c .before .before .before .before .before .before .before .before .before .before .before .loop .inv .words-size
 
 returns-2 : tie.Need-returns-2 Inv-loop μ-loop
-returns-2 c = serving-refused (c .before .before .before .before .before .loop .inv) (sym (c .before .before .next .ensures) ∙ c .enum-told3 .given .1)
+returns-2 c = serving-refused (c .before .before .before .before .before .before .before .before .before .before .before .loop .inv) (omega arith) (c .before .before .before .before .before .before .before .turn .ensures) (c .enum-told2 .given .1)
 
 same-length-5 : tie.Need-same-length-5 Inv-loop μ-loop
-same-length-5 c = c .before .loop .inv .buffer-size
+same-length-5 c = c .before .loop .inv .going .size
 
 same-length-6 : tie.Need-same-length-6 Inv-loop μ-loop
 same-length-6 c = c .before .loop .inv .words-size
@@ -119,28 +76,16 @@ serve-spec =
     μ-loop
     start-requires
     loop-holds
-    sub-turns
-    next-requires
+    add-number
+    turn-requires
     enum-told
-    fill-requires
-    loop-less
-    loop-again
-    enum-told-2
     same-length
     same-length-2
     returns
-    enum-known-rest
-    loop-less-2
-    loop-again-2
-    enum-known-from
-    add-number
-    sub-judge
-    part-judge-start
-    part-judge-end
-    judge-requires
-    loop-less-3
-    loop-again-3
-    enum-told-3
+    enum-known-came
+    loop-less
+    loop-again
+    enum-told-2
     same-length-3
     same-length-4
     returns-2

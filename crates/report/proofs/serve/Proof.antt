@@ -1,108 +1,72 @@
--- `serve` is safe and ends: a record that is found lies within the buffer, and the turns that are left fall. Assumes nothing.
-use Prim.Native.Nat.{_≤_}
-use mathlib.Core.Path.{_≡_, sym, _∙_}
-use lib.ListN.{length}
+-- `serve` meets its contract: turn after turn, each on what the one before left. Assumes nothing.
+use mathlib.Core.Path.{_∙_}
+use Prim.Native.Nat.{_-_}
+use native.Mathlib.Omega.{arith}
 use borrow.Author.Needs.{needs}
-use Rattle.records.proofs.Ways.{next-inside}
+use Rattle.records.specs.Reading.{MOST-TURNS}
+use Rattle.report.proofs.Serving.{Serving, serving-start, serving-end, serving-refused, serving-tired, serving-on}
 use Rattle.report.proofs.serve.Statement.{statement}
 use Rattle.report.proofs.serve.Tie as tie
 
 abbrev Inv-loop : tie.InvT-loop
-Inv-loop buffer₀ counts₀ ports id input₀ turns₀ buffer counts input turns = (length buffer ≡ length buffer₀) × (length counts ≡ length counts₀)
+Inv-loop buffer₀ counts₀ ports id input₀ number₀ buffer counts input number = Serving ports id buffer₀ counts₀ buffer counts input number
 
 abbrev μ-loop : tie.MeasureT-loop
-μ-loop buffer₀ counts₀ ports id input₀ turns₀ buffer counts input turns = turns
-
-inside : (c : tie.After-known-told2 Inv-loop μ-loop) → let found = c .before .from .given .0 in
-    (found .0 ≤ found .1 .0) × (found .1 .0 ≤ length (c .before .before .before .before .before .before .loop .buffer))
-inside c = next-inside _ _ (sym (c .before .before .before .next .ensures) ∙ c .before .from .given .1)
+μ-loop buffer₀ counts₀ ports id input₀ number₀ buffer counts input number = MOST-TURNS - number
 
 start-requires : tie.Need-start-requires Inv-loop μ-loop
 start-requires c κs = search needs
 
 loop-holds : tie.Need-loop-holds Inv-loop μ-loop
-loop-holds c = search needs
+loop-holds c = rw (c .start .ensures) (serving-start _ _)
 
-sub-turns : tie.Need-sub-turns Inv-loop μ-loop
-sub-turns c = search needs
+add-number : tie.Need-add-number Inv-loop μ-loop
+add-number c = search needs
 
-next-requires : tie.Need-next-requires Inv-loop μ-loop
-next-requires c κs = search needs
+turn-requires : tie.Need-turn-requires Inv-loop μ-loop
+turn-requires c κs = search needs
 
 enum-told : tie.Need-enum-told Inv-loop μ-loop
 enum-told c = search needs
 
-fill-requires : tie.Need-fill-requires Inv-loop μ-loop
-fill-requires c κs = search needs
-
-loop-less : tie.Need-loop-less Inv-loop μ-loop
-loop-less c = search needs
-
-loop-again : tie.Need-loop-again Inv-loop μ-loop
-loop-again c = search needs
-
-enum-told-2 : tie.Need-enum-told-2 Inv-loop μ-loop
-enum-told-2 c = search needs
-
 same-length : tie.Need-same-length Inv-loop μ-loop
-same-length c = search needs
+same-length c = c .before .before .before .before .before .buffer .given ∙ c .before .before .before .before .before .before .before .before .before .before .loop .inv .going .size
 
 same-length-2 : tie.Need-same-length-2 Inv-loop μ-loop
-same-length-2 c = search needs
+same-length-2 c = c .before .before .before .counts .given ∙ c .before .before .before .before .before .before .before .before .before .before .loop .inv .counts-size
 
 returns : tie.Need-returns Inv-loop μ-loop
-returns c = search needs
+returns c = serving-end (c .before .before .before .before .before .before .before .before .before .before .loop .inv) (c .before .before .before .before .before .before .turn .ensures) (c .enum-told .given .1)
 
 enum-known-rest : tie.Need-enum-known-rest Inv-loop μ-loop
 enum-known-rest c = search needs
 
-loop-less-2 : tie.Need-loop-less-2 Inv-loop μ-loop
-loop-less-2 c = search needs
+loop-less : tie.Need-loop-less Inv-loop μ-loop
+loop-less c = omega (arith, c .before .before .before .before .before .before .before .before .before .before .loop-test .taken)
 
-loop-again-2 : tie.Need-loop-again-2 Inv-loop μ-loop
-loop-again-2 c = search needs
+loop-again : tie.Need-loop-again Inv-loop μ-loop
+loop-again c = serving-on (c .before .before .before .before .before .before .before .before .before .before .before .loop .inv) (c .before .before .before .before .before .before .before .turn .ensures) (c .before .before .before .before .before .before .before .before .before .before .loop-test .taken) (omega arith) (c .before .rest .given .1) (c .before .before .before .before .before .before .buffer .given) (c .before .before .before .before .counts .given)
 
-enum-known-from : tie.Need-enum-known-from Inv-loop μ-loop
-enum-known-from c = search needs
-
-sub-count : tie.Need-sub-count Inv-loop μ-loop
-sub-count c = inside (c .before) .0
-
-part-count-start : tie.Need-part-count-start Inv-loop μ-loop
-part-count-start c = inside (c .before .before) .0
-
-part-count-end : tie.Need-part-count-end Inv-loop μ-loop
-part-count-end c = inside (c .before .before) .1
-
-count-requires : tie.Need-count-requires Inv-loop μ-loop
-count-requires c κs = search needs
-
-loop-less-3 : tie.Need-loop-less-3 Inv-loop μ-loop
-loop-less-3 c = search needs
-
-loop-again-3 : tie.Need-loop-again-3 Inv-loop μ-loop
-loop-again-3 c = search needs
-
-enum-known-number : tie.Need-enum-known-number Inv-loop μ-loop
-enum-known-number c = search needs
+enum-known-refusal : tie.Need-enum-known-refusal Inv-loop μ-loop
+enum-known-refusal c = search needs
 
 same-length-3 : tie.Need-same-length-3 Inv-loop μ-loop
-same-length-3 c = search needs
+same-length-3 c = c .before .before .before .before .before .before .buffer .given ∙ c .before .before .before .before .before .before .before .before .before .before .before .loop .inv .going .size
 
 same-length-4 : tie.Need-same-length-4 Inv-loop μ-loop
-same-length-4 c = search needs
+same-length-4 c = c .before .before .before .before .counts .given ∙ c .before .before .before .before .before .before .before .before .before .before .before .loop .inv .counts-size
 
 returns-2 : tie.Need-returns-2 Inv-loop μ-loop
-returns-2 c = search needs
+returns-2 c = serving-refused (c .before .before .before .before .before .before .before .before .before .before .before .loop .inv) (c .before .before .before .before .before .before .before .turn .ensures) (c .before .refusal .given .1)
 
 same-length-5 : tie.Need-same-length-5 Inv-loop μ-loop
-same-length-5 c = search needs
+same-length-5 c = c .before .loop .inv .going .size
 
 same-length-6 : tie.Need-same-length-6 Inv-loop μ-loop
-same-length-6 c = search needs
+same-length-6 c = c .before .loop .inv .counts-size
 
 returns-3 : tie.Need-returns-3 Inv-loop μ-loop
-returns-3 c = search needs
+returns-3 c = serving-tired (c .before .loop .inv) (omega (arith, c .loop-test .left))
 
 pub serve-spec : {M : Type 1} → statement M
 serve-spec =
@@ -112,27 +76,16 @@ serve-spec =
     μ-loop
     start-requires
     loop-holds
-    sub-turns
-    next-requires
+    add-number
+    turn-requires
     enum-told
-    fill-requires
-    loop-less
-    loop-again
-    enum-told-2
     same-length
     same-length-2
     returns
     enum-known-rest
-    loop-less-2
-    loop-again-2
-    enum-known-from
-    sub-count
-    part-count-start
-    part-count-end
-    count-requires
-    loop-less-3
-    loop-again-3
-    enum-known-number
+    loop-less
+    loop-again
+    enum-known-refusal
     same-length-3
     same-length-4
     returns-2
