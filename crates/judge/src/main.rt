@@ -49,15 +49,16 @@ fn say_finding(out: &mut [u8], channel: u8, finding: Finding) -> bool {
     print(out, end)
 }
 
-// Prints verdict after verdict, up to one that can't be written.
-fn say_findings(out: &mut [u8], words: &[u64]) {
+// Prints verdict after verdict, up to one that can't be written. Whether all were.
+fn say_findings(out: &mut [u8], words: &[u64]) -> bool {
     let mut channel: usize = 0;
     while channel < CHANNEL_IDS {
         if !say_finding(out, channel as u8, conduct::finding(words, channel as u8)) {
-            return;
+            return false;
         }
         channel += 1;
     }
+    true
 }
 
 // What a turn left: what came of the capture, and the counts.
@@ -141,8 +142,9 @@ fn judge(buffer: &mut [u8], words: &mut [u64], out: &mut [u8], ports: Ports, id:
 {
     conduct::start(words);
     let tally = serve(buffer, words, ports, id);
-    say_findings(out, words);
-    say_tally(out, tally);
+    if say_findings(out, words) {
+        say_tally(out, tally);
+    }
 }
 
 // An array that is lent as an array asks no proof of its length.
