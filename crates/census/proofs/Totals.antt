@@ -18,7 +18,7 @@ use Rattle.ethernet.specs.declared.Ports.{Ports}
 use Rattle.census.specs.Adding.{MOST, plus, addAll}
 use Rattle.census.specs.Outcomes.{Reading, refused, control, carried, astray, Outcome, skipped, message, outcomeOf}
 use Rattle.census.specs.Places.{PLACES, addsOf}
-use Rattle.census.specs.Counts.{one, isRefused, isAccepted, Count, all, skips, messages, refusals, packets, bytes, windows, placeOf, amountOf, Counted, outcomesOf, having, totalOf, refusedUpTo, countAll}
+use Rattle.census.specs.Counts.{one, isAccepted, Count, all, skips, messages, refusals, packets, bytes, windows, placeOf, amountOf, Counted, outcomesOf, having, totalOf, refusedUpTo, countAll}
 use Rattle.census.proofs.Turns.{add-length}
 use Rattle.census.proofs.Amounts.{amountIn, plus-plus, added, Fair, counted}
 use Rattle.census.proofs.Readings.{outcome-fair, never-long}

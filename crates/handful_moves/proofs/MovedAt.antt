@@ -22,19 +22,20 @@ use Rattle.endpoint.specs.Calls.{movedAt, MovedAt}
 
 module _ (w : World) (index : ℕ) (moved : ByteCount) where
   module _ (call : ChannelCall) (said : MovedAt call w index moved) where
-    moves : Moves (w .state .datalink) call (channelIn w index) (storeIn w index) moved
+    -- what it says is the count of the channel's own call: the bytes that have to move, by its definition
+    pub said-moves : Moves (w .state .datalink) call (channelIn w index) (storeIn w index) moved
     unfolding movedAt
-    moves = said
+    said-moves = said
 
     -- "Move each surviving byte at most once in a call": no list of moves that brings the packets that stay to the store's start is shorter
     pub said-least : worldFits w ≡ true → index < length (w .state .channels) → (ms : List Move)
         → ToStart (channelIn w index .setting .size .0) (stretchesBy (w .state .datalink) call (channelIn w index) (storeIn w index)) ms → moved .0 ≤ length ms
     said-least fits inside ms start =
-        call-least (channelIn w index) (storeIn w index) (w .state .datalink) call moved moves (ready (length (w .state .channels)) w (in-order w fits) index inside) ms start
+        call-least (channelIn w index) (storeIn w index) (w .state .datalink) call moved said-moves (ready (length (w .state .channels)) w (in-order w fits) index inside) ms start
 
     -- a refused call says 0
     pub said-none : (number : ℕ) → resultIn call w index .answer ≡ refused number → moved ≡ record { 0 = 0 }
-    said-none number refuses = refused-none (channelIn w index) (storeIn w index) (w .state .datalink) call moved moves number refuses
+    said-none number refuses = refused-none (channelIn w index) (storeIn w index) (w .state .datalink) call moved said-moves number refuses
 
   -- and so does Withdraw, after which no packet stays
   pub withdraw-said : MovedAt withdraw w index moved → moved ≡ record { 0 = 0 }

@@ -1,5 +1,5 @@
 -- A turn by what came, and what holds between two turns. Assumes nothing.
-use mathlib.Core.Path.{_≡_, refl, sym, ap, _∙_}
+use mathlib.Core.Path.{_≡_, refl, ap, _∙_}
 use mathlib.Core.List.{List, [], _∷_}
 use Prim.Native.Nat.{ℕ, suc, _-_, _≤_, _<_}
 use native.Mathlib.Omega.{arith}
@@ -12,7 +12,7 @@ use Rattle.records.specs.declared.Came.{Came}
 use Rattle.records.specs.Unread.{startOf}
 use Rattle.records.specs.Files.{Report}
 use Rattle.records.specs.Reading.{MOST-TURNS, Comes}
-use Rattle.records.proofs.Pieces.{comes-inside, Going, Gone, going-start, going-on, going-end, going-refused, going-tired}
+use Rattle.records.proofs.Pieces.{came-inside, Going, Gone, going-start, going-on, going-end, going-refused, going-tired}
 use Rattle.ethernet.specs.declared.Ports.{Ports}
 use Rattle.conduct.specs.declared.verdict.Seen.{Seen}
 use Rattle.conduct.specs.declared.verdict.Tally.{Tally}
@@ -20,12 +20,6 @@ use Rattle.conduct.specs.Outcomes.{outcomeOf, seenOf, talliedBy, talliedAll}
 use Rattle.conduct.specs.Words.{undecided, judgedBy, judgedAll}
 use Rattle.judge.specs.declared.Left.{Left}
 use Rattle.judge.specs.Serving.{TurnedTo, noTally, Served, Judged}
-
-pub came-inside : {lent buffer : List ℕ} {input rest : Input} {came : Came} {from to original : ℕ} → Comes lent input came buffer → came ≡ Came.Record from to original rest
-    → (from ≤ to) × (to ≤ length buffer)
-came-inside {lent} {buffer} {input} {rest} {came} {from} {to} {original} c e =
-    let here : Comes lent input (Came.Record from to original rest) buffer = rw (← e) c in
-    comes-inside here
 
 module _ {ports : Ports} {id : DatalinkId} {number : ℕ} {lent buffer : List ℕ} {input : Input} {tally : Tally} {words : List ℕ} {came : Came}
     (c : Comes lent input came buffer) where

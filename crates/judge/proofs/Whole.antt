@@ -3,13 +3,13 @@ use mathlib.Core.Path.{_≡_}
 use mathlib.Core.List.{List}
 use mathlib.Core.Logic.{_⊎_, inl, inr}
 use Prim.Native.Nat.{ℕ, _≤_}
-use lib.ListN.{length, replicate}
+use lib.ListN.{length}
 use Rattle.quantity.specs.declared.count.DatalinkId.{DatalinkId}
 use Rattle.records.specs.Unread.{ROOM}
 use Rattle.records.specs.Reading.{ReadFile, TurnedOut}
 use Rattle.records.proofs.Pieces.{ran-file}
 use Rattle.ethernet.specs.declared.Ports.{Ports}
-use Rattle.conduct.specs.Words.{WORDS, judgedAll}
+use Rattle.conduct.specs.Words.{WORDS}
 use Rattle.conduct.proofs.Whole.{whole-finding}
 use Rattle.judge.specs.Serving.{Judged, SaysOf}
 

@@ -22,7 +22,7 @@ use Rattle.records.specs.Files.{Report, kept, refused, reportsOf}
 use Rattle.records.specs.Reading.{cameBy, pastHead, recordIn}
 use Rattle.records.proofs.Ways as next
 use Rattle.records.proofs.Ways.{meant, Next, next-cases, next-inside}
-use Rattle.records.proofs.Whole.{tidy-made, Sane, Turn, end-turn, refuse-turn, open-turn, find-turn}
+use Rattle.records.proofs.Whole.{tidy-made, Sane, end-turn, refuse-turn, open-turn, find-turn}
 
 -- what holds between two records: nothing is to be read any more
 pub record Held (file : List ℕ) (input : Input) : Type 0 where

@@ -46,9 +46,15 @@ module _ {lent buffer : List ℕ} {start input : Input} {turns : ℕ} (k : Passi
     passing-fill e f s = record { made = suc (k .made); passed = filled (k .passed) e f s; sum = omega (arith, k .sum, fewer); size = s ∙ k .size }
 
 -- a record that comes lies within the buffer
-pub comes-inside : {lent buffer : List ℕ} {start rest : Input} {from to original : ℕ} → Comes lent start (Came.Record from to original rest) buffer
+comes-inside : {lent buffer : List ℕ} {start rest : Input} {from to original : ℕ} → Comes lent start (Came.Record from to original rest) buffer
     → (from ≤ to) × (to ≤ length buffer)
 comes-inside {buffer = buffer} (finding {input = input} k e) = next-inside buffer input e
+
+pub came-inside : {lent buffer : List ℕ} {input rest : Input} {came : Came} {from to original : ℕ} → Comes lent input came buffer → came ≡ Came.Record from to original rest
+    → (from ≤ to) × (to ≤ length buffer)
+came-inside {lent} {buffer} {input} {rest} {came} {from} {to} {original} c e =
+    let here : Comes lent input (Came.Record from to original rest) buffer = rw (← e) c in
+    comes-inside here
 
 -- ---- a program's loop, whatever it makes of the records: `whole s reports` is what it comes to from a state on
 

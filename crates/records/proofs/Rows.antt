@@ -1,6 +1,5 @@
 -- Whole files in literal bytes, with what is reported of each. Assumes nothing.
 use mathlib.Core.Path.{_≡_, refl}
-use mathlib.Core.Bool.{Bool}
 use mathlib.Core.List.{List, [], _∷_, _++_}
 use Prim.Native.Nat.{ℕ}
 use Rattle.records.specs.Heads.{pairAt, numberAt, isRight, orderOf}

@@ -4,7 +4,7 @@ use mathlib.Core.Bool.{Bool, true, false, cond}
 use mathlib.Core.List.{List, [], _∷_, _++_, append-nil}
 use Prim.Native.Nat.{ℕ, _+_, _-_, _≤_, _<_}
 use native.Mathlib.Omega.{arith}
-use borrow.Author.Tests.{lt-ltb, le-ltb, ltb-true, ltb-false, eqb-true, eqb-false}
+use borrow.Author.Tests.{le-ltb, ltb-true, ltb-false, eqb-true, eqb-false}
 use lib.Dec.{ltb, eqb}
 use lib.ListN.{length, take, drop, length-append, length-drop}
 use lib.Seq.{take-append-le, drop-append-le}
@@ -18,7 +18,7 @@ use Rattle.records.specs.declared.Order.{Order}
 use Rattle.records.specs.declared.Found.{Found}
 use Rattle.records.specs.declared.Found.the-variants as found
 use Rattle.records.specs.Heads.{capturedIn, originalIn, orderOf}
-use Rattle.records.specs.Unread.{LONGEST, ROOM, behindOf, shortOf, betweenOf, openedBy, headFound, recordFound, bytesIn, nextOf}
+use Rattle.records.specs.Unread.{LONGEST, ROOM, behindOf, openedBy, headFound, recordFound, bytesIn, nextOf}
 use Rattle.records.specs.Files.{Report, kept, refused, whole, broken, firstOf, recordsOf, reportBy, reportsOf}
 use Rattle.records.proofs.Files.{number-front, first-head, first-long, first-cut, first-whole, records-broken, records-whole}
 

@@ -1,5 +1,5 @@
 -- A turn by what came, and what holds between two turns. Assumes nothing.
-use mathlib.Core.Path.{_≡_, refl, sym, ap, _∙_}
+use mathlib.Core.Path.{_≡_, refl, ap, _∙_}
 use mathlib.Core.List.{List, [], _∷_}
 use Prim.Native.Nat.{ℕ, suc, _-_, _≤_, _<_}
 use native.Mathlib.Omega.{arith}
@@ -13,19 +13,13 @@ use Rattle.records.specs.Unread.{startOf}
 use Rattle.records.specs.Files.{Report}
 use Rattle.records.specs.Endings.{refusalIn}
 use Rattle.records.specs.Reading.{MOST-TURNS, Comes}
-use Rattle.records.proofs.Pieces.{comes-inside, Going, Gone, going-start, going-on, going-end, going-refused, going-tired}
+use Rattle.records.proofs.Pieces.{came-inside, Going, Gone, going-start, going-on, going-end, going-refused, going-tired}
 use Rattle.ethernet.specs.declared.Ports.{Ports}
 use Rattle.census.specs.Adding.{addAll}
 use Rattle.census.specs.Places.{addsOf}
 use Rattle.census.specs.Outcomes.{outcomeOf}
 use Rattle.census.specs.Counts.{outcomesOf, countAll}
 use Rattle.report.specs.Serving.{TurnedTo, Served}
-
-pub came-inside : {lent buffer : List ℕ} {input rest : Input} {came : Came} {from to original : ℕ} → Comes lent input came buffer → came ≡ Came.Record from to original rest
-    → (from ≤ to) × (to ≤ length buffer)
-came-inside {lent} {buffer} {input} {rest} {came} {from} {to} {original} c e =
-    let here : Comes lent input (Came.Record from to original rest) buffer = rw (← e) c in
-    comes-inside here
 
 module _ {ports : Ports} {id : DatalinkId} {lent buffer : List ℕ} {input : Input} {counts : List ℕ} {came : Came} (c : Comes lent input came buffer) where
   pub turn-end : came ≡ Came.End → TurnedTo ports id lent input counts came buffer counts

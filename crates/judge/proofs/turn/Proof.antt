@@ -1,6 +1,7 @@
 -- `turn` meets its contract, by what came. Assumes nothing.
 use borrow.Author.Needs.{needs}
-use Rattle.judge.proofs.Serving.{came-inside, turn-end, turn-refused, turn-record}
+use Rattle.judge.proofs.Serving.{turn-end, turn-refused, turn-record}
+use Rattle.records.proofs.Pieces.{came-inside}
 use Rattle.judge.proofs.turn.Statement.{statement}
 use Rattle.judge.proofs.turn.Tie as tie
 

@@ -1,5 +1,4 @@
 -- `between` meets its contract. Assumes nothing.
-use borrow.Author.Needs.{needs}
 use Rattle.records.proofs.between.Statement.{statement}
 use Rattle.records.proofs.between.Tie as tie
 
