@@ -22,7 +22,7 @@ What a channel is, the latest radio control message before says: not seen while 
 - under a window, if it carries the base plus its packet's bytes, modulo 2^32, and these are at most the distance from the base to the window. The base is the Flow Sequence that the last data message with one carried on the channel; for the first it is its own less its bytes;
 - never while there is no window, or before any radio control message.
 
-On standard error it then says `judged N skipped M`: how many data messages of the IPS end the reader accepted, and how many records were neither a datagram to the radio's port nor one to the IPS end's (as `report` skips them), up to the end of the capture or to where it is refused. With `judged 0` every channel passes, and nothing is said of the endpoint.
+On standard error it then says `judged N skipped M`: how many data messages of the IPS end the reader accepted, and how many records were neither a datagram to the radio's port nor one to the IPS end's (as `report` skips them), up to the end of the capture or to where it is refused. With `judged 0` no channel has a breach: unless the capture is undecided every one passes, and nothing is said of the endpoint.
 
 Statuses aren't judged. Queries, the radio's data messages, datagrams that the reader refuses and records of other kinds are passed over, and count as records.
 

@@ -125,7 +125,7 @@ fn serve(buffer: &mut [u8], words: &mut [u64], ports: Ports, id: DatalinkId) -> 
     tally
 }
 
-// On standard error, so that the verdicts stay alone: a capture of which nothing was judged passes on every channel.
+// On standard error, so that the verdicts stay alone: a capture of which nothing was judged has no breach, and says nothing of the endpoint.
 fn say_tally(out: &mut [u8], tally: Tally) {
     let at = text::put(out, 0, b"judged ");
     let end = text::put_number(out, at, tally.judged);
