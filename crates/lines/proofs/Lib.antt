@@ -2,3 +2,4 @@
 pub mod Laws
 pub mod Split
 pub mod Whole
+pub mod Rows

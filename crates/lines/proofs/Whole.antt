@@ -1,7 +1,7 @@
 -- Every line of an input is reported once and in order, in whatever pieces the input comes. Assumes nothing.
 use mathlib.Core.Path.{_≡_, refl, sym, ap, _∙_}
-use mathlib.Core.Bool.{Bool, true, false, true≢false, false≢true, _&&_, _||_, and-eq-true-iff}
-use mathlib.Core.List.{List, [], _∷_, _++_, append-assoc}
+use mathlib.Core.Bool.{Bool, true, false, true≢false, false≢true, _&&_, and-eq-true-iff}
+use mathlib.Core.List.{List, [], _∷_, _++_, map, append-assoc}
 use Prim.Native.Nat.{ℕ, suc, _+_, _-_, _≤_, _<_}
 use native.Mathlib.Omega.{arith}
 use borrow.Author.Tests.{eqb-true, eqb-false, le-leb}
@@ -13,10 +13,10 @@ use Rattle.bytes.specs.Bytes.{slice}
 use Rattle.lines.specs.declared.Input.{Input}
 use Rattle.lines.specs.declared.Found.the-variants.{More, End, Line, Over, Failed}
 use Rattle.lines.specs.Unread.{startOf, tidyOf, restOf, nextOf, lostOf, keptOf, Filled}
-use Rattle.lines.specs.Reports.{linesOf, Report, whole, dropped, reportsOf, Turns, ends, fails, line, over, more, AllButLast}
+use Rattle.lines.specs.Reports.{endedOf, Report, whole, dropped, reportOf, reportsOf, Turns, ends, fails, line, over, more}
 use Rattle.lines.proofs.Laws.{tidy-is, slice-is, unread, stop, unread-length, next-cases}
 use Rattle.lines.proofs.Laws.{Next, a-line, a-dropped, last-line, last-dropped, unended, nothing, unreadable}
-use Rattle.lines.proofs.Split.{behindLine, meant, meant-line, meant-over, meant-on, meant-full, meant-last, meant-one}
+use Rattle.lines.proofs.Split.{meant, meant-end, meant-line, meant-over, meant-on, meant-full, meant-last, meant-lost, meant-none}
 
 -- ---- what is unread, and what is dropped
 
@@ -66,13 +66,13 @@ record Sane (failed : Bool) (buffer : List ℕ) (input : Input) (coming : List �
   short : input .ended ≡ true → input .over ≡ false → length (unread buffer input) < length buffer
 
 -- the reports from here on are those that are meant
-abbrev Right : List ℕ → Input → List ℕ → List Report → Type 0
-Right buffer input coming reports = reports ≡ meant (length buffer) (input .over) (unread buffer input ++ coming)
+abbrev Right : Bool → List ℕ → Input → List ℕ → List Report → Type 0
+Right failed buffer input coming reports = reports ≡ meant failed (length buffer) (input .over) (unread buffer input ++ coming)
 
 -- a turn to another input keeps that, where it makes n reports itself
 record Turn (failed : Bool) (buffer : List ℕ) (input : Input) (coming buffer′ : List ℕ) (input′ : Input) (coming′ : List ℕ) (own : List Report) : Type 0 where
   sane : Sane failed buffer′ input′ coming′
-  right : (reports : List Report) → Right buffer′ input′ coming′ reports → Right buffer input coming (own ++ reports)
+  right : (reports : List Report) → Right failed buffer′ input′ coming′ reports → Right failed buffer input coming (own ++ reports)
 
 module _ {failed : Bool} {buffer : List ℕ} {input : Input} {coming : List ℕ} (o : 0 < length buffer) (k : Sane failed buffer input coming) where
   within : (input .at ≤ input .have) × (input .have ≤ length buffer)
@@ -94,32 +94,30 @@ module _ {failed : Bool} {buffer : List ℕ} {input : Input} {coming : List ℕ}
     line-bytes : slice (input .at) (input .at + stop buffer input) buffer ≡ take (stop buffer input) (unread buffer input)
     line-bytes = slice-take (input .at) (input .have) (stop buffer input) buffer (within .0) (within .1) (omega (arith, size))
 
-    rest-behind : reportsOf (length buffer) (unread buffer (restOf input (input .at + stop buffer input + 1)) ++ coming)
-        ≡ reportsOf (length buffer) (drop (suc (stop buffer input)) (unread buffer input) ++ coming)
+    rest-behind : meant failed (length buffer) false (unread buffer (restOf input (input .at + stop buffer input + 1)) ++ coming)
+        ≡ meant failed (length buffer) false (drop (suc (stop buffer input)) (unread buffer input) ++ coming)
     unfolding slice
     rest-behind =
         let n = stop buffer input in
         let e : input .at + n + 1 ≡ input .at + suc n = omega arith in
         let filled : List ℕ = take (input .have) buffer in
-        ap (λ (l : List ℕ). reportsOf (length buffer) (l ++ coming)) (ap (λ (m : ℕ). drop m filled) e ∙ sym (drop-drop (suc n) (input .at) filled))
+        ap (λ (l : List ℕ). meant failed (length buffer) false (l ++ coming)) (ap (λ (m : ℕ). drop m filled) e ∙ sym (drop-drop (suc n) (input .at) filled))
 
   -- at the end
   module _ (g : input .ended ≡ true) where
     sane-end : Sane failed buffer (restOf input (input .have)) coming
     sane-end = sane-rest (input .have) (omega arith) (omega arith)
 
-    none-left : reportsOf (length buffer) (unread buffer (restOf input (input .have)) ++ coming) ≡ []
-    unfolding linesOf
+    none-left : meant failed (length buffer) false (unread buffer (restOf input (input .have)) ++ coming) ≡ []
     none-left =
         let last : Input = restOf input (input .have) in
-        rw (k .done g .1, no-bytes (unread buffer last) (unread-length buffer last (sane-end .tidy) ∙ omega arith))
+        rw (k .done g .1, no-bytes (unread buffer last) (unread-length buffer last (sane-end .tidy) ∙ omega arith)) (meant-end failed (length buffer))
 
-  end-turn : nextOf buffer input ≡ End → Right buffer input coming []
-  unfolding linesOf
+  end-turn : nextOf buffer input ≡ End → Right failed buffer input coming []
   end-turn e = go (next-cases buffer input (k .tidy))
     where
-      go : Next buffer input (nextOf buffer input) → Right buffer input coming []
-      go (nothing f g v l p) = let none : unread buffer input ≡ [] = no-bytes (unread buffer input) (size ∙ omega arith) in rw (v, none, k .done g .1)
+      go : Next buffer input (nextOf buffer input) → Right failed buffer input coming []
+      go (nothing f g v l p) = let none : unread buffer input ≡ [] = no-bytes (unread buffer input) (size ∙ omega arith) in rw (v, none, k .done g .1) (sym (meant-end failed (length buffer)))
       go (a-line h v p) = clash (cc)
       go (a-dropped h v p) = clash (cc)
       go (last-line h f g v l p) = clash (cc)
@@ -127,25 +125,14 @@ module _ {failed : Bool} {buffer : List ℕ} {input : Input} {coming : List ℕ}
       go (unended h g p) = clash (cc)
       go (unreadable h f p) = clash (cc)
 
-  -- where an end is found, no read failed
-  end-whole : nextOf buffer input ≡ End → failed ≡ false
-  end-whole e = go (next-cases buffer input (k .tidy))
-    where
-      go : Next buffer input (nextOf buffer input) → failed ≡ false
-      go (nothing f g v l p) = sym (k .done g .0) ∙ f
-      go (a-line h v p) = clash (cc)
-      go (a-dropped h v p) = clash (cc)
-      go (last-line h f g v l p) = clash (cc)
-      go (last-dropped h f g v p) = clash (cc)
-      go (unended h g p) = clash (cc)
-      go (unreadable h f p) = clash (cc)
-
-  -- where a read failed, one report is left out at most: of the line that didn't end
-  fail-turn : nextOf buffer input ≡ Failed → (failed ≡ true) × (length (meant (length buffer) (input .over) (unread buffer input ++ coming)) ≤ 1)
+  -- where a read failed, nothing is reported of the line that didn't end
+  fail-turn : nextOf buffer input ≡ Failed → Right failed buffer input coming []
   fail-turn e = go (next-cases buffer input (k .tidy))
     where
-      go : Next buffer input (nextOf buffer input) → (failed ≡ true) × (length (meant (length buffer) (input .over) (unread buffer input ++ coming)) ≤ 1)
-      go (unreadable h f p) = let d = k .done (k .last f) in (sym (d .0) ∙ f, rw (d .1) (meant-one (length buffer) (input .over) (unread buffer input) h))
+      go : Next buffer input (nextOf buffer input) → Right failed buffer input coming []
+      go (unreadable h f p) =
+          let d = k .done (k .last f) in
+          rw (d .1) (sym (meant-none (length buffer) (input .over) (unread buffer input) (sym (d .0) ∙ f) h))
       go (nothing f g v l p) = clash (cc)
       go (a-line h v p) = clash (cc)
       go (a-dropped h v p) = clash (cc)
@@ -155,7 +142,6 @@ module _ {failed : Bool} {buffer : List ℕ} {input : Input} {coming : List ℕ}
 
   line-turn : {from to : ℕ} {rest : Input} → nextOf buffer input ≡ Line from to rest
       → Turn failed buffer input coming buffer rest coming (whole (slice from to buffer) ∷ [])
-  unfolding linesOf
   line-turn {from} {to} {rest} e = go (next-cases buffer input (k .tidy))
     where
       go : Next buffer input (nextOf buffer input) → Turn failed buffer input coming buffer rest coming (whole (slice from to buffer) ∷ [])
@@ -164,7 +150,7 @@ module _ {failed : Bool} {buffer : List ℕ} {input : Input} {coming : List ℕ}
           let end : to ≡ input .at + stop buffer input = cc in
           let left : rest ≡ restOf input (input .at + stop buffer input + 1) = cc in
           let own : Report = whole (take (stop buffer input) (unread buffer input)) in
-          let meant′ = meant-line (length buffer) (unread buffer input) coming h (omega (arith, size, within)) in
+          let meant′ = meant-line failed (length buffer) (unread buffer input) coming h (omega (arith, size, within)) in
           rw (left, start, end, line-bytes h)
           (record { sane = sane-behind h; right = λ reports t. rw v (ap (λ (r : List Report). own ∷ r) (t ∙ rest-behind h) ∙ sym meant′) })
       go (last-line h f g v l p) =
@@ -172,7 +158,7 @@ module _ {failed : Bool} {buffer : List ℕ} {input : Input} {coming : List ℕ}
           let end : to ≡ input .have = cc in
           let left : rest ≡ restOf input (input .have) = cc in
           let own : Report = whole (unread buffer input) in
-          let meant′ = meant-last (length buffer) (unread buffer input) h (omega (arith, size)) (k .short g v) in
+          let meant′ = meant-last (length buffer) (sym (k .done g .0) ∙ f) (unread buffer input) h (omega (arith, size)) (k .short g v) in
           rw (left, start, end)
           (record { sane = sane-end g; right = λ reports t. rw v (ap (λ (r : List Report). own ∷ r) (t ∙ none-left g) ∙ sym (rw (k .done g .1) meant′)) })
       go (a-dropped h v p) = clash (cc)
@@ -182,18 +168,20 @@ module _ {failed : Bool} {buffer : List ℕ} {input : Input} {coming : List ℕ}
       go (nothing f g v l p) = clash (cc)
 
   over-turn : {rest : Input} → nextOf buffer input ≡ Over rest → Turn failed buffer input coming buffer rest coming (dropped ∷ [])
-  unfolding linesOf behindLine
   over-turn {rest} e = go (next-cases buffer input (k .tidy))
     where
       go : Next buffer input (nextOf buffer input) → Turn failed buffer input coming buffer rest coming (dropped ∷ [])
       go (a-dropped h v p) =
           let left : rest ≡ restOf input (input .at + stop buffer input + 1) = cc in
-          let meant′ = meant-over (length buffer) (unread buffer input) coming h in
+          let meant′ = meant-over failed (length buffer) (unread buffer input) coming h in
           rw left
           (record { sane = sane-behind h; right = λ reports t. rw v (ap (λ (r : List Report). dropped ∷ r) (t ∙ rest-behind h) ∙ sym meant′) })
       go (last-dropped h f g v p) =
           let left : rest ≡ restOf input (input .have) = cc in
-          let meant′ = meant-on (length buffer) (unread buffer input) coming h ∙ ap (meant (length buffer) true) (k .done g .1) in
+          let meant′ =
+          meant-on failed (length buffer) (unread buffer input) coming h
+          ∙ ap (meant failed (length buffer) true) (k .done g .1)
+          ∙ meant-lost (length buffer) (sym (k .done g .0) ∙ f) in
           rw left
           (record { sane = sane-end g; right = λ reports t. rw v (ap (λ (r : List Report). dropped ∷ r) (t ∙ none-left g) ∙ sym meant′) })
       go (a-line h v p) = clash (cc)
@@ -226,11 +214,11 @@ module _ {failed : Bool} {buffer : List ℕ} {input : Input} {coming : List ℕ}
       tidied = tidy-made (length buffer′) r (omega (arith, f .start)) (omega (arith, f .most))
 
       drops : (v : Bool) → input .over ≡ v → stop buffer input ≡ length (unread buffer input) → lostOf (length buffer) input ≡ true
-          → meant (length buffer) v (unread buffer input ++ coming) ≡ meant (length buffer) true coming
-      drops true p h q = meant-on (length buffer) (unread buffer input) coming h
+          → meant failed (length buffer) v (unread buffer input ++ coming) ≡ meant failed (length buffer) true coming
+      drops true p h q = meant-on failed (length buffer) (unread buffer input) coming h
       drops false p h q =
           let full = lost-full (length buffer) input q p in
-          meant-full (length buffer) (unread buffer input) coming h (omega (arith, size)) o
+          meant-full failed (length buffer) (unread buffer input) coming h (omega (arith, size)) o
 
       turn : stop buffer input ≡ length (unread buffer input) → (b : Bool) → lostOf (length buffer) input ≡ b
           → Turn failed buffer input coming buffer′ r coming′ []
@@ -243,7 +231,7 @@ module _ {failed : Bool} {buffer : List ℕ} {input : Input} {coming : List ℕ}
           let same-bytes = all ∙ ap (λ (l : List ℕ). l ++ coming) bytes in
           record {
             sane = record { tidy = tidied; done = d; last = f .failed; short = λ g l. omega (arith, full g, ap length bytes, size) };
-            right = λ reports t. t ∙ rw (same, over′, n .0) (ap (reportsOf (length buffer)) same-bytes);
+            right = λ reports t. t ∙ rw (same, over′, n .0) (ap (meant failed (length buffer) false) same-bytes);
           }
       turn h true q =
           let over′ : r .over ≡ true = f .over ∙ rw (k .tidy, q) in
@@ -251,7 +239,7 @@ module _ {failed : Bool} {buffer : List ℕ} {input : Input} {coming : List ℕ}
           let same-bytes = all ∙ ap (λ (l : List ℕ). l ++ coming) bytes in
           record {
             sane = record { tidy = tidied; done = d; last = f .failed; short = λ g l. absurd (true≢false (sym over′ ∙ l)) };
-            right = λ reports t. t ∙ rw (same, over′) (ap (meant (length buffer) true) same-bytes) ∙ sym (drops (input .over) refl h q);
+            right = λ reports t. t ∙ rw (same, over′) (ap (meant failed (length buffer) true) same-bytes) ∙ sym (drops (input .over) refl h q);
           }
 
       go : Next buffer input (nextOf buffer input) → Turn failed buffer input coming buffer′ r coming′ []
@@ -265,32 +253,13 @@ module _ {failed : Bool} {buffer : List ℕ} {input : Input} {coming : List ℕ}
 
 -- ---- all turns
 
-right-turns : {buffer : List ℕ} {input : Input} {coming : List ℕ} {reports : List Report} → 0 < length buffer → Sane false buffer input coming
-    → Turns false buffer input coming reports → Right buffer input coming reports
+right-turns : {failed : Bool} {buffer : List ℕ} {input : Input} {coming : List ℕ} {reports : List Report} → 0 < length buffer
+    → Sane failed buffer input coming → Turns failed buffer input coming reports → Right failed buffer input coming reports
 right-turns o k (ends e) = end-turn o k e
-right-turns o k (fails e) = absurd (false≢true (fail-turn o k e .0))
+right-turns o k (fails e) = fail-turn o k e
 right-turns o k (line e t) = let s = line-turn o k e in s .right _ (right-turns o (s .sane) t)
 right-turns o k (over e t) = let s = over-turn o k e in s .right _ (right-turns o (s .sane) t)
 right-turns o k (more e f same c d t) = let s = more-turn o k e f same c d in s .right _ (right-turns (omega arith) (s .sane) t)
-
--- what is reported behind a turn's own reports
-behind-turn : {buffer : List ℕ} {input : Input} {coming buffer′ : List ℕ} {input′ : Input} {coming′ : List ℕ} {own reports : List Report}
-    → Turn true buffer input coming buffer′ input′ coming′ own
-    → AllButLast reports (meant (length buffer′) (input′ .over) (unread buffer′ input′ ++ coming′))
-    → AllButLast (own ++ reports) (meant (length buffer) (input .over) (unread buffer input ++ coming))
-behind-turn {own = own} {reports = reports} s a = record {
-  last = a .last;
-  one = a .one;
-  parts = sym (s .right _ refl) ∙ ap (λ (l : List Report). own ++ l) (a .parts) ∙ sym (append-assoc own reports (a .last));
-}
-
-failed-turns : {buffer : List ℕ} {input : Input} {coming : List ℕ} {reports : List Report} → 0 < length buffer → Sane true buffer input coming
-    → Turns true buffer input coming reports → AllButLast reports (meant (length buffer) (input .over) (unread buffer input ++ coming))
-failed-turns o k (ends e) = absurd (true≢false (end-whole o k e))
-failed-turns o k (fails e) = record { last = _; one = fail-turn o k e .1; parts = refl }
-failed-turns o k (line e t) = let s = line-turn o k e in behind-turn s (failed-turns o (s .sane) t)
-failed-turns o k (over e t) = let s = over-turn o k e in behind-turn s (failed-turns o (s .sane) t)
-failed-turns o k (more e f same c d t) = let s = more-turn o k e f same c d in behind-turn s (failed-turns (omega arith) (s .sane) t)
 
 module _ (buffer coming : List ℕ) (reports : List Report) (o : 0 < length buffer) where
   start-sane : (failed : Bool) → Sane failed buffer startOf coming
@@ -306,7 +275,7 @@ module _ (buffer coming : List ℕ) (reports : List Report) (o : 0 < length buff
   unfolding slice
   every-line t = right-turns o (start-sane false) t
 
-  -- where a read fails, every line before it, but for the last one at most
-  pub failed-lines : Turns true buffer startOf coming reports → AllButLast reports (reportsOf (length buffer) coming)
+  -- where a read fails, every line that ended before it, and no other
+  pub failed-lines : Turns true buffer startOf coming reports → reports ≡ map (reportOf (length buffer)) (endedOf coming)
   unfolding slice
-  failed-lines t = failed-turns o (start-sane true) t
+  failed-lines t = right-turns o (start-sane true) t

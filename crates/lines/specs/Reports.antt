@@ -2,7 +2,7 @@
 use mathlib.Core.Path.{_≡_}
 use mathlib.Core.Bool.{Bool, true, cond}
 use mathlib.Core.List.{List, [], _∷_, _++_, map}
-use Prim.Native.Nat.{ℕ, _≤_}
+use Prim.Native.Nat.{ℕ}
 use lib.Dec.{ltb, eqb}
 use lib.ListN.{length}
 use Rattle.bytes.specs.Bytes.{slice}
@@ -19,6 +19,16 @@ longer byte (line ∷ lines) = (byte ∷ line) ∷ lines
 unfoldable pub linesOf : List ℕ → List (List ℕ)
 linesOf [] = []
 linesOf (byte ∷ bytes) = cond (eqb byte 10) ([] ∷ linesOf bytes) (longer byte (linesOf bytes))
+
+-- a byte before the first of some lines, where there is one
+abbrev pub before : ℕ → List (List ℕ) → List (List ℕ)
+before byte [] = []
+before byte (line ∷ lines) = (byte ∷ line) ∷ lines
+
+-- the lines that ended, where a read fails behind an input: what stands behind the last newline is none
+unfoldable pub endedOf : List ℕ → List (List ℕ)
+endedOf [] = []
+endedOf (byte ∷ bytes) = cond (eqb byte 10) ([] ∷ endedOf bytes) (before byte (endedOf bytes))
 
 -- what is reported of a line: its bytes, or that it was dropped
 pub data Report : Type 0 where
@@ -47,9 +57,3 @@ pub data Turns (failed : Bool) : List ℕ → Input → List ℕ → List Report
       → nextOf buffer input ≡ More → Filled buffer input r buffer′ → length buffer′ ≡ length buffer
       → coming ≡ slice (length (keptOf buffer input)) (r .have) buffer′ ++ coming′ → (r .ended ≡ true → (r .failed ≡ failed) × (coming′ ≡ []))
       → Turns failed buffer′ r coming′ reports → Turns failed buffer input coming reports
-
--- all reports but one at most, of a last line
-pub record AllButLast (reports all : List Report) : Type 0 where
-  pub last : List Report
-  pub one : length last ≤ 1
-  pub parts : all ≡ reports ++ last
