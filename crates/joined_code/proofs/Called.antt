@@ -14,6 +14,8 @@ use Rattle.radio_end_state.specs.State as radio
 use Rattle.radio_end_state.specs.Limits as limits
 use Rattle.radio_end_state.specs.Channel.{windowNow}
 use Rattle.radio_end_run.specs.Run as station
+use Rattle.radio_end_run.proofs.Steps.{step-own}
+use Rattle.radio_end_run.proofs.Fresh.{fresh-inside}
 use Rattle.radio_end_words.specs.Words as far-words
 use Rattle.radio_end_start.specs.declared.StartAnswer as far-answer
 use Rattle.radio_end_start.specs.Start as far-start
@@ -36,21 +38,18 @@ use Rattle.ips_calls.specs.Replies.{EndpointReply, ofChannel, replyOf}
 use Rattle.endpoint.specs.Lent.{Lent, lent, worldIn}
 use Rattle.endpoint.specs.Calls.{PerformedIn}
 use Rattle.endpoint.proofs.Simulating.{performed-in}
-use Rattle.endpoint.proofs.Whole.{roomIn, started-in}
-use Rattle.ips_state.specs.Limits.{waitsFit}
-use Rattle.ips_state.specs.Memory.{memoryFits}
+use Rattle.endpoint.proofs.Whole.{started-in}
 use Rattle.ips_state.specs.declared.StartAnswer as own-answer
-use Rattle.ips_calls.specs.Start.{storesOf, startFits, starts}
-use Rattle.ips_calls.proofs.Ran.{start-configured}
-use Rattle.ips_words_start.specs.Start.{configurationIn, startsInUnder, startsIn, beginsIn, StartedIn}
+use Rattle.ips_words_start.specs.Start.{configurationIn, StartedIn}
+use Rattle.ips_words_start.proofs.Exactly as own-starts
 use Rattle.ips_words_start.proofs.FreshWords.{configuration-small}
-use Rattle.joined_ends.proofs.Fresh.{fresh-radio}
+use Rattle.joined_ends.proofs.Fresh.{fresh-radio, modest-bound, modest-stays, modest-fresh}
 use Rattle.joined.specs.Net.{unheard}
-use Rattle.joined_ends.specs.Ends.{writtenBy, writtenIn, Ends, MayAct, MayCall, told, allowanceAt, boundIf, lifeAfter, afterAct, heardIn, heardAfter, channelAfter, afterCall, unwatched}
+use Rattle.joined_ends.specs.Ends.{writtenBy, writtenIn, Ends, MayAct, MayCall, told, allowanceAt, boundIf, Modest, lifeAfter, afterAct, heardIn, heardAfter, channelAfter, afterCall, unwatched}
 use Rattle.joined_ends.specs.Ends as ends
 use Rattle.joined_ends.proofs.Telling.{Radio}
 use Rattle.joined_ends.proofs.Ends.{act-bytes, all-within}
-use Rattle.joined_code.specs.Called.{Lents, endsIn, channelIn, afterActing, afterCalling, Step, acts, calls, Reach, stays, goes-on}
+use Rattle.joined_code.specs.Called.{Lents, endsIn, nothingAsked, channelIn, afterActing, afterCalling, Step, acts, calls, Reach, stays, goes-on}
 
 module _ (k : Terms) (j : ℕ) where
   -- ---- a step on words is a step of the ends that they stand for
@@ -84,25 +83,42 @@ module _ (k : Terms) (j : ℕ) where
   reach-in _ _ (stays x) = ends.stays (endsIn x)
   reach-in _ _ (goes-on x y z r s) = ends.goes-on (endsIn x) (endsIn y) (endsIn z) (reach-in x y r) (step-in y z s)
 
--- ---- from two starts that are made, on any words and any memory
-starts-is : (configuration words memory : List ℕ) → startFits (configurationIn configuration) (roomIn configuration words) memory ≡ startsIn configuration words memory
-unfolding startFits startsInUnder storesOf memoryFits
-starts-is configuration words memory = refl
+  -- ---- where the watched channel's setting is modest, nothing need be asked of a window
+  record Settled (x : Lents) : Type 0 where
+    here : j < length (far-words.stateIn (x .far) .channels)
+    modest : Modest (channelIn k j (x .far) .setting)
 
+  settled-on : (x : Lents) → Settled x → (c : station.Call) (answer : Answer) (left out : List ℕ) → far.PerformedIn c (x .far) answer left out → Settled (afterCalling k j c answer left out x)
+  settled-on x m c answer left out h =
+      let s = far-words.stateIn (x .far) in
+      let is : far-words.stateIn left ≡ station.stateAfter c s = far-ran.performed-in c (x .far) answer left out h in
+      record {
+        here = subst (λ (z : radio.State). j < length (z .channels)) (sym is) (subst (λ (n : ℕ). j < n) (sym (step-own c s .many)) (m .here));
+        modest = subst (λ (z : radio.State). Modest (radio.channelAt z j .setting)) (sym is) (modest-stays c s j (m .here) (m .modest));
+      }
+
+  record Bounded (b x : Lents) : Type 0 where
+    reach : Reach k j boundIf b x
+    settled : Settled x
+
+  modest-reach : (b x : Lents) → Settled b → Reach k j nothingAsked b x → Bounded b x
+  modest-reach b _ m (stays x) = record { reach = stays x; settled = m }
+  modest-reach b _ m (goes-on _ y z r (acts x c reply left may h)) =
+      let i = modest-reach b y m r in
+      record { reach = goes-on b y z (i .reach) (acts x c reply left may h); settled = record { here = i .settled .here; modest = i .settled .modest } }
+  modest-reach b _ m (goes-on _ y z r (calls x c answer left out may h bounded)) =
+      let i = modest-reach b y m r in
+      let after = settled-on x (i .settled) c answer left out h in
+      let bound = modest-bound (channelIn k j left) (after .modest) (writtenBy answer out) (heardAfter k j c (endsIn x)) in
+      record { reach = goes-on b y z (i .reach) (calls x c answer left out may h bound); settled = after }
+
+-- ---- from two starts that are made, on any words and any memory
 module _ {configuration words memory words′ memory′ : List ℕ} (begun : StartedIn configuration words memory own-answer.StartAnswer.Started words′ memory′) where
   abbrev conf : Configuration
   conf = configurationIn configuration
 
-  started-fits : starts conf (roomIn configuration words) memory ≡ true
-  started-fits = rw (starts-is configuration words memory) (go (startsIn configuration words memory) refl (waitsFit conf) refl)
-    where
-      go : (fits : Bool) → startsIn configuration words memory ≡ fits → (waits : Bool) → waitsFit conf ≡ waits → beginsIn configuration words memory ≡ true
-      go true f true l = rw (f, l)
-      go true f false l = clash (cc (rw (f, l) at (begun .answer-is)))
-      go false f waits l = clash (cc (rw f at (begun .answer-is)))
-
   taken : configurationTaken conf ≡ true
-  taken = start-configured conf (roomIn configuration words) (worldIn (lent words memory)) started-fits
+  taken = let left = own-starts.started-leaves configuration words memory begun refl in rw (left .configuration-fits, left .waits-fit)
 
   module _ {setting before after′ : List ℕ} (far-begun : far-start.StartedIn setting before far-answer.StartAnswer.Started after′) where
     abbrev far-conf : radio.Configuration
@@ -149,3 +165,16 @@ module _ {configuration words memory words′ memory′ : List ℕ} (begun : Sta
           go (answered windowShut) e f = clash (cc (rw e at f))
           go (answered (sent packet carried)) e f =
               all-within conf taken small index inside controlled j (far-words.stateIn after′) far-there (endsIn x) reached time out packet carried e
+
+      -- THE COROLLARY: with watermark plus throughput at most 2^30 in the radio's configuration nothing is asked of any window, for good
+      pub joined-modest : Modest (getD (far-conf .settings) j radio.noSetting) → (x : Lents) → Reach k j nothingAsked begins x → (time : ℕ) (out out′ : List ℕ) (n : ByteCount) (left : Lent)
+          → PerformedIn (on (k .id) (next time out)) (x .own) (ofChannel (asked (NextAnswer.Sent n) out′)) left → lifeAfter k j (on (k .id) (next time out)) (endsIn x) .counting .count ≤ x .watched .top
+      joined-modest modest x r = joined-never-past x (modest-reach k j begins x settled r .reach)
+        where
+          settled : Settled k j begins
+          settled =
+              let is = started-leaves setting before far-begun refl .state-is in
+              record {
+                here = subst (λ (z : radio.State). j < length (z .channels)) (sym is) (fresh-inside far-conf j far-inside);
+                modest = subst (λ (z : radio.State). Modest (radio.channelAt z j .setting)) (sym is) (modest-fresh far-conf j far-inside modest);
+              }

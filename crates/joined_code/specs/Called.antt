@@ -1,9 +1,8 @@
 -- Document 02, §14, as the code is called: both ends hold their states in lent words, and each call gives what its own contract says.
-use Prim.Native.Nat.{ℕ, _+_, _≤_}
+use Prim.Native.Nat.{ℕ}
 use mathlib.Core.List.{List}
 use Rattle.quantity.specs.declared.count.ByteCount.{ByteCount}
 use Rattle.radio_end_state.specs.declared.answer.Answer.{Answer}
-use Rattle.radio_end_state.specs.declared.channel.Setting.{Setting}
 use Rattle.radio_end_state.specs.declared.channel.Channel.{Channel}
 use Rattle.radio_end_state.specs.State as radio
 use Rattle.radio_end_run.specs.Run as station
@@ -14,7 +13,7 @@ use Rattle.ips_run.specs.Run.{Call, sees}
 use Rattle.ips_calls.specs.Replies.{EndpointReply}
 use Rattle.endpoint.specs.Lent.{Lent, worldIn}
 use Rattle.endpoint.specs.Calls.{PerformedIn}
-use Rattle.joined.specs.Net.{Heard, MOST-GRANTED}
+use Rattle.joined.specs.Net.{Heard}
 use Rattle.joined_ends.specs.Ends.{handedOut, writtenBy, Watched, Ends, MayAct, MayCall, acted, told, allowanceAt, heardIn, heardAfter}
 
 -- what the endpoint holds, the words of the radio's end, and the watched channel's numbers beside them
@@ -33,10 +32,6 @@ Asking = List (List ℕ) → Heard → ByteCount → Type 0
 
 abbrev pub nothingAsked : Asking
 nothingAsked datagrams heard allowance = Unit {0}
-
--- a setting that keeps the paper's bound by itself
-abbrev pub Modest : Setting → Type 0
-Modest s = s .watermark .0 + s .throughput .0 ≤ MOST-GRANTED
 
 module _ (k : Terms) (j : ℕ) where
   abbrev pub channelIn : List ℕ → Channel

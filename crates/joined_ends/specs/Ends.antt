@@ -10,6 +10,7 @@ use Rattle.wire.specs.Numbers.{Octets}
 use Rattle.writer.specs.declared.answer.WriteAnswer.{WriteAnswer}
 use Rattle.radio_flow.specs.Granting.{allowanceOf}
 use Rattle.radio_end_state.specs.declared.answer.Answer.{Answer}
+use Rattle.radio_end_state.specs.declared.channel.Setting.{Setting}
 use Rattle.radio_end_state.specs.declared.channel.Channel.{Channel}
 use Rattle.radio_end_state.specs.State as radio
 use Rattle.radio_end_state.specs.Channel.{windowNow}
@@ -141,6 +142,10 @@ topWith (d ∷ ds) reach top = max top reach
 abbrev pub boundIf : List (List ℕ) → Heard → ByteCount → Type 0
 boundIf [] h allowance = Unit {0}
 boundIf (d ∷ ds) h allowance = Bounded MOST-GRANTED h allowance
+
+-- a setting that keeps it whatever is queued (`modest-bound`)
+abbrev pub Modest : Setting → Type 0
+Modest s = s .watermark .0 + s .throughput .0 ≤ MOST-GRANTED
 
 abbrev pub downAs : Told → List ℕ → Down
 downAs t datagram = record { datagram = datagram; told = t }

@@ -1,0 +1,2 @@
+-- The theorem of the joined ends, of what is linked.
+pub mod Exported
