@@ -1,18 +1,15 @@
 -- The joined ends, of the code's own outcomes: after two starts and any calls, whatever the net does, no Next that hands over a packet goes past the highest window
 -- ever granted. Assumes nothing.
-use Prim.Native.Nat.{ℕ, _+_, _^_, _<_, _≤_}
+use Prim.Native.Nat.{ℕ, _^_, _<_, _≤_}
 use mathlib.Core.Path.{_≡_, refl, sym, ap, subst, _∙_}
-use mathlib.Core.Bool.{Bool, true, false}
-use mathlib.Core.List.{List, [], _∷_, _++_, map}
+use mathlib.Core.Bool.{true}
+use mathlib.Core.List.{List}
 use lib.ListN.{length, getD}
 use Rattle.facts.proofs.Tests.{clash}
 use Rattle.quantity.specs.declared.count.ByteCount.{ByteCount}
-use Rattle.meaning.specs.declared.message.Sequence.{Sequence}
 use Rattle.radio_end_state.specs.declared.answer.Answer.{Answer}
-use Rattle.radio_end_state.specs.declared.channel.Channel.{Channel}
 use Rattle.radio_end_state.specs.State as radio
 use Rattle.radio_end_state.specs.Limits as limits
-use Rattle.radio_end_state.specs.Channel.{windowNow}
 use Rattle.radio_end_run.specs.Run as station
 use Rattle.radio_end_run.proofs.Steps.{step-own}
 use Rattle.radio_end_run.proofs.Fresh.{fresh-inside}
@@ -23,17 +20,15 @@ use Rattle.radio_end_start.proofs.Exactly.{started-leaves}
 use Rattle.radio_end.specs.Ran as far
 use Rattle.radio_end.proofs.Ran as far-ran
 use Rattle.ips_channel_rules.specs.Rules as rules
-use Rattle.ips_channel_rules.specs.Rules.{next, Tried, nothingWaiting, notOperational, windowShut, sent, refused, answered, Terms, Condition}
-use Rattle.ips_channel_rules.specs.Simple.{simple}
+use Rattle.ips_channel_rules.specs.Rules.{next, Tried, nothingWaiting, notOperational, windowShut, sent, refused, answered, Terms}
 use Rattle.ips_channel_calls.specs.declared.asking.NextAnswer.{NextAnswer}
-use Rattle.ips_channel_calls.specs.Calls.{asked, nextAnswer, outputAfter}
+use Rattle.ips_channel_calls.specs.Calls.{asked}
 use Rattle.ips_state.specs.State.{Configuration, startAt}
 use Rattle.ips_state.specs.Limits.{configurationTaken}
 use Rattle.ips_state.specs.Memory.{World, indexIn}
 use Rattle.ips_run.specs.Calling.{termsIn, calling}
 use Rattle.ips_run.specs.Run.{Call, on, after, freshWorld}
-use Rattle.ips_run.specs.Run as run
-use Rattle.ips_run.specs.Demand.{bytesIn, ruled, simplyAt}
+use Rattle.ips_run.specs.Demand.{ruled, simplyAt}
 use Rattle.ips_calls.specs.Replies.{EndpointReply, ofChannel, replyOf}
 use Rattle.endpoint.specs.Lent.{Lent, lent, worldIn}
 use Rattle.endpoint.specs.Calls.{PerformedIn}

@@ -1,6 +1,6 @@
 -- Both ends joined, with all their channels and calls: on each channel that is flow-controlled at both, the endpoint never sends past the highest window that the radio's
 -- end has ever granted. Assumes nothing.
-use Prim.Native.Nat.{ℕ, _+_, _%_, _^_, _<_, _≤_, max}
+use Prim.Native.Nat.{ℕ, _+_, _^_, _<_, _≤_, max}
 use mathlib.Core.Path.{_≡_, refl, sym, ap, subst, _∙_}
 use mathlib.Core.Bool.{Bool, true, false, cond}
 use mathlib.Core.List.{List, [], _∷_, _++_, map, List·Memᴰ, List·Memᴰ·head, List·Memᴰ·tail, List·Memᴰ·cases-cons, List·Memᴰ·not-nil}
@@ -16,13 +16,11 @@ use Rattle.quantity.specs.Window.{sequenceAt}
 use Rattle.meaning.specs.declared.message.Sequence.{Sequence}
 use Rattle.meaning.specs.declared.message.Window.{Window}
 use Rattle.meaning.specs.declared.message.Control.{Control}
-use Rattle.radio_flow.specs.declared.Highest.{Highest}
-use Rattle.radio_flow.specs.Granting.{heardOf, granted}
+use Rattle.radio_flow.specs.Granting.{granted}
 use Rattle.radio_flow.specs.Numbers.{heardAll}
-use Rattle.radio_end_state.specs.declared.channel.Channel.{Channel}
 use Rattle.radio_end_state.specs.Channel.{windowNow}
 use Rattle.radio_end_state.specs.State as state
-use Rattle.radio_end_state.specs.Message.{messageOf, messageBytes}
+use Rattle.radio_end_state.specs.Message.{messageOf}
 use Rattle.radio_end_run.specs.Run as station
 use Rattle.ips_channel_rules.specs.Rules.{next, Tried, sent, Answer, answered, called, call, Terms, Condition, step, final}
 use Rattle.ips_channel_rules.specs.Simple.{Limit, free, none, upTo, Counter, countOn, simple}
@@ -31,18 +29,18 @@ use Rattle.ips_state.specs.Limits.{configurationTaken}
 use Rattle.ips_state.specs.Memory.{World}
 use Rattle.ips_radio.specs.Heard.{windowIn}
 use Rattle.ips_run.specs.Calling.{calling}
-use Rattle.ips_run.specs.Run.{Call, on, radio, pace, query, sees}
+use Rattle.ips_run.specs.Run.{Call, on, radio, pace, query}
 use Rattle.ips_run.specs.Run as run
 use Rattle.ips_run.specs.Demand.{bytesIn, ruled, simplyAt}
 use Rattle.ips_calls.specs.Replies.{replyOf}
-use Rattle.joined.specs.Net.{Heard, unheard, heardTo, wordOf, afterHearing, reachOf, Told, Net, afterHear, afterTell, AGE, MOST-GRANTED}
+use Rattle.joined.specs.Net.{Heard, unheard, wordOf, afterHearing, reachOf, Told, Net, afterHear, afterTell, AGE, MOST-GRANTED}
 use Rattle.joined.specs.Net as net
-use Rattle.joined.proofs.Net.{heard-words, never-past}
-use Rattle.joined_ends.specs.Ends.{handedOut, writtenIn, Sent, Down, Watched, Ends, countOf, UpArrives, DownArrives, MayAct, MayCall, sentAt, downAs, heardNow, allowanceAt, topWith, boundIf, tellingOf, told, lifeAfter, afterAct, heardIn, heardAfter, channelAfter, afterCall, Step, acts, calls, Reach, stays, goes-on, start}
-use Rattle.joined_ends.proofs.Moves.{Moves, together}
+use Rattle.joined.proofs.Net.{heard-words, together, never-past}
+use Rattle.joined_ends.specs.Ends.{handedOut, writtenIn, Sent, Down, Watched, Ends, countOf, UpArrives, MayAct, MayCall, sentAt, downAs, heardNow, allowanceAt, boundIf, tellingOf, told, lifeAfter, afterAct, heardIn, heardAfter, channelAfter, afterCall, Step, acts, calls, Reach, stays, goes-on, start}
+use Rattle.joined_ends.proofs.Moves.{Moves}
 use Rattle.joined_ends.proofs.Stated.{StatesOf, After, Went}
-use Rattle.joined_ends.proofs.Acting.{Own, own-fresh, own-step, own-after, Brought, Comes, act-moves, handed-states}
-use Rattle.joined_ends.proofs.Telling.{heard-other, heard-few, Radio, radio-step, written-is, window-granted, received-is, stated-window}
+use Rattle.joined_ends.proofs.Acting.{Own, own-fresh, own-step, own-after, Comes, act-moves, handed-states}
+use Rattle.joined_ends.proofs.Telling.{heard-few, Radio, radio-step, written-is, window-granted, received-is, stated-window}
 
 -- ---- what arrives is made of bytes
 pub act-bytes : (x : Watched) (c : Call) → MayAct c x → bytesIn c
@@ -156,7 +154,7 @@ module _ (conf : Configuration) (fits : configurationTaken conf ≡ true) (small
         own = own-step conf fits small index inside controlled (x .world) (x .watched .life) (i .own) c (act-bytes (x .watched) c may);
         far = i .far;
         net-is = moves .net;
-        reach = together (net.start (startAt conf index .first)) (i .net-is) (moves .net) (i .reach) (moves .reach);
+        reach = together AGE MOST-GRANTED (net.start (startAt conf index .first)) (i .net-is) (moves .net) (i .reach) (moves .reach);
         counter-is = moves .counter-is;
         heard-is = moves .heard-is ∙ i .heard-is;
         top-is = moves .top-is ∙ i .top-is;
@@ -230,7 +228,7 @@ module _ (conf : Configuration) (fits : configurationTaken conf ≡ true) (small
           }
 
       reach-there : net.Reach AGE MOST-GRANTED (net.start (startAt conf index .first)) (l .net-is)
-      reach-there = together (net.start (startAt conf index .first)) (i .net-is) (l .net-is) (i .reach) (l .reach)
+      reach-there = together AGE MOST-GRANTED (net.start (startAt conf index .first)) (i .net-is) (l .net-is) (i .reach) (l .reach)
 
       -- what the net tells is what was written
       abbrev a : ByteCount

@@ -9,7 +9,7 @@ use Rattle.facts.specs.Tables.{tabulate}
 use Rattle.answer_codes.specs.declared.Answer.{Answer}
 use Rattle.radio_end_state.specs.State as radio
 use Rattle.radio_end_start.specs.Start as far-start
-use Rattle.ips_channel_rules.specs.Rules.{offer, next, Event, Terms, Condition, final}
+use Rattle.ips_channel_rules.specs.Rules.{offer, next, Event, Terms, Condition}
 use Rattle.ips_channel_rules.specs.Rules as rules
 use Rattle.ips_channel_rules.specs.Simple.{simple}
 use Rattle.ips_channel_rules.proofs.Leaves.{final-append}
@@ -21,11 +21,10 @@ use Rattle.ips_run.specs.Demand.{bytesIn, ruled, simplyAt}
 use Rattle.ips_calls.specs.Replies.{EndpointReply, replyOf}
 use Rattle.ips_words_start.specs.Start.{configurationIn}
 use Rattle.endpoint.specs.Lent.{Lent, lent, worldIn}
-use Rattle.endpoint.specs.Calls.{PerformedIn}
 use Rattle.endpoint.specs.Ran.{RanIn, over, ran}
 use Rattle.endpoint.proofs.Simulating.{performed-in}
 use Rattle.handful.specs.declared.HandfulAnswer.{HandfulAnswer}
-use Rattle.handful.specs.Handful.{Handful, HandedIn}
+use Rattle.handful.specs.Handful.{Handful}
 use Rattle.handful_laws.specs.Plain.{callAt}
 use Rattle.handful_laws.specs.Acts.{several, each, callsBy, repliesBy}
 use Rattle.handful_laws.specs.Acts as acting

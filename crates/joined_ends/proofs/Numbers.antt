@@ -1,10 +1,9 @@
 -- What the numbers beside the ends are: of the calls that were made at each end, and of the windows that were written. Assumes nothing.
-use Prim.Native.Nat.{ℕ, _≤_, max}
+use Prim.Native.Nat.{ℕ, max}
 use mathlib.Core.Path.{_≡_, refl, sym, ap, subst, _∙_}
-use mathlib.Core.List.{List, [], _∷_, _++_, map, append-nil, append-assoc, List·Memᴰ, List·Memᴰ·head, List·Memᴰ·tail, List·Memᴰ·cases-cons, List·Memᴰ·not-nil}
-use mathlib.Core.Logic.{_⊎_, inl, inr, ⊎-elim}
+use mathlib.Core.List.{List, [], _∷_, _++_, map, append-nil, append-assoc, List·Memᴰ·not-nil}
+use mathlib.Core.Logic.{inl}
 use native.Mathlib.Omega.{arith}
-use Rattle.facts.proofs.Tests.{by-le}
 use Rattle.quantity.specs.declared.count.FlowSequence.{FlowSequence}
 use Rattle.radio_end_state.specs.State as radio
 use Rattle.radio_end_run.specs.Run as station
@@ -15,8 +14,9 @@ use Rattle.ips_state.specs.Memory.{World}
 use Rattle.ips_run.specs.Run.{Call, after, afterAll, sees, seesAll}
 use Rattle.ips_run.proofs.Whole.{sees-append}
 use Rattle.radio_flow.specs.Numbers.{numberOf, larger, numberAfter}
-use Rattle.joined.specs.Net.{Heard, unheard, heardTo, afterHearing, Told}
-use Rattle.joined_ends.specs.Ends.{writtenIn, Down, Ends, downAs, heardNow, topWith, tellingOf, lifeAfter, afterAct, heardIn, channelAfter, afterCall, Step, acts, calls, Reach, stays, goes-on, start}
+use Rattle.joined.specs.Net.{Heard, unheard, heardTo, afterHearing, Told, TopIs}
+use Rattle.joined.proofs.Net.{top-more}
+use Rattle.joined_ends.specs.Ends.{writtenIn, Down, Ends, downAs, heardNow, topWith, tellingOf, heardIn, channelAfter, afterCall, acts, calls, Reach, stays, goes-on, start}
 use Rattle.joined_ends.proofs.Acting.{after-one}
 
 states-one : (cs : List station.Call) (c : station.Call) (s : radio.State) → station.statesAfter (cs ++ (c ∷ [])) s ≡ station.stateAfter c (station.statesAfter cs s)
@@ -86,41 +86,25 @@ module _ (k : Terms) (j : ℕ) where
       ∙ sym (now-append (x .watched .heard) ss (station.heardBy c (station.statesAfter (calledBy r) (x .station)) (k .id)))
       ∙ ap (heardNow (x .watched .heard)) (sym (through-one (calledBy r) c (x .station) (k .id)))
 
-  -- ---- `top` is the highest window ever written
-  pub record TopOf (x : Ends) : Type 0 where
-    pub none-above : (d : Down) → List·Memᴰ d (x .watched .downs) → d .told .reaches ≤ x .watched .top
-    pub one-of-them : (x .watched .top ≡ 0) ⊎ ((d : Down) × List·Memᴰ d (x .watched .downs) × (d .told .reaches ≡ x .watched .top))
+  -- ---- `top` is the highest window ever written: none reaches further, and one of them reaches it, where there is any
+  abbrev pub toldOf : Down → Told
+  toldOf d = d .told
 
-  module _ (t : Told) (ds : List Down) (top : ℕ) where
-    abbrev Highest : List Down → ℕ → Type 0
-    Highest l n = ((d : Down) → List·Memᴰ d l → d .told .reaches ≤ n) × ((n ≡ 0) ⊎ ((d : Down) × List·Memᴰ d l × (d .told .reaches ≡ n)))
+  again : (top reach : ℕ) → max (max top reach) reach ≡ max top reach
+  again top reach = omega arith
 
-    older : (e : List ℕ) (l : List Down) (n : ℕ) → Highest l n → Highest (downAs t e ∷ l) (max n (t .reaches))
-    older e l n h = (
-      (λ d m. ⊎-elim (λ (q : d ≡ downAs t e). subst (λ (v : Down). v .told .reaches ≤ max n (t .reaches)) (sym q) (omega arith)) (λ (q : List·Memᴰ d l). omega (arith, h .0 d q)) (List·Memᴰ·cases-cons m)),
-      by-le (t .reaches) n (λ (q : t .reaches ≤ n). old (omega arith) (h .1)) (λ q. inr (downAs t e, List·Memᴰ·head refl, omega arith)),
-    )
-      where
-        old : max n (t .reaches) ≡ n → (n ≡ 0) ⊎ ((d : Down) × List·Memᴰ d l × (d .told .reaches ≡ n))
-            → (max n (t .reaches) ≡ 0) ⊎ ((d : Down) × List·Memᴰ d (downAs t e ∷ l) × (d .told .reaches ≡ max n (t .reaches)))
-        old q (inl z) = inl (q ∙ z)
-        old q (inr d) = inr (d .0, List·Memᴰ·tail (d .1), d .2 ∙ sym q)
+  written-top : (t : Told) (ds : List Down) (top : ℕ) (es : List (List ℕ)) → TopIs (map toldOf ds) top → TopIs (map toldOf (map (downAs t) es ++ ds)) (topWith es (t .reaches) top)
+  written-top t ds top [] h = h
+  written-top t ds top (e ∷ []) h = top-more t (map toldOf ds) top h
+  written-top t ds top (e ∷ (f ∷ es)) h =
+      subst (TopIs (map toldOf (map (downAs t) (e ∷ (f ∷ es)) ++ ds))) (again top (t .reaches))
+      (top-more t (map toldOf (map (downAs t) (f ∷ es) ++ ds)) (max top (t .reaches)) (written-top t ds top (f ∷ es) h))
 
-    again : (n : ℕ) → max (max n (t .reaches)) (t .reaches) ≡ max n (t .reaches)
-    again n = omega arith
-
-    written-top : (es : List (List ℕ)) → Highest ds top → Highest (map (downAs t) es ++ ds) (topWith es (t .reaches) top)
-    written-top [] h = h
-    written-top (e ∷ []) h = older e ds top h
-    written-top (e ∷ (f ∷ es)) h = subst (Highest (map (downAs t) (e ∷ (f ∷ es)) ++ ds)) (again top) (older e (map (downAs t) (f ∷ es) ++ ds) (max top (t .reaches)) (written-top (f ∷ es) h))
-
-  pub top-of : {x y : Ends} → Reach k j x y → TopOf x → TopOf y
+  pub top-of : {x y : Ends} → Reach k j x y → TopIs (map toldOf (x .watched .downs)) (x .watched .top) → TopIs (map toldOf (y .watched .downs)) (y .watched .top)
   top-of (stays x) h = h
-  top-of (goes-on x _ _ r (acts y c may)) h = let i = top-of r h in record { none-above = i .none-above; one-of-them = i .one-of-them }
+  top-of (goes-on x _ _ r (acts y c may)) h = top-of r h
   top-of (goes-on x _ _ r (calls y c may bound)) h =
-      let i = top-of r h in
-      let w = written-top (tellingOf (heardIn k j c y) (channelAfter k j c y) (y .watched)) (y .watched .downs) (y .watched .top) (writtenIn (station.afterCall c (y .station))) (i .none-above, i .one-of-them) in
-      record { none-above = w .0; one-of-them = w .1 }
+      written-top (tellingOf (heardIn k j c y) (channelAfter k j c y) (y .watched)) (y .watched .downs) (y .watched .top) (writtenIn (station.afterCall c (y .station))) (top-of r h)
 
-  pub top-fresh : (w : World) (s : radio.State) (life : Condition simple) {y : Ends} → Reach k j (start w s life) y → TopOf y
-  top-fresh w s life r = top-of r (record { none-above = λ d m. absurd (List·Memᴰ·not-nil m); one-of-them = inl refl })
+  pub top-fresh : (w : World) (s : radio.State) (life : Condition simple) {y : Ends} → Reach k j (start w s life) y → TopIs (map toldOf (y .watched .downs)) (y .watched .top)
+  top-fresh w s life r = top-of r (record { none-above = λ t m. absurd (List·Memᴰ·not-nil m); one-of-them = inl refl })
