@@ -1,5 +1,5 @@
 -- What a record comes to, by its kind and its reading, and which number it has. Assumes nothing.
-use mathlib.Core.Path.{_≡_, refl}
+use mathlib.Core.Path.{_≡_}
 use mathlib.Core.List.{List, [], _∷_}
 use Prim.Native.Nat.{ℕ}
 use lib.ListN.{length}
@@ -10,12 +10,9 @@ use Rattle.meaning.specs.declared.message.Channel.{Channel}
 use Rattle.meaning.specs.declared.message.Counted.{Counted}
 use Rattle.meaning.specs.declared.message.End.{End}
 use Rattle.meaning.specs.declared.message.Sequence.{Sequence}
-use Rattle.read_rules.specs.Sorts.{rulesOf}
-use Rattle.read_control.specs.Message.{controlSort, controlOther}
-use Rattle.read_data.specs.Message.{dataSort, dataOther}
 use Rattle.reader.specs.Readings.{Verdict, readControl, readData, packetOf, planeOf}
 use Rattle.reader.specs.declared.answer.PlaneAnswer.{PlaneAnswer}
-use Rattle.reader.proofs.Planes.{by-plane}
+use Rattle.reader.proofs.Planes.{data-of-control, control-of-data}
 use Rattle.records.specs.Files.{kept}
 use Rattle.ethernet.specs.declared.Kind.{Kind}
 use Rattle.ethernet.specs.declared.Ports.{Ports}
@@ -23,16 +20,6 @@ use Rattle.ethernet.specs.Kinds.{kindOf}
 use Rattle.ethernet.specs.Layers.{datagramOf}
 use Rattle.conduct.specs.Outcomes.{Message, control, packet, nothing, message, outcomeBy, outcomeOf}
 use Rattle.conduct.specs.Account.{messagesFrom, messagesOf}
-
--- ---- a reader of the other plane accepts nothing
-
-pub data-of-control : (end : End) (id : DatalinkId) (datagram : List ℕ) → planeOf datagram ≡ PlaneAnswer.Control → readData end id datagram .verdict ≡ Verdict.OtherPlane
-unfolding readData dataOther
-data-of-control end id datagram p = rw (← (by-plane (rulesOf (dataSort end id)) datagram p)) refl
-
-pub control-of-data : (end : End) (id : DatalinkId) (datagram : List ℕ) → planeOf datagram ≡ PlaneAnswer.Data → readControl end id datagram .verdict ≡ Verdict.OtherPlane
-unfolding readControl controlOther
-control-of-data end id datagram p = rw (← (by-plane (rulesOf (controlSort end id)) datagram p)) refl
 
 module _ (ports : Ports) (id : DatalinkId) (original : ℕ) (frame : List ℕ) where
   abbrev datagram : List ℕ

@@ -9,3 +9,4 @@ pub mod Due
 pub mod Pacing
 pub mod Others
 pub mod Own
+pub mod Handed

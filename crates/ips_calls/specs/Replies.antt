@@ -1,9 +1,11 @@
 -- What the caller sees of a call: its answer, and the bytes of the output after it.
 use Prim.Native.Nat.{ℕ}
-use mathlib.Core.List.{List}
+use mathlib.Core.List.{List, [], _∷_}
+use lib.ListN.{take}
 use Rattle.quantity.specs.Limits.{Limits, CURRENT-LIMITS}
 use Rattle.writer.specs.declared.answer.WriteAnswer.{WriteAnswer}
-use Rattle.ips_channel_calls.specs.Calls.{Reply, replyTo}
+use Rattle.ips_channel_calls.specs.declared.asking.NextAnswer.{NextAnswer}
+use Rattle.ips_channel_calls.specs.Calls.{Reply, offered, asked, withdrawn, replyTo}
 use Rattle.ips_state.specs.Memory.{World, indexIn}
 use Rattle.ips_radio.specs.declared.RadioAnswer.{RadioAnswer}
 use Rattle.ips_run.specs.Calling.{termsInUnder, callingUnder}
@@ -27,3 +29,26 @@ replyUnder limits (query out) w = ofQuery (queryAnswerUnder limits (w .state) ou
 
 abbrev pub replyOf : Call → World → EndpointReply
 replyOf c w = replyUnder CURRENT-LIMITS c w
+
+-- ---- which datagrams a reply hands over: of Next, and of a query, as many first bytes of the output as it answered
+abbrev pub ifSent : NextAnswer → (out : List ℕ) → List (List ℕ)
+ifSent (NextAnswer.Sent count) out = take (count .0) out ∷ []
+ifSent NextAnswer.NothingWaiting out = []
+ifSent NextAnswer.NotOperational out = []
+ifSent NextAnswer.WindowShut out = []
+ifSent (NextAnswer.Refused refusal) out = []
+
+abbrev pub ofReply : Reply → List (List ℕ)
+ofReply (offered answer) = []
+ofReply (asked answer out) = ifSent answer out
+ofReply (withdrawn answer) = []
+
+abbrev pub ifWrote : WriteAnswer → (out : List ℕ) → List (List ℕ)
+ifWrote (WriteAnswer.Wrote count) out = take (count .0) out ∷ []
+ifWrote (WriteAnswer.Refused refusal) out = []
+
+abbrev pub handedOut : EndpointReply → List (List ℕ)
+handedOut (ofChannel x) = ofReply x
+handedOut (ofRadio answer) = []
+handedOut (ofPace answer) = []
+handedOut (ofQuery answer out) = ifWrote answer out

@@ -25,8 +25,8 @@ use Rattle.ips_channel_calls.specs.declared.asking.NextAnswer.{NextAnswer}
 use Rattle.ips_channel_calls.specs.Calls.{asked}
 use Rattle.ips_state.specs.State.{Configuration, startAt}
 use Rattle.ips_state.specs.Limits.{configurationTaken}
-use Rattle.ips_state.specs.Memory.{World, indexIn}
-use Rattle.ips_run.specs.Calling.{termsIn, calling}
+use Rattle.ips_state.specs.Memory.{World}
+use Rattle.ips_run.specs.Calling.{calling}
 use Rattle.ips_run.specs.Run.{Call, on, after, freshWorld}
 use Rattle.ips_run.specs.Demand.{ruled, simplyAt}
 use Rattle.ips_calls.specs.Replies.{EndpointReply, ofChannel, replyOf}
@@ -145,9 +145,6 @@ module _ {configuration words memory words′ memory′ : List ℕ} (begun : Sta
         where
           w : World
           w = worldIn (x .own)
-
-          terms : Terms
-          terms = termsIn w (indexIn w (k .id))
 
           reached : ends.Reach k j (ends.start (freshWorld conf) (far-words.stateIn after′) (simplyAt conf index)) (endsIn x)
           reached = subst (λ (v : World). ends.Reach k j (ends.start v (far-words.stateIn after′) (simplyAt conf index)) (endsIn x)) (started-in begun) (reach-in k j begins x r)

@@ -10,11 +10,11 @@ use Rattle.radio_end_words.specs.Words as words
 use Rattle.radio_end.specs.Ran as far
 use Rattle.ips_channel_rules.specs.Rules.{Terms}
 use Rattle.ips_run.specs.Run.{Call, sees}
-use Rattle.ips_calls.specs.Replies.{EndpointReply}
+use Rattle.ips_calls.specs.Replies.{EndpointReply, handedOut}
 use Rattle.endpoint.specs.Lent.{Lent, worldIn}
 use Rattle.endpoint.specs.Calls.{PerformedIn}
 use Rattle.joined.specs.Net.{Heard}
-use Rattle.joined_ends.specs.Ends.{handedOut, writtenBy, Watched, Ends, MayAct, MayCall, acted, told, allowanceAt, heardIn, heardAfter}
+use Rattle.joined_ends.specs.Ends.{writtenBy, Watched, Ends, MayAct, MayCall, acted, told, allowanceAt, heardIn, heardAfter}
 
 -- what the endpoint holds, the words of the radio's end, and the watched channel's numbers beside them
 pub record Lents : Type 0 where

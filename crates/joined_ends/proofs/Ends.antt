@@ -32,11 +32,11 @@ use Rattle.ips_run.specs.Calling.{calling}
 use Rattle.ips_run.specs.Run.{Call, on, radio, pace, query}
 use Rattle.ips_run.specs.Run as run
 use Rattle.ips_run.specs.Demand.{bytesIn, ruled, simplyAt}
-use Rattle.ips_calls.specs.Replies.{replyOf}
+use Rattle.ips_calls.specs.Replies.{replyOf, handedOut}
 use Rattle.joined.specs.Net.{Heard, unheard, wordOf, afterHearing, reachOf, Told, Net, afterHear, afterTell, AGE, MOST-GRANTED}
 use Rattle.joined.specs.Net as net
 use Rattle.joined.proofs.Net.{heard-words, together, never-past}
-use Rattle.joined_ends.specs.Ends.{handedOut, writtenIn, Sent, Down, Watched, Ends, countOf, UpArrives, MayAct, MayCall, sentAt, downAs, heardNow, allowanceAt, boundIf, tellingOf, told, lifeAfter, afterAct, heardIn, heardAfter, channelAfter, afterCall, Step, acts, calls, Reach, stays, goes-on, start}
+use Rattle.joined_ends.specs.Ends.{writtenIn, Sent, Down, Watched, Ends, countOf, UpArrives, MayAct, MayCall, sentAt, downAs, heardNow, allowanceAt, boundIf, tellingOf, told, lifeAfter, afterAct, heardIn, heardAfter, channelAfter, afterCall, Step, acts, calls, Reach, stays, goes-on, start}
 use Rattle.joined_ends.proofs.Moves.{Moves}
 use Rattle.joined_ends.proofs.Stated.{StatesOf, After, Went}
 use Rattle.joined_ends.proofs.Acting.{Own, own-fresh, own-step, own-after, Comes, act-moves, handed-states}
@@ -176,9 +176,6 @@ module _ (conf : Configuration) (fits : configurationTaken conf ≡ true) (small
 
   -- ---- a call of the radio's end
   module _ (x : Ends) (i : Joined x) where
-    heard-in : station.Call → List FlowSequence
-    heard-in c = station.heardBy c (x .station) (k .id)
-
     nothing : (c : station.Call) → station.heardBy c (x .station) (k .id) ≡ [] → Listens (i .net-is) (x .watched .heard) (station.heardBy c (x .station) (k .id))
     nothing c e = subst (Listens (i .net-is) (x .watched .heard)) (sym e) (listens-none (i .net-is) (x .watched .heard) (i .heard-is))
 

@@ -7,7 +7,6 @@ use lib.ListN.{take}
 use Rattle.quantity.specs.declared.count.FlowSequence.{FlowSequence}
 use Rattle.quantity.specs.declared.count.ByteCount.{ByteCount}
 use Rattle.wire.specs.Numbers.{Octets}
-use Rattle.writer.specs.declared.answer.WriteAnswer.{WriteAnswer}
 use Rattle.radio_flow.specs.Granting.{allowanceOf}
 use Rattle.radio_end_state.specs.declared.answer.Answer.{Answer}
 use Rattle.radio_end_state.specs.declared.channel.Setting.{Setting}
@@ -18,37 +17,12 @@ use Rattle.radio_end_state.specs.Calls.{After}
 use Rattle.radio_end_run.specs.Run as station
 use Rattle.ips_channel_rules.specs.Rules.{Event, Terms, Condition, final}
 use Rattle.ips_channel_rules.specs.Simple.{simple}
-use Rattle.ips_channel_calls.specs.declared.asking.NextAnswer.{NextAnswer}
-use Rattle.ips_channel_calls.specs.Calls.{Reply, offered, asked, withdrawn}
 use Rattle.ips_state.specs.Memory.{World}
 use Rattle.ips_run.specs.Run.{Call, on, radio, pace, query, after, sees}
-use Rattle.ips_calls.specs.Replies.{EndpointReply, ofChannel, ofRadio, ofPace, ofQuery, replyOf}
+use Rattle.ips_calls.specs.Replies.{replyOf, handedOut}
 use Rattle.joined.specs.Net.{Heard, unheard, afterHearing, reachOf, Bounded, Told, AGE, MOST-GRANTED}
 
--- ---- which datagrams an end hands over: as many first bytes of the output as it answered
-abbrev pub ifSent : NextAnswer → (out : List ℕ) → List (List ℕ)
-ifSent (NextAnswer.Sent count) out = take (count .0) out ∷ []
-ifSent NextAnswer.NothingWaiting out = []
-ifSent NextAnswer.NotOperational out = []
-ifSent NextAnswer.WindowShut out = []
-ifSent (NextAnswer.Refused refusal) out = []
-
-abbrev pub ofReply : Reply → List (List ℕ)
-ofReply (offered answer) = []
-ofReply (asked answer out) = ifSent answer out
-ofReply (withdrawn answer) = []
-
-abbrev pub ifWrote : WriteAnswer → (out : List ℕ) → List (List ℕ)
-ifWrote (WriteAnswer.Wrote count) out = take (count .0) out ∷ []
-ifWrote (WriteAnswer.Refused refusal) out = []
-
-abbrev pub handedOut : EndpointReply → List (List ℕ)
-handedOut (ofChannel x) = ofReply x
-handedOut (ofRadio answer) = []
-handedOut (ofPace answer) = []
-handedOut (ofQuery answer out) = ifWrote answer out
-
--- of the radio's end: a message as the answer, or unasked
+-- ---- which datagrams the radio's end hands over, the answer to one or unasked: as many first bytes of the output as it answered (`handedOut` has the endpoint's)
 abbrev pub writtenBy : Answer → (out : List ℕ) → List (List ℕ)
 writtenBy (Answer.Answered bytes) out = take (bytes .0) out ∷ []
 writtenBy (Answer.Unasked bytes) out = take (bytes .0) out ∷ []

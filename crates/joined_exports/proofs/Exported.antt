@@ -18,7 +18,7 @@ use Rattle.ips_state.specs.Memory.{World}
 use Rattle.ips_run.specs.Run.{Call, on, pace, query, after, sees, seesAll}
 use Rattle.ips_run.specs.Run as run
 use Rattle.ips_run.specs.Demand.{bytesIn, ruled, simplyAt}
-use Rattle.ips_calls.specs.Replies.{EndpointReply, replyOf}
+use Rattle.ips_calls.specs.Replies.{EndpointReply, replyOf, handedOut}
 use Rattle.ips_words_start.specs.Start.{configurationIn}
 use Rattle.endpoint.specs.Lent.{Lent, lent, worldIn}
 use Rattle.endpoint.specs.Ran.{RanIn, over, ran}
@@ -37,7 +37,7 @@ use Rattle.nespovarda.proofs.Handing.{handful-exported}
 use Rattle.nespovarda_station.specs.Exports as far
 use Rattle.nespovarda_station.specs.Ran.{answerSaid}
 use Rattle.nespovarda_station.proofs.Ran as far-ran
-use Rattle.joined_ends.specs.Ends.{handedOut, Watched, MayAct, acted, boundIf, Modest, lifeAfter, unwatched}
+use Rattle.joined_ends.specs.Ends.{Watched, MayAct, acted, boundIf, Modest, lifeAfter, unwatched}
 use Rattle.joined_code.specs.Called.{Lents, endsIn, Asking, nothingAsked}
 use Rattle.joined_code.specs.Called as code
 use Rattle.joined_code.proofs.Called.{joined-never-past, joined-modest}

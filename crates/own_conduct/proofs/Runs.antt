@@ -17,7 +17,7 @@ use Rattle.meaning.specs.declared.message.Sequence.{Sequence}
 use Rattle.reader.specs.Header.{versionOf, flagOf, CURRENT-VERSION, readWith}
 use Rattle.reader.specs.Readings.{Verdict, readControl, readData, packetOf, planeOf}
 use Rattle.reader.specs.declared.answer.PlaneAnswer.{PlaneAnswer}
-use Rattle.reader.proofs.Planes.{plane-refuses}
+use Rattle.reader.proofs.Planes.{plane-refuses, control-of-data}
 use Rattle.read_control.specs.Message.{controlRefused}
 use Rattle.read_data.specs.Message.{dataRefused, dataOther}
 use Rattle.writer.specs.declared.answer.WriteAnswer.{WriteAnswer}
@@ -41,7 +41,7 @@ use Rattle.ips_run.proofs.Project.{own-datalink, step-follows}
 use Rattle.ips_radio.specs.declared.RadioAnswer.{RadioAnswer}
 use Rattle.ips_calls.specs.Radio.{AfterRadio}
 use Rattle.ips_calls.specs.Query.{queryBytes}
-use Rattle.ips_calls.specs.Replies.{ofChannel, replyOf}
+use Rattle.ips_calls.specs.Replies.{ofChannel, replyOf, ifSent, ifWrote}
 use Rattle.ips_calls.specs.Calls.{Performed}
 use Rattle.ips_calls.specs.Ran.{repliesOf}
 use Rattle.ips_calls.specs.ReadBack.{ReadBack}
@@ -49,8 +49,7 @@ use Rattle.ips_calls.proofs.Counted.{reads-back}
 use Rattle.ips_calls.proofs.Exactly.{unheard, Handed, outside, earlier, unread, heard, passed, handed}
 use Rattle.conduct_rules.specs.declared.Flow.{Flow}
 use Rattle.conduct.specs.Outcomes.{Message, control, packet, nothing, ifAccepted, sequenceOf, dataOf, heardIn, sentIn}
-use Rattle.conduct.proofs.Records.{control-of-data}
-use Rattle.own_conduct.specs.Captured.{toIps, ifSent, ifHeard, ifWrote, passedBy, passedIn}
+use Rattle.own_conduct.specs.Captured.{toIps, toRadio, ifHeard, passedBy, passedIn}
 use Rattle.own_conduct.proofs.Channel.{Agrees, heard-agrees, silence-agrees, Goes, goes, After, leaves-after}
 use Rattle.own_conduct.proofs.Obeying.{ifMessage, messagesIn, messages-append, Obeying}
 
@@ -117,7 +116,7 @@ counted-back id Sequence.Absent = refl
 counted-back id (Sequence.Given sequence) = refl
 
 read-in : {k : Terms} {id : ℕ} {bytes : List ℕ} {carried : Sequence} {answer : NextAnswer} {out : List ℕ} → ReadBack k id bytes carried answer out
-    → messagesIn (k .datalink) (ifSent answer out) ≡ packet id (record { 0 = length bytes }) carried ∷ []
+    → messagesIn (k .datalink) (map toRadio (ifSent answer out)) ≡ packet id (record { 0 = length bytes }) carried ∷ []
 read-in {k} {carried = carried} back = rw (back .counted, back .accepted, back .carries, counted-back (k .id) carried, back .named)
 
 module _ (w : World) (id : ℕ) where
@@ -135,7 +134,7 @@ module _ (w : World) (id : ℕ) where
   channel-messages (next time out) = go (calling id (next time out) w .answer) refl
     where
       go : (a : Answer Tried) → calling id (next time out) w .answer ≡ a
-          → messagesIn (w .state .datalink .id) (ifSent (nextAnswer (termsIn w (indexIn w id)) a) (outputAfter (termsIn w (indexIn w id)) a out)) ≡ sentOf id (next time out) a
+          → messagesIn (w .state .datalink .id) (map toRadio (ifSent (nextAnswer (termsIn w (indexIn w id)) a) (outputAfter (termsIn w (indexIn w id)) a out))) ≡ sentOf id (next time out) a
       go (refused number) e = refl
       go (answered nothingWaiting) e = refl
       go (answered notOperational) e = refl
@@ -171,8 +170,8 @@ query-messages id w out = go (stateFits (w .state)) (noRoom (length message) (le
     message = queryBytes (w .state)
 
     go : (fits none : Bool)
-        → messagesIn id (ifWrote (cond fits (cond none (WriteAnswer.Refused (record { number = NO-ROOM; place = 0 })) (WriteAnswer.Wrote (record { 0 = length (queryBytes (w .state)) }))) (WriteAnswer.Refused (record { number = OUTSIDE-LIMITS; place = 0 })))
-        (cond fits (cond none out (over (queryBytes (w .state)) out)) out))
+        → messagesIn id (map toRadio (ifWrote (cond fits (cond none (WriteAnswer.Refused (record { number = NO-ROOM; place = 0 })) (WriteAnswer.Wrote (record { 0 = length (queryBytes (w .state)) }))) (WriteAnswer.Refused (record { number = OUTSIDE-LIMITS; place = 0 })))
+        (cond fits (cond none out (over (queryBytes (w .state)) out)) out)))
         ≡ []
     go false none = refl
     go true true = refl

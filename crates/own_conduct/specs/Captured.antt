@@ -1,9 +1,8 @@
 -- Document 02, §12, of our own endpoint: its session as a capture, of what it handed over and the radio messages that it
 -- accepted, recorded in that order.
 use Prim.Native.Nat.{ℕ}
-use mathlib.Core.List.{List, [], _∷_, _++_}
+use mathlib.Core.List.{List, [], _∷_, _++_, map}
 use mathlib.Core.Path.{_≡_}
-use lib.ListN.{take}
 use Rattle.quantity.specs.declared.count.DatalinkId.{DatalinkId}
 use Rattle.records.specs.Files.{Report, kept}
 use Rattle.ethernet.specs.declared.Kind.{Kind}
@@ -11,35 +10,14 @@ use Rattle.ethernet.specs.declared.Ports.{Ports}
 use Rattle.ethernet.specs.Kinds.{kindOf}
 use Rattle.ethernet.specs.Layers.{datagramOf}
 use Rattle.conduct.specs.Outcomes.{nothing, outcomeOf}
-use Rattle.writer.specs.declared.answer.WriteAnswer.{WriteAnswer}
-use Rattle.ips_channel_calls.specs.declared.asking.NextAnswer.{NextAnswer}
-use Rattle.ips_channel_calls.specs.Calls.{Reply, offered, asked, withdrawn}
 use Rattle.ips_radio.specs.declared.RadioAnswer.{RadioAnswer}
 use Rattle.ips_run.specs.Run.{Call, on, radio, pace, query}
-use Rattle.ips_calls.specs.Replies.{EndpointReply, ofChannel, ofRadio, ofPace, ofQuery}
+use Rattle.ips_calls.specs.Replies.{EndpointReply, ofChannel, ofRadio, ofPace, ofQuery, ofReply, ifWrote}
 
 -- a datagram that passed between the ends, by the end that it went to
 pub data Passed : Type 0 where
   toIps : List ℕ → Passed
   toRadio : List ℕ → Passed
-
--- what Next hands over: as many first bytes of the output as it answered
-abbrev pub ifSent : NextAnswer → (out : List ℕ) → List Passed
-ifSent (NextAnswer.Sent count) out = toRadio (take (count .0) out) ∷ []
-ifSent NextAnswer.NothingWaiting out = []
-ifSent NextAnswer.NotOperational out = []
-ifSent NextAnswer.WindowShut out = []
-ifSent (NextAnswer.Refused refusal) out = []
-
-abbrev pub ofReply : Reply → List Passed
-ofReply (offered answer) = []
-ofReply (asked answer out) = ifSent answer out
-ofReply (withdrawn answer) = []
-
--- and a query, which is no data message
-abbrev pub ifWrote : WriteAnswer → (out : List ℕ) → List Passed
-ifWrote (WriteAnswer.Wrote count) out = toRadio (take (count .0) out) ∷ []
-ifWrote (WriteAnswer.Refused refusal) out = []
 
 -- a radio message that was accepted. One that 21 refuses may be one that the judge, who knows no time, would hear: to the endpoint it never came.
 abbrev pub ifHeard : RadioAnswer → (datagram : List ℕ) → List Passed
@@ -47,9 +25,9 @@ ifHeard RadioAnswer.Accepted datagram = toIps datagram ∷ []
 ifHeard RadioAnswer.Due datagram = toIps datagram ∷ []
 ifHeard (RadioAnswer.Refused refusal) datagram = []
 
--- of a call and its reply
+-- of a call and its reply: what Next hands over, and a query, which is no data message
 abbrev pub passedBy : Call → EndpointReply → List Passed
-passedBy (on id c) (ofChannel x) = ofReply x
+passedBy (on id c) (ofChannel x) = map toRadio (ofReply x)
 passedBy (on id c) (ofRadio answer) = []
 passedBy (on id c) (ofPace answer) = []
 passedBy (on id c) (ofQuery answer out) = []
@@ -61,7 +39,7 @@ passedBy (pace time) x = []
 passedBy (query out) (ofChannel x) = []
 passedBy (query out) (ofRadio answer) = []
 passedBy (query out) (ofPace answer) = []
-passedBy (query out) (ofQuery answer out′) = ifWrote answer out′
+passedBy (query out) (ofQuery answer out′) = map toRadio (ifWrote answer out′)
 
 -- of a run, in order
 abbrev pub passedIn : List Call → List EndpointReply → List Passed

@@ -15,11 +15,11 @@ use Rattle.wire.specs.Options.{split}
 use Rattle.meaning.specs.declared.message.End.{End}
 use Rattle.read_rules.specs.Judging.{Rules, judge}
 use Rattle.read_rules.specs.Sorts.{rulesOf}
-use Rattle.read_control.specs.Message.{controlRefused, controlSort}
-use Rattle.read_data.specs.Message.{dataRefused, dataSort}
+use Rattle.read_control.specs.Message.{controlRefused, controlOther, controlSort}
+use Rattle.read_data.specs.Message.{dataRefused, dataOther, dataSort}
 use Rattle.reader.specs.declared.answer.PlaneAnswer.{PlaneAnswer}
 use Rattle.reader.specs.Header.{CURRENT-VERSION, versionOf, flagOf, flag, readWith}
-use Rattle.reader.specs.Readings.{readControl, readData, planeOf}
+use Rattle.reader.specs.Readings.{Verdict, readControl, readData, planeOf}
 
 module _ {A B : Type 0} (R : Rules A B) (s : List ℕ) where
   -- the options, if a Data Plane flag is that of the plane
@@ -51,3 +51,12 @@ pub plane-refuses : (end : End) (id : DatalinkId) (s : List ℕ) {r : Refusal} �
     → (readControl end id s ≡ controlRefused (r .number) (r .place)) × (readData end id s ≡ dataRefused (r .number) (r .place))
 unfolding readControl readData
 plane-refuses end id s e = (sym (by-plane (rulesOf (controlSort end id)) s e), sym (by-plane (rulesOf (dataSort end id)) s e))
+
+-- a reader that is asked for a message of the other plane accepts nothing
+pub data-of-control : (end : End) (id : DatalinkId) (s : List ℕ) → planeOf s ≡ PlaneAnswer.Control → readData end id s .verdict ≡ Verdict.OtherPlane
+unfolding readData dataOther
+data-of-control end id s p = rw (← (by-plane (rulesOf (dataSort end id)) s p)) refl
+
+pub control-of-data : (end : End) (id : DatalinkId) (s : List ℕ) → planeOf s ≡ PlaneAnswer.Data → readControl end id s .verdict ≡ Verdict.OtherPlane
+unfolding readControl controlOther
+control-of-data end id s p = rw (← (by-plane (rulesOf (controlSort end id)) s p)) refl
