@@ -7,6 +7,7 @@
     compare.py capture PROGRAM FILE WORD..          one capture, with the program's words
     compare.py cases                                the small captures of judge_cases.py, the samples of `judge` among them, and
                                                     each program where reading or writing fails (failures.py)
+    compare.py joined [SEED CALLS]                  `session` and `station` over joined.py's net, either of them ours or the second
 
 `random` is for `distance`, `session` and `station`, the captures for `report` and `judge`.
 """
@@ -22,6 +23,7 @@ from itertools import chain, cycle, repeat
 
 from captures import Dice, draw_capture, draw_setting
 from failures import compare_failures
+from joined import compare_proved
 from judge_captures import draw_session
 from judge_cases import CASES
 from own_captures import draw_recording
@@ -173,6 +175,8 @@ def main():
         return compare_captures(*sys.argv[2:], PIECES)
     if sys.argv[1:] == ["cases"]:
         return sum(compare_capture("judge", capture, [], name) for name, (capture, _) in CASES.items()) + compare_failures()
+    if len(sys.argv) in (2, 4) and sys.argv[1] == "joined":
+        return compare_proved(*sys.argv[2:])
     if len(sys.argv) >= 4 and sys.argv[1] == "capture" and sys.argv[2] in CAPTURES:
         return compare_capture(sys.argv[2], pathlib.Path(sys.argv[3]).read_bytes(), sys.argv[4:], sys.argv[3])
     print(__doc__, file=sys.stderr)
