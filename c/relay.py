@@ -97,6 +97,7 @@ class Relay:
         self.radio = subprocess.Popen([radio, *map(str, RADIO_PORTS)], stdin=subprocess.PIPE, stdout=subprocess.PIPE)
         network.close()
         self.packets = self.handed = self.waits_for = 0
+        self.is_waiting = False
         self.spoken = b""
 
     def listen(self):
@@ -110,7 +111,12 @@ class Relay:
             self.spoken += self.router.stdout.read1(65536)
             *lines, self.spoken = self.spoken.split(b"\n")
             if lines:
+                self.is_waiting = True
                 self.waits_for = int(lines[-1].split()[1])
+
+    def is_up(self):
+        """Whether both programs have spoken, so that nothing is sent to a port that isn't open."""
+        return self.is_waiting and len(self.down.messages) > 0
 
     def pass_on(self):
         """Something arrives at the radio; at the router one thing, and only while it waits."""
@@ -143,18 +149,21 @@ def main():
     seed, seconds, router, radio = sys.argv[1:]
     relay = Relay(seed, router, radio)
     end = time.monotonic() + float(seconds)
+    is_up = False
     while time.monotonic() < end and relay.router.poll() is None and relay.radio.poll() is None:
         relay.listen()
-        relay.pass_on()
+        is_up = is_up or relay.is_up()
+        if is_up:
+            relay.pass_on()
     of_router, of_radio = relay.end()
     packets = {name: int(count) for name, count in of_router.items() if name.startswith("channel")}
     print(f"router ips {sum(packets.values()) + int(of_router['queries'])}")
     print(f"router radio {relay.down.arrived}")
     for name, count in packets.items():
         print(f"router {name} {count}")
-    print(f"radio ips {of_radio['heard']}")
+    print(f"radio ips {relay.up.arrived}")
     print(f"radio radio {of_radio['sent']}")
-    print(f"relay: to the radio: {relay.up}", file=sys.stderr)
+    print(f"relay: to the radio: {relay.up}; {of_radio['heard']} heard", file=sys.stderr)
     print(f"relay: to the router: {relay.down}; {of_router['taken']} packets taken in, {of_router['held back']} held back", file=sys.stderr)
 
 

@@ -62,18 +62,18 @@ class Message:
     counted: dict
 
 
-def draw_first(dice):
-    """A first sequence about 0, about 2^31, or anywhere."""
-    return (dice.choice((0, 2**31, dice.getrandbits(32))) + dice.randrange(-20_000, 20_000)) % ciri.MODULUS
+def draw_first(dice, about):
+    """A first sequence a little before a number, or about it."""
+    return (about - pick(dice, (3, dice.randrange(20_000)), (1, dice.randrange(-20_000, 0)))) % ciri.MODULUS
 
 
 def draw_terms(dice):
     """Plain at both ends, flow-controlled at both, and at one of them only."""
-    kinds = ((0, False, False), (3, True, True), (9, True, False), (12, False, True), (200, True, True))
-    for channel_id, session, station in kinds:
-        granted = dice.choice((MOST, MOST, MOST - 1, 30_000, 500))
+    kinds = ((0, False, False, 0), (3, True, True, 0), (9, True, False, 0), (12, False, True, 0), (200, True, True, 2**31))
+    for channel_id, session, station, about in kinds:
+        granted = dice.choice((MOST, MOST - 1, 30_000))
         watermark = dice.randrange(granted + 1)
-        yield Terms(channel_id, {"session": session, "station": station}, draw_first(dice), watermark, granted - watermark)
+        yield Terms(channel_id, {"session": session, "station": station}, draw_first(dice, about), watermark, granted - watermark)
 
 
 def draw_packet(dice):
@@ -187,7 +187,7 @@ class Talk:
         """Both starts; every channel becomes operational."""
         session = [f"{terms.channel_id} {kind_word(terms, 'session')} {terms.first} {STORE}" for terms in self.terms]
         station = [f"{terms.channel_id} {kind_word(terms, 'station')} {terms.watermark} {terms.throughput}" for terms in self.terms]
-        self.ask("session", " ".join([f"start {DATALINK} {len(session)}", *session, f"pace {self.dice.choice((20, 200))} {self.dice.choice((100, 1000))}"]))
+        self.ask("session", " ".join([f"start {DATALINK} {len(session)}", *session, f"pace {self.dice.choice((20, 200))} {self.dice.choice((500, 5000))}"]))
         self.ask("station", " ".join([f"start {DATALINK} {len(station)}", *station]))
         for terms in self.terms:
             self.ask_for_message("station", f"status {terms.channel_id} 7 {ROOM}")
