@@ -41,6 +41,7 @@ const OUT: usize = 9100;
 /// A life that counts fewer packets than this is one in which nothing goes.
 const FEWEST_SENT: u64 = 200;
 const LONGEST_LIFE: u64 = 5 << 30;
+const MOST_STEPS: u64 = 1 << 20;
 const STEPS_BETWEEN_SETTLEMENTS: u64 = 4096;
 
 #[derive(Clone, Copy)]
@@ -83,9 +84,9 @@ fn draw_terms(lot: &mut Lot, most: u64) -> [Terms; CHANNELS] {
         Terms { id, at_endpoint, at_radio, first: draw_first(lot), store: lot.pick(&[1500, 9000, 20_000]), watermark, throughput: sum - watermark }
     });
     terms[MAIN].store = lot.pick(&[9000, 18_000, 18_000, 65_536]);
-    if !lot.one_in(4) {
-        terms[MAIN].throughput = most - terms[MAIN].watermark;
-    }
+    let narrow = lot.within(2 * LONGEST, most);
+    terms[MAIN].watermark = lot.pick(&[0, narrow / 2]);
+    terms[MAIN].throughput = lot.pick(&[most, most, most, narrow]) - terms[MAIN].watermark;
     terms
 }
 
@@ -135,15 +136,18 @@ pub fn live(lot: &mut Lot, packets: &Packets, bounds: Bounds, end: Instant, figu
     let mut life = Life { ends, up: Way::new(bounds.age), down: Way::new(bounds.age), season, silences: 0, most_unheard: 0, lot };
     life.begin();
     let mut steps = 0;
-    while life.ends.numbers[MAIN].count < goal && (steps % STEPS_BETWEEN_SETTLEMENTS != 0 || Instant::now() < end || life.has_hardly_sent()) {
+    while life.ends.numbers[MAIN].count < goal
+        && steps < MOST_STEPS
+        && (steps % STEPS_BETWEEN_SETTLEMENTS != 0 || Instant::now() < end || life.has_hardly_sent())
+    {
         life.step();
         steps += 1;
         if steps % STEPS_BETWEEN_SETTLEMENTS == 0 {
             life.ends.settle();
-            assert!(steps < STEPS_BETWEEN_SETTLEMENTS * 10_000, "packets go");
         }
     }
     life.ends.settle();
+    assert!(!life.has_hardly_sent(), "{} packets go in {steps} steps", life.ends.ledger.count(Fate::Sent));
     life.add_to(figures);
 }
 
