@@ -119,7 +119,8 @@ class Talk:
 
     def __init__(self, seed, commands):
         self.dice = random.Random(f"joined {seed}")
-        self.ends = {program: End(command) for program, command in zip(PROGRAMS, commands, strict=True)}
+        self.commands = dict(zip(PROGRAMS, commands, strict=True))
+        self.ends = {}
         self.lines = []
         self.terms = list(draw_terms(self.dice))
         self.numbers = {terms.channel_id: Numbers(terms.first) for terms in self.terms if all(terms.is_controlled.values())}
@@ -129,7 +130,9 @@ class Talk:
         self.sent = 0
 
     def ask(self, program, line):
-        """The answer to a line."""
+        """The answer to a line. A program is started by its first one, behind the other's answer: two that are built at once get into each other's way."""
+        if program not in self.ends:
+            self.ends[program] = End(self.commands[program])
         answer = self.ends[program].ask(line)
         self.lines.append((program, line, answer))
         return answer
