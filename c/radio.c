@@ -2,14 +2,13 @@
  * radio RADIO-PORT IPS-PORT: a radio's main loop over the library of its end, on the loopback device. It is what a
  * radio's maker would start from: what is heard is queued, the queues go out at each channel's throughput a period (a
  * product transmits there), and what the library writes is sent. One channel is lost for a while now and then. It ends
- * where standard input ends, and prints how many messages it heard and sent.
+ * where standard input ends, and prints how many messages it heard, refused and sent; one that is refused is as one that
+ * was lost.
  */
 #define _POSIX_C_SOURCE 200809L
-#include <fcntl.h>
 #include <inttypes.h>
 #include <stdio.h>
 #include <stdlib.h>
-#include <unistd.h>
 
 #include "nespovarda_station.h"
 #include "udp.h"
@@ -24,7 +23,7 @@
 
 static uint64_t words[NESPOVARDA_STATION_STATE_WORDS(CHANNELS)];
 static uint8_t in[65536], out[2000];
-static uint64_t heard, sent;
+static uint64_t heard, refused, sent;
 
 /* Of each channel ID, kind, watermark, throughput a period; the second's windows are as wide as they may be (docs/JOINED.md). */
 static const uint64_t configuration[] = {
@@ -62,8 +61,13 @@ static void hear_all(int router)
 {
     long length;
     while ((length = udp_take(router, in, sizeof in)) >= 0) {
-        say(router, nespovarda_station_hear(words, COUNT(words), in, (size_t)length, out, sizeof out));
+        const nespovarda_answer answer = nespovarda_station_hear(words, COUNT(words), in, (size_t)length, out, sizeof out);
+        if (answer.kind > NESPOVARDA_REFUSED) {
+            refused++;
+            continue;
+        }
         heard++;
+        say(router, answer);
     }
 }
 
@@ -93,7 +97,7 @@ static void pass_period(int router, uint64_t period)
 
 static int is_over(void)
 {
-    return read(STDIN_FILENO, in, sizeof in) == 0;
+    return input_take(in, sizeof in) == 0;
 }
 
 int main(int argc, char **argv)
@@ -102,8 +106,8 @@ int main(int argc, char **argv)
         fputs("radio RADIO-PORT IPS-PORT\n", stderr);
         return 2;
     }
+    input_open();
     const int router = udp_open(udp_port(argv[1]), udp_port(argv[2]));
-    fcntl(STDIN_FILENO, F_SETFL, O_NONBLOCK);
     const nespovarda_answer started = nespovarda_station_start(words, COUNT(words), configuration, COUNT(configuration));
     if (started.kind != NESPOVARDA_STARTED)
         say(router, started);
@@ -115,6 +119,6 @@ int main(int argc, char **argv)
         for (const uint64_t now = udp_now() / PERIOD; period < now; period++)
             pass_period(router, period);
     }
-    printf("heard %" PRIu64 "\nsent %" PRIu64 "\n", heard, sent);
+    printf("heard %" PRIu64 "\nrefused %" PRIu64 "\nsent %" PRIu64 "\n", heard, refused, sent);
     return 0;
 }

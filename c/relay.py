@@ -2,7 +2,8 @@
 
 It runs both programs, hands the router packets of its network, and relays between the ports below; a datagram or a packet is handed to the
 router only while it waits for one, so that a recording has the messages in the endpoint's own order. It prints what `report` has to count
-of a recording, each line behind the leg that it is of: `router` between router and relay, `radio` between relay and radio.
+of a recording, each line behind the leg that it is of: `router` between router and relay, `radio` between relay and radio; and behind
+`refused` how many datagrams the router and the radio refused.
 """
 
 import random
@@ -163,6 +164,7 @@ def main():
         print(f"router {name} {count}")
     print(f"radio ips {relay.up.arrived}")
     print(f"radio radio {of_radio['sent']}")
+    print(f"refused {of_router['refused']} {of_radio['refused']}")
     print(f"relay: to the radio: {relay.up}; {of_radio['heard']} heard", file=sys.stderr)
     print(f"relay: to the router: {relay.down}; {of_router['taken']} packets taken in, {of_router['held back']} held back", file=sys.stderr)
 

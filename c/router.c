@@ -2,17 +2,15 @@
  * router IPS-PORT RADIO-PORT: a router's main loop over the library, on the loopback device. It is what a router's maker
  * would start from: packets of the network come on standard input, one a read, the first byte being the Channel ID (a
  * product has a tun device there, and its own way from a packet to a channel). It ends where standard input ends, and
- * prints what it sent on each channel.
+ * prints what it sent on each channel. A datagram that is refused is as one that was lost, and counted.
  *
  * Before each wait it prints how many datagrams and packets it has taken. A product doesn't; here the relay waits for it,
  * so that a recording has the messages in the endpoint's own order (docs/JOINED.md).
  */
 #define _POSIX_C_SOURCE 200809L
-#include <fcntl.h>
 #include <inttypes.h>
 #include <stdio.h>
 #include <stdlib.h>
-#include <unistd.h>
 
 #include "nespovarda.h"
 #include "udp.h"
@@ -29,8 +27,8 @@ static uint64_t words[NESPOVARDA_STATE_WORDS(CHANNELS)];
 static uint8_t memory[CHANNELS * STORE];
 static uint8_t in[65536], out[NESPOVARDA_LONGEST_PACKET + 20];
 static const uint8_t channels[CHANNELS] = {0, 3, 7, 200};
-/* Of each channel the packets sent; of all the queries sent, the packets taken in, and those held back as a store was full. */
-static uint64_t packets[CHANNELS], queries, taken, held_back;
+/* Of each channel the packets sent; of all the queries sent, the packets taken in, those held back as a store was full, and the datagrams refused. */
+static uint64_t packets[CHANNELS], queries, taken, held_back, refused;
 
 static void fail(const char *what, nespovarda_answer answer)
 {
@@ -60,7 +58,7 @@ static int hear(int radio, uint64_t now)
         return 0;
     const nespovarda_answer answer = nespovarda_radio(words, COUNT(words), now, in, (size_t)length);
     if (answer.kind != NESPOVARDA_ACCEPTED && answer.kind != NESPOVARDA_DUE)
-        fail("a radio message is refused", answer);
+        refused++;
     return 1;
 }
 
@@ -68,6 +66,8 @@ static int hear(int radio, uint64_t now)
 static void ask(int radio, uint64_t now)
 {
     nespovarda_answer answer = nespovarda_pace(words, COUNT(words), now);
+    if (answer.kind > NESPOVARDA_REFUSED)
+        fail("no pace", answer);
     if (answer.kind != NESPOVARDA_QUERY_DUE && answer.kind != NESPOVARDA_QUERY_DUE_SILENT)
         return;
     answer = nespovarda_query(words, COUNT(words), out, sizeof out);
@@ -80,7 +80,7 @@ static void ask(int radio, uint64_t now)
 /* A packet of the network, offered to its channel: its length with the Channel ID, 0 at the end, -1 where none has come. */
 static long take(uint64_t now)
 {
-    const long length = (long)read(STDIN_FILENO, in, sizeof in);
+    const long length = input_take(in, sizeof in);
     if (length < 1)
         return length;
     const nespovarda_answer answer =
@@ -112,8 +112,8 @@ int main(int argc, char **argv)
         fputs("router IPS-PORT RADIO-PORT\n", stderr);
         return 2;
     }
+    input_open();
     const int radio = udp_open(udp_port(argv[1]), udp_port(argv[2]));
-    fcntl(STDIN_FILENO, F_SETFL, O_NONBLOCK);
     start();
     uint64_t events = 0;
     for (long length = -1; length != 0;) {
@@ -131,6 +131,6 @@ int main(int argc, char **argv)
     }
     for (size_t place = 0; place < CHANNELS; place++)
         printf("channel %d packets %" PRIu64 "\n", channels[place], packets[place]);
-    printf("queries %" PRIu64 "\ntaken %" PRIu64 "\nheld back %" PRIu64 "\n", queries, taken, held_back);
+    printf("queries %" PRIu64 "\ntaken %" PRIu64 "\nheld back %" PRIu64 "\nrefused %" PRIu64 "\n", queries, taken, held_back, refused);
     return 0;
 }

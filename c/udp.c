@@ -2,6 +2,7 @@
 #include "udp.h"
 
 #include <arpa/inet.h>
+#include <errno.h>
 #include <fcntl.h>
 #include <netinet/in.h>
 #include <poll.h>
@@ -52,6 +53,20 @@ void udp_send(int socket, const uint8_t *datagram, size_t length)
 long udp_take(int socket, uint8_t *datagram, size_t room)
 {
     return (long)recv(socket, datagram, room, 0);
+}
+
+void input_open(void)
+{
+    if (fcntl(STDIN_FILENO, F_SETFL, O_NONBLOCK) != 0)
+        fail("no standard input");
+}
+
+long input_take(uint8_t *bytes, size_t room)
+{
+    const long length = (long)read(STDIN_FILENO, bytes, room);
+    if (length < 0 && errno != EAGAIN && errno != EINTR)
+        return 0;
+    return length;
 }
 
 uint64_t udp_now(void)

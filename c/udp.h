@@ -1,4 +1,4 @@
-/* What c/router and c/radio share: a UDP socket on the loopback device, a clock, and waiting. */
+/* What c/router and c/radio share: a UDP socket on the loopback device, standard input, a clock, and waiting. */
 #ifndef UDP_H
 #define UDP_H
 
@@ -16,6 +16,12 @@ void udp_send(int socket, const uint8_t *datagram, size_t length);
 
 /* Takes a datagram that has come: its length, or -1 where there is none. */
 long udp_take(int socket, uint8_t *datagram, size_t room);
+
+/* Standard input never blocks from here on. Ends the program where there is none. */
+void input_open(void);
+
+/* Takes what has come on standard input: its length, 0 where it has ended or can't be read, -1 where nothing has come. */
+long input_take(uint8_t *bytes, size_t room);
 
 /* Milliseconds of a clock that never goes back. */
 uint64_t udp_now(void);
