@@ -173,7 +173,7 @@ impl<'a> Ends<'a> {
     /// The answer where nothing may go; none where the first packet may.
     fn why_none(&self, place: usize) -> Option<Next<'static>> {
         let numbers = &self.numbers[place];
-        match (self.ledger.waiting(place).front(), numbers.reach) {
+        match (self.ledger.first_alive(place, self.clock), numbers.reach) {
             (None, _) => Some(Next::NothingWaiting),
             (Some(_), _) if !numbers.is_operational => Some(Next::NotOperational),
             (Some(_), Reach::NoWindow) => Some(Next::WindowShut),
@@ -213,12 +213,13 @@ impl<'a> Ends<'a> {
         Rc::new(Message { bytes, counted, reaches: [Reach::Free; CHANNELS] })
     }
 
-    /// An output with no room for a message: whoever is refused by 18 has sent nothing.
+    /// An output with no room for a message: 18 exactly where a packet would go, and then nothing has expired either; else the answer that needs no room.
     pub fn next_without_room(&mut self, place: usize) {
-        match self.endpoint.next(self.terms[place].id, self.clock, &mut []) {
-            Next::Sent(_) => panic!("no message fits an output of no bytes"),
-            Next::Refused(refusal) => assert_eq!(refusal, Refusal::OutputTooShort),
-            _ => self.ledger.expire(place, self.clock),
+        let expected = self.why_none(place);
+        let answer = self.endpoint.next(self.terms[place].id, self.clock, &mut []);
+        assert_eq!(answer, expected.unwrap_or(Next::Refused(Refusal::OutputTooShort)), "channel {}", self.terms[place].id);
+        if expected.is_some() {
+            self.ledger.expire(place, self.clock);
         }
     }
 

@@ -92,6 +92,11 @@ impl Ledger {
         &self.queues[place]
     }
 
+    /// The first that waits and isn't due to expire.
+    pub fn first_alive(&self, place: usize, now: u64) -> Option<&Packet> {
+        self.queues[place].iter().find(|packet| packet.expiry > now)
+    }
+
     /// How many have this fate.
     pub fn count(&self, fate: Fate) -> u64 {
         self.fates.iter().filter(|&&other| other == fate).count() as u64

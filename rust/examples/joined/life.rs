@@ -40,6 +40,8 @@ const NEVER: u64 = u64::MAX;
 const OUT: usize = 9100;
 /// A life that counts fewer packets than this is one in which nothing goes.
 const FEWEST_SENT: u64 = 200;
+/// What a narrow channel is granted; no bound on windows may be less, nor less than two packets.
+pub const NARROW: u64 = 100_000;
 const LONGEST_LIFE: u64 = 5 << 30;
 const MOST_STEPS: u64 = 1 << 20;
 const STEPS_BETWEEN_SETTLEMENTS: u64 = 4096;
@@ -100,7 +102,7 @@ fn draw_first(lot: &mut Lot) -> u32 {
 /// What a radio grants with nothing queued.
 fn draw_sum(lot: &mut Lot, most: u64) -> u64 {
     let smaller = lot.within(LONGEST, most);
-    lot.pick(&[most, most, most - 1, smaller, 100_000, 500])
+    lot.pick(&[most, most, most - 1, smaller, NARROW, 500])
 }
 
 impl Season {

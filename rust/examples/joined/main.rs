@@ -6,8 +6,8 @@
 //!
 //! It makes one life of both ends after another, until SECONDS (10) are over and more than 2^32 bytes were counted, and prints what came to pass; it ends with an
 //! error where a call comes to something else than its numbers say. A message arrives while fewer than --age bytes were counted since it was sent, and windows are
-//! granted up to --most bytes above what the radio has heard: 2^30 both, as the papers have it. Above 2^31 + 1 together, the ends can be made to break the rule.
-//! --late plays the nine steps by which they do, one byte apart from where they don't.
+//! granted up to --most bytes above what the radio has heard: 2^30 both, as the papers have it. Above 2^31 + 1 together, with windows of at least a packet, the
+//! ends can be made to break the rule. --late plays the nine steps by which they do, one byte apart from where they don't.
 mod ends;
 mod late;
 mod ledger;
@@ -17,7 +17,7 @@ mod net;
 mod packets;
 mod wire;
 
-use life::{live, Bounds, Figures};
+use life::{live, Bounds, Figures, NARROW};
 use lot::Lot;
 use net::Passage;
 use packets::Packets;
@@ -42,7 +42,7 @@ impl Words {
                 "--seed" => words.seed = number,
                 "--seconds" => words.seconds = number,
                 "--age" if number > 1 => words.bounds.age = u128::from(number),
-                "--most" if (1 << 14..1 << 31).contains(&number) => words.bounds.most = number,
+                "--most" if (NARROW..1 << 31).contains(&number) => words.bounds.most = number,
                 _ => return None,
             }
         }
