@@ -9,6 +9,7 @@ The lines and the words on them are those of docs/samples/both-ends, where a lin
 program, its line, a word on it. `{session}` and `{station}` in a line are the message that this end wrote last.
 """
 
+import contextlib
 import pathlib
 import shlex
 import subprocess
@@ -25,6 +26,10 @@ TABLE_HEAD = ["| Program | Line | Answer | |", "|---|---|---|---|"]
 WITH_MESSAGE = ("query", "sent", "answer", "unasked", "tell")
 
 
+class Ended(Exception):
+    """A program that has ended was asked."""
+
+
 class End:
     """A program that runs, and the message that it wrote last."""
 
@@ -36,9 +41,13 @@ class End:
     def ask(self, line):
         """A line's answer; both go through the pipes at once."""
         self.asked.append(line)
-        self.process.stdin.write(line + "\n")
-        self.process.stdin.flush()
-        answer = self.process.stdout.readline().removesuffix("\n")
+        with contextlib.suppress(BrokenPipeError):
+            self.process.stdin.write(line + "\n")
+            self.process.stdin.flush()
+        answered = self.process.stdout.readline()
+        if not answered:
+            raise Ended(f"{self.process.args} has ended, and was asked {line[:100]!r}")
+        answer = answered.removesuffix("\n")
         first, *words = answer.split(" ")
         if first in WITH_MESSAGE:
             self.message = words[0]

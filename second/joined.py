@@ -5,6 +5,7 @@ STATION are other programs in the place of the proved ones, each a command in on
 the highest window that the radio has ever granted (docs/JOINED.md).
 """
 
+import contextlib
 import pathlib
 import random
 import shlex
@@ -12,7 +13,7 @@ import sys
 from dataclasses import dataclass
 
 import ciri
-from both_ends import PROGRAMS, End
+from both_ends import PROGRAMS, End, Ended
 from random_values import chance, pick
 
 SECOND = pathlib.Path(__file__).resolve().parent
@@ -300,9 +301,10 @@ class Talk:
         return self.lines
 
     def close(self):
-        """Both programs end."""
-        for end in self.ends.values():
-            end.close()
+        """Both programs end, whatever one of them says to it."""
+        with contextlib.ExitStack() as stack:
+            for end in self.ends.values():
+                stack.callback(end.close)
 
 
 def talk(seed, calls, commands):
@@ -313,7 +315,10 @@ def talk(seed, calls, commands):
         complaint = None
     except (Broken, ciri.Refusal) as broken:
         complaint = f"{one.lines[-1][1][:100]!r}: {broken!r}"
-    one.close()
+    except Ended as ended:
+        complaint = str(ended)
+    finally:
+        one.close()
     counted = sum(numbers.count for numbers in one.numbers.values()) - sum(terms.first for terms in one.terms if terms.channel_id in one.numbers)
     return one.lines, complaint, f"{one.sent} packets, {counted} bytes counted"
 
@@ -335,9 +340,9 @@ def compare(seed, calls, proved):
     differing += complaint is not None
     for names, commands in (("proved and second", [proved[0], second[1]]), ("second and proved", [second[0], proved[1]]), ("proved and proved", proved)):
         lines, complaint, figures = talk(seed, calls, commands)
-        complaint = first_difference(lines, expected) or complaint
-        print(f"joined, seed {seed}, {names}: {complaint or f'the same {len(lines)} lines'}")
-        differing += complaint is not None
+        complaints = [said for said in (first_difference(lines, expected), complaint) if said]
+        print(f"joined, seed {seed}, {names}: {'; '.join(complaints) or f'the same {len(lines)} lines'}")
+        differing += len(complaints) > 0
     return differing
 
 
