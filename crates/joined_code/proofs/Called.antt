@@ -57,7 +57,7 @@ module _ (k : Terms) (j : ℕ) where
   abbrev leaving : station.Call → Lents → radio.State → (datagrams : List (List ℕ)) → Ends
   leaving c x s datagrams = record { world = worldIn (x .own); station = s; watched = told (heardIn k j c (endsIn x)) (radio.channelAt s j) datagrams (x .watched) }
 
-  call-in : (x : Lents) (c : station.Call) (answer : Answer) (left out : List ℕ) → MayCall c (x .watched) → far.PerformedIn c (x .far) answer left out
+  call-in : (x : Lents) (c : station.Call) (answer : Answer) (left out : List ℕ) → MayCall k c (x .watched) → far.PerformedIn c (x .far) answer left out
       → boundIf (writtenBy answer out) (heardAfter k j c (endsIn x)) (allowanceAt (channelIn k j left)) → ends.Step k j (endsIn x) (endsIn (afterCalling k j c answer left out x))
   call-in x c answer left out may h bound =
       let after = station.afterCall c (far-words.stateIn (x .far)) in

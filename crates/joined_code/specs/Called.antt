@@ -47,7 +47,7 @@ module _ (k : Terms) (j : ℕ) where
 
   pub data Step (asked : Asking) : Lents → Lents → Type 0 where
     acts : (x : Lents) (c : Call) (reply : EndpointReply) (left : Lent) → MayAct c (x .watched) → PerformedIn c (x .own) reply left → Step asked x (afterActing c reply left x)
-    calls : (x : Lents) (c : station.Call) (answer : Answer) (left out : List ℕ) → MayCall c (x .watched) → far.PerformedIn c (x .far) answer left out
+    calls : (x : Lents) (c : station.Call) (answer : Answer) (left out : List ℕ) → MayCall k c (x .watched) → far.PerformedIn c (x .far) answer left out
         → asked (writtenBy answer out) (heardAfter k j c (endsIn x)) (allowanceAt (channelIn left)) → Step asked x (afterCalling c answer left out x)
 
   pub data Reach (asked : Asking) : Lents → Lents → Type 0 where

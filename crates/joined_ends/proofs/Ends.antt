@@ -36,11 +36,11 @@ use Rattle.ips_calls.specs.Replies.{replyOf, handedOut}
 use Rattle.joined.specs.Net.{Heard, unheard, wordOf, afterHearing, reachOf, Told, Net, afterHear, afterTell, AGE, MOST-GRANTED}
 use Rattle.joined.specs.Net as net
 use Rattle.joined.proofs.Net.{heard-words, together, never-past}
-use Rattle.joined_ends.specs.Ends.{writtenIn, Sent, Down, Watched, Ends, countOf, UpArrives, MayAct, MayCall, sentAt, downAs, heardNow, allowanceAt, boundIf, tellingOf, told, lifeAfter, afterAct, heardIn, heardAfter, channelAfter, afterCall, Step, acts, calls, Reach, stays, goes-on, start}
+use Rattle.joined_ends.specs.Ends.{writtenIn, Sent, Down, Watched, Ends, countOf, statedIn, UpArrives, MayAct, MayCall, sentAt, downAs, heardNow, allowanceAt, boundIf, tellingOf, told, lifeAfter, afterAct, heardIn, heardAfter, channelAfter, afterCall, Step, acts, calls, Reach, stays, goes-on, start}
 use Rattle.joined_ends.proofs.Moves.{Moves}
 use Rattle.joined_ends.proofs.Stated.{StatesOf, After, Went}
 use Rattle.joined_ends.proofs.Acting.{Own, own-fresh, own-step, own-after, Comes, act-moves, handed-states}
-use Rattle.joined_ends.proofs.Telling.{heard-few, Radio, radio-step, written-is, window-granted, received-is, stated-window}
+use Rattle.joined_ends.proofs.Telling.{heard-few, heard-none, Radio, radio-step, written-is, window-granted, received-is, stated-window}
 
 -- ---- what arrives is made of bytes
 pub act-bytes : (x : Watched) (c : Call) → MayAct c x → bytesIn c
@@ -49,13 +49,13 @@ act-bytes x (radio time datagram) m = m .octets
 act-bytes x (pace time) m = tt
 act-bytes x (query out) m = tt
 
-call-bytes : (x : Watched) (c : station.Call) → MayCall c x → station.bytesIn c
-call-bytes x (station.hear datagram out) m = m .octets
-call-bytes x (station.status id value out) m = tt
-call-bytes x (station.queued id bytes out) m = tt
-call-bytes x (station.context k out) m = tt
-call-bytes x (station.link instance) m = tt
-call-bytes x (station.tell out) m = tt
+call-bytes : (k : Terms) (x : Watched) (c : station.Call) → MayCall k c x → station.bytesIn c
+call-bytes k x (station.hear datagram out) m = m .octets
+call-bytes k x (station.status id value out) m = tt
+call-bytes k x (station.queued id bytes out) m = tt
+call-bytes k x (station.context value out) m = tt
+call-bytes k x (station.link instance) m = tt
+call-bytes k x (station.tell out) m = tt
 
 -- ---- one of some new ones, or one of the old
 among : {A B : Type 0} (f : A → B) (xs : List A) (ys : List B) (b : B) → List·Memᴰ b (map f xs ++ ys) → ((a : A) × List·Memᴰ a xs × (b ≡ f a)) ⊎ List·Memᴰ b ys
@@ -179,19 +179,25 @@ module _ (conf : Configuration) (fits : configurationTaken conf ≡ true) (small
     nothing : (c : station.Call) → station.heardBy c (x .station) (k .id) ≡ [] → Listens (i .net-is) (x .watched .heard) (station.heardBy c (x .station) (k .id))
     nothing c e = subst (Listens (i .net-is) (x .watched .heard)) (sym e) (listens-none (i .net-is) (x .watched .heard) (i .heard-is))
 
-    hears-up : (datagram out : List ℕ) → UpArrives (x .watched) datagram → Listens (i .net-is) (x .watched .heard) (station.heardBy (station.hear datagram out) (x .station) (k .id))
+    hears-up : (datagram out : List ℕ) → UpArrives k (x .watched) datagram → Listens (i .net-is) (x .watched .heard) (station.heardBy (station.hear datagram out) (x .station) (k .id))
     hears-up datagram out m =
         let u = m .one in
         let states : StatesOf (x .station .datalink) (k .id) datagram (u .at) =
         subst (λ (id : DatalinkId). StatesOf id (k .id) datagram (u .at)) (sym (i .far .datalink-is)) (subst (λ (d : List ℕ). StatesOf (k .datalink) (k .id) d (u .at)) (sym (m .is)) (i .ups-state u (m .there))) in
-        let young : i .net-is .counter .count < u .at + AGE = subst (λ (c : Counter). c .count < u .at + AGE) (sym (i .counter-is)) (m .young) in
+        let few = heard-few (x .station) (k .id) (u .at) datagram out states in
+        let old : statedIn k datagram ≡ Sequence.Absent → Listens (i .net-is) (x .watched .heard) (station.heardBy (station.hear datagram out) (x .station) (k .id)) =
+        (λ e. nothing (station.hear datagram out) (heard-none (x .station) (k .id) datagram out (ap (λ (id : DatalinkId). station.statedOf (k .id) (station.receivedIn id datagram)) (i .far .datalink-is) ∙ e))) in
+        ⊎-elim old
+        (λ (young : countOf (x .watched) < u .at + AGE).
         ⊎-elim
         (λ (e : station.heardBy (station.hear datagram out) (x .station) (k .id) ≡ []). nothing (station.hear datagram out) e)
         (λ (e : station.heardBy (station.hear datagram out) (x .station) (k .id) ≡ sequenceAt (u .at) ∷ []).
-        subst (Listens (i .net-is) (x .watched .heard)) (sym e) (listens-one (i .net-is) (x .watched .heard) (u .at) (i .heard-is) (i .ups-there u (m .there)) young))
-        (heard-few (x .station) (k .id) (u .at) datagram out states)
+        subst (Listens (i .net-is) (x .watched .heard)) (sym e)
+        (listens-one (i .net-is) (x .watched .heard) (u .at) (i .heard-is) (i .ups-there u (m .there)) (subst (λ (c : Counter). c .count < u .at + AGE) (sym (i .counter-is)) young)))
+        few)
+        (m .young)
 
-    listens : (c : station.Call) → MayCall c (x .watched) → Listens (i .net-is) (x .watched .heard) (station.heardBy c (x .station) (k .id))
+    listens : (c : station.Call) → MayCall k c (x .watched) → Listens (i .net-is) (x .watched .heard) (station.heardBy c (x .station) (k .id))
     unfolding station.heardBy
     listens (station.hear datagram out) m = hears-up datagram out m
     listens (station.status id value out) m = listens-none (i .net-is) (x .watched .heard) (i .heard-is)
@@ -200,7 +206,7 @@ module _ (conf : Configuration) (fits : configurationTaken conf ≡ true) (small
     listens (station.link instance) m = listens-none (i .net-is) (x .watched .heard) (i .heard-is)
     listens (station.tell out) m = listens-none (i .net-is) (x .watched .heard) (i .heard-is)
 
-    module _ (c : station.Call) (may : MayCall c (x .watched)) where
+    module _ (c : station.Call) (may : MayCall k c (x .watched)) where
       abbrev s′ : state.State
       s′ = station.stateAfter c (x .station)
 
@@ -214,13 +220,13 @@ module _ (conf : Configuration) (fits : configurationTaken conf ≡ true) (small
       l = listens c may
 
       far′ : Radio k j s′ hd′
-      far′ = radio-step k j (x .station) (x .watched .heard) (i .far) c (call-bytes (x .watched) c may) hd′ (l .word)
+      far′ = radio-step k j (x .station) (x .watched .heard) (i .far) c (call-bytes k (x .watched) c may) hd′ (l .word)
 
       down-is : (d : List ℕ) → List·Memᴰ d (writtenIn (station.afterCall c (x .station))) → DownIs (downAs t d)
       down-is d m =
           record {
             message = messageOf s′;
-            got = ap (run.receivedIn (k .datalink)) (written-is k j (x .station) (x .watched .heard) (i .far) c (call-bytes (x .watched) c may) d m) ∙ received-is k j s′ hd′ far′;
+            got = ap (run.receivedIn (k .datalink)) (written-is k j (x .station) (x .watched .heard) (i .far) c (call-bytes k (x .watched) c may) d m) ∙ received-is k j s′ hd′ far′;
             window-is = stated-window k j s′ hd′ far′ ∙ sym (window-granted k j s′ hd′ far′);
           }
 

@@ -2,11 +2,13 @@
 -- or never, as long as it is young enough. One channel is watched: beside the ends stand its numbers that never wrap, which no end sees.
 use Prim.Native.Nat.{ℕ, _+_, _≤_, _<_, max}
 use mathlib.Core.Path.{_≡_}
+use mathlib.Core.Logic.{_⊎_}
 use mathlib.Core.List.{List, [], _∷_, _++_, map, List·Memᴰ}
 use lib.ListN.{take}
 use Rattle.quantity.specs.declared.count.FlowSequence.{FlowSequence}
 use Rattle.quantity.specs.declared.count.ByteCount.{ByteCount}
 use Rattle.wire.specs.Numbers.{Octets}
+use Rattle.meaning.specs.declared.message.Sequence.{Sequence}
 use Rattle.radio_flow.specs.Granting.{allowanceOf}
 use Rattle.radio_end_state.specs.declared.answer.Answer.{Answer}
 use Rattle.radio_end_state.specs.declared.channel.Setting.{Setting}
@@ -53,13 +55,18 @@ pub record Watched : Type 0 where
 abbrev pub countOf : Watched → ℕ
 countOf x = x .life .counting .count
 
+-- what a datagram states of the watched channel, as a radio's end of that Datalink ID receives it
+abbrev pub statedIn : Terms → List ℕ → Sequence
+statedIn k datagram = station.statedOf (k .id) (station.receivedIn (k .datalink) datagram)
+
 -- "none arrives after 2^30 bytes or more were counted on its channel since it was sent": a datagram that arrives is one that was handed over, young enough on the
 -- watched channel, and made of bytes
-pub record UpArrives (x : Watched) (datagram : List ℕ) : Type 0 where
+pub record UpArrives (k : Terms) (x : Watched) (datagram : List ℕ) : Type 0 where
   pub one : Sent
   pub there : List·Memᴰ one (x .ups)
   pub is : datagram ≡ one .datagram
-  pub young : countOf x < one .at + AGE
+  -- one that states nothing of the channel may be of any age on it
+  pub young : (statedIn k datagram ≡ Sequence.Absent) ⊎ (countOf x < one .at + AGE)
   pub octets : Octets datagram
 
 pub record DownArrives (x : Watched) (datagram : List ℕ) : Type 0 where
@@ -77,13 +84,13 @@ MayAct (pace time) x = Unit {0}
 MayAct (query out) x = Unit {0}
 
 -- any call of the radio's end; a datagram that it hears is one of the endpoint's
-abbrev pub MayCall : station.Call → Watched → Type 0
-MayCall (station.hear datagram out) x = UpArrives x datagram
-MayCall (station.status id value out) x = Unit {0}
-MayCall (station.queued id bytes out) x = Unit {0}
-MayCall (station.context k out) x = Unit {0}
-MayCall (station.link instance) x = Unit {0}
-MayCall (station.tell out) x = Unit {0}
+abbrev pub MayCall : Terms → station.Call → Watched → Type 0
+MayCall k (station.hear datagram out) x = UpArrives k x datagram
+MayCall k (station.status id value out) x = Unit {0}
+MayCall k (station.queued id bytes out) x = Unit {0}
+MayCall k (station.context value out) x = Unit {0}
+MayCall k (station.link instance) x = Unit {0}
+MayCall k (station.tell out) x = Unit {0}
 
 -- ---- the endpoint acted: what the watched channel saw of it, and the datagrams that were handed over, which are as old as the count after it
 abbrev pub sentAt : ℕ → List ℕ → Sent
@@ -167,7 +174,7 @@ module _ (k : Terms) (j : ℕ) where
 
   pub data Step : Ends → Ends → Type 0 where
     acts : (x : Ends) (c : Call) → MayAct c (x .watched) → Step x (afterAct c x)
-    calls : (x : Ends) (c : station.Call) → MayCall c (x .watched) → boundIf (writtenIn (station.afterCall c (x .station))) (heardAfter c x) (allowanceAt (channelAfter c x)) → Step x (afterCall c x)
+    calls : (x : Ends) (c : station.Call) → MayCall k c (x .watched) → boundIf (writtenIn (station.afterCall c (x .station))) (heardAfter c x) (allowanceAt (channelAfter c x)) → Step x (afterCall c x)
 
   pub data Reach : Ends → Ends → Type 0 where
     stays : (x : Ends) → Reach x x

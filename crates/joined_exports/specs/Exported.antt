@@ -34,7 +34,7 @@ module _ (k : Terms) (j : ℕ) where
     hands : (x : Lents) (h : Handful) (answers : List ℕ) (r : Answer) (answers′ : List ℕ) (left : Lent) → HandfulExported h (x .own) answers r left answers′
         → Step asked x (afterHanding h answers r answers′ left x)
     -- the radio calls
-    calls : (x : Lents) (c : station.Call) (r : Answer) (left out : List ℕ) → MayCall c (x .watched) → far.Exported (station.afterCall c (words.stateIn (x .far))) (x .far) r left out
+    calls : (x : Lents) (c : station.Call) (r : Answer) (left out : List ℕ) → MayCall k c (x .watched) → far.Exported (station.afterCall c (words.stateIn (x .far))) (x .far) r left out
         → asked (writtenBy (answerSaid r) out) (heardAfter k j c (endsIn x)) (allowanceAt (channelIn k j left)) → Step asked x (afterCalling k j c (answerSaid r) left out x)
 
   pub data Reach (asked : Asking) : Lents → Lents → Type 0 where
