@@ -1,6 +1,6 @@
 -- The joined ends, of the code's own outcomes: after two starts and any calls, whatever the net does, no Next that hands over a packet goes past the highest window
 -- ever granted. Assumes nothing.
-use Prim.Native.Nat.{ℕ, _^_, _<_, _≤_}
+use Prim.Native.Nat.{ℕ, _^_, _<_}
 use mathlib.Core.Path.{_≡_, refl, sym, ap, subst, _∙_}
 use mathlib.Core.Bool.{true}
 use mathlib.Core.List.{List}
@@ -40,34 +40,34 @@ use Rattle.ips_words_start.proofs.Exactly as own-starts
 use Rattle.ips_words_start.proofs.FreshWords.{configuration-small}
 use Rattle.joined_ends.proofs.Fresh.{fresh-radio, modest-bound, modest-stays, modest-fresh}
 use Rattle.joined.specs.Net.{unheard}
-use Rattle.joined_ends.specs.Ends.{writtenBy, writtenIn, Ends, MayAct, MayCall, told, allowanceAt, boundIf, Modest, lifeAfter, afterAct, heardIn, heardAfter, channelAfter, afterCall, unwatched}
+use Rattle.joined_ends.specs.Ends.{writtenBy, writtenIn, Ends, MayAct, MayCall, told, allowanceAt, boundIf, Modest, afterAct, heardIn, heardAfter, channelAfter, afterCall, NotPast, unwatched}
 use Rattle.joined_ends.specs.Ends as ends
 use Rattle.joined_ends.proofs.Telling.{Radio}
-use Rattle.joined_ends.proofs.Ends.{act-bytes, all-within}
+use Rattle.joined_ends.proofs.Ends.{act-bytes, all-not-past}
 use Rattle.joined_code.specs.Called.{Lents, endsIn, nothingAsked, channelIn, afterActing, afterCalling, Step, acts, calls, Reach, stays, goes-on}
 
 module _ (k : Terms) (j : ℕ) where
   -- ---- a step on words is a step of the ends that they stand for
-  act-in : (x : Lents) (c : Call) (reply : EndpointReply) (left : Lent) → MayAct c (x .watched) → PerformedIn c (x .own) reply left → ends.Step k j (endsIn x) (endsIn (afterActing k j c reply left x))
+  act-in : (x : Lents) (c : Call) (reply : EndpointReply) (left : Lent) → MayAct c (x .watched) → PerformedIn c (x .own) reply left → ends.Step k j (endsIn x) (endsIn (afterActing k c reply left x))
   act-in x c reply left may h =
       let p = performed-in (act-bytes (x .watched) c may) h in
-      let same : endsIn (afterActing k j c reply left x) ≡ afterAct k j c (endsIn x) = rw (p .world-is, p .reply-is) in
+      let same : endsIn (afterActing k c reply left x) ≡ afterAct k c (endsIn x) = rw (p .world-is, p .reply-is) in
       subst (ends.Step k j (endsIn x)) (sym same) (ends.acts (endsIn x) c may)
 
   abbrev leaving : station.Call → Lents → radio.State → (datagrams : List (List ℕ)) → Ends
-  leaving c x s datagrams = record { world = worldIn (x .own); station = s; watched = told (heardIn k j c (endsIn x)) (radio.channelAt s j) datagrams (x .watched) }
+  leaving c x s datagrams = record { world = worldIn (x .own); station = s; watched = told (heardIn k c (endsIn x)) (radio.channelAt s j) datagrams (x .watched) }
 
   call-in : (x : Lents) (c : station.Call) (answer : Answer) (left out : List ℕ) → MayCall k c (x .watched) → far.PerformedIn c (x .far) answer left out
-      → boundIf (writtenBy answer out) (heardAfter k j c (endsIn x)) (allowanceAt (channelIn k j left)) → ends.Step k j (endsIn x) (endsIn (afterCalling k j c answer left out x))
+      → boundIf (writtenBy answer out) (heardAfter k c (endsIn x)) (allowanceAt (channelIn j left)) → ends.Step k j (endsIn x) (endsIn (afterCalling k j c answer left out x))
   call-in x c answer left out may h bound =
       let after = station.afterCall c (far-words.stateIn (x .far)) in
       let s : far-words.stateIn left ≡ station.stateAfter c (far-words.stateIn (x .far)) = far-ran.performed-in c (x .far) answer left out h in
       let ds : writtenBy answer out ≡ writtenIn after = ap (λ (a : Answer). writtenBy a out) (h .answer-is) ∙ ap (writtenBy (after .answer)) (h .output-is) in
       let same : endsIn (afterCalling k j c answer left out x) ≡ afterCall k j c (endsIn x) =
       ap (λ (z : radio.State). leaving c x z (writtenBy answer out)) s ∙ ap (leaving c x (station.stateAfter c (far-words.stateIn (x .far)))) ds in
-      let heard = heardAfter k j c (endsIn x) in
-      let within : boundIf (writtenIn after) heard (allowanceAt (channelAfter k j c (endsIn x))) =
-      subst (λ (z : radio.State). boundIf (writtenIn after) heard (allowanceAt (radio.channelAt z j))) s (subst (λ (l : List (List ℕ)). boundIf l heard (allowanceAt (channelIn k j left))) ds bound) in
+      let heard = heardAfter k c (endsIn x) in
+      let within : boundIf (writtenIn after) heard (allowanceAt (channelAfter j c (endsIn x))) =
+      subst (λ (z : radio.State). boundIf (writtenIn after) heard (allowanceAt (radio.channelAt z j))) s (subst (λ (l : List (List ℕ)). boundIf l heard (allowanceAt (channelIn j left))) ds bound) in
       subst (ends.Step k j (endsIn x)) (sym same) (ends.calls (endsIn x) c may within)
 
   step-in : (x y : Lents) → Step k j boundIf x y → ends.Step k j (endsIn x) (endsIn y)
@@ -81,7 +81,7 @@ module _ (k : Terms) (j : ℕ) where
   -- ---- where the watched channel's setting is modest, nothing need be asked of a window
   record Settled (x : Lents) : Type 0 where
     here : j < length (far-words.stateIn (x .far) .channels)
-    modest : Modest (channelIn k j (x .far) .setting)
+    modest : Modest (channelIn j (x .far) .setting)
 
   settled-on : (x : Lents) → Settled x → (c : station.Call) (answer : Answer) (left out : List ℕ) → far.PerformedIn c (x .far) answer left out → Settled (afterCalling k j c answer left out x)
   settled-on x m c answer left out h =
@@ -104,7 +104,7 @@ module _ (k : Terms) (j : ℕ) where
   modest-reach b _ m (goes-on _ y z r (calls x c answer left out may h bounded)) =
       let i = modest-reach b y m r in
       let after = settled-on x (i .settled) c answer left out h in
-      let bound = modest-bound (channelIn k j left) (after .modest) (writtenBy answer out) (heardAfter k j c (endsIn x)) in
+      let bound = modest-bound (channelIn j left) (after .modest) (writtenBy answer out) (heardAfter k c (endsIn x)) in
       record { reach = goes-on b y z (i .reach) (calls x c answer left out may h bound); settled = after }
 
 -- ---- from two starts that are made, on any words and any memory
@@ -140,7 +140,7 @@ module _ {configuration words memory words′ memory′ : List ℕ} (begun : Sta
 
       -- THE THEOREM, of the code's own outcomes: "Then, counting without wrap, the endpoint never sends past the highest window the radio has ever granted"
       pub joined-never-past : (x : Lents) → Reach k j boundIf begins x → (time : ℕ) (out out′ : List ℕ) (n : ByteCount) (left : Lent)
-          → PerformedIn (on (k .id) (next time out)) (x .own) (ofChannel (asked (NextAnswer.Sent n) out′)) left → lifeAfter k j (on (k .id) (next time out)) (endsIn x) .counting .count ≤ x .watched .top
+          → PerformedIn (on (k .id) (next time out)) (x .own) (ofChannel (asked (NextAnswer.Sent n) out′)) left → NotPast k time out (endsIn x)
       joined-never-past x r time out out′ n left h = go (calling (k .id) (next time out) w .answer) refl (h .reply-is)
         where
           w : World
@@ -150,17 +150,17 @@ module _ {configuration words memory words′ memory′ : List ℕ} (begun : Sta
           reached = subst (λ (v : World). ends.Reach k j (ends.start v (far-words.stateIn after′) (simplyAt conf index)) (endsIn x)) (started-in begun) (reach-in k j begins x r)
 
           go : (a : rules.Answer Tried) → calling (k .id) (next time out) w .answer ≡ a → ofChannel (asked (NextAnswer.Sent n) out′) ≡ replyOf (on (k .id) (next time out)) w
-              → lifeAfter k j (on (k .id) (next time out)) (endsIn x) .counting .count ≤ x .watched .top
+              → NotPast k time out (endsIn x)
           go (refused number) e f = clash (cc (rw e at f))
           go (answered nothingWaiting) e f = clash (cc (rw e at f))
           go (answered notOperational) e f = clash (cc (rw e at f))
           go (answered windowShut) e f = clash (cc (rw e at f))
           go (answered (sent packet carried)) e f =
-              all-within conf taken small index inside controlled j (far-words.stateIn after′) far-there (endsIn x) reached time out packet carried e
+              all-not-past conf taken small index inside controlled j (far-words.stateIn after′) far-there (endsIn x) reached time out packet carried e
 
       -- THE COROLLARY: with watermark plus throughput at most 2^30 in the radio's configuration nothing is asked of any window, for good
       pub joined-modest : Modest (getD (far-conf .settings) j radio.noSetting) → (x : Lents) → Reach k j nothingAsked begins x → (time : ℕ) (out out′ : List ℕ) (n : ByteCount) (left : Lent)
-          → PerformedIn (on (k .id) (next time out)) (x .own) (ofChannel (asked (NextAnswer.Sent n) out′)) left → lifeAfter k j (on (k .id) (next time out)) (endsIn x) .counting .count ≤ x .watched .top
+          → PerformedIn (on (k .id) (next time out)) (x .own) (ofChannel (asked (NextAnswer.Sent n) out′)) left → NotPast k time out (endsIn x)
       joined-modest modest x r = joined-never-past x (modest-reach k j begins x settled r .reach)
         where
           settled : Settled k j begins

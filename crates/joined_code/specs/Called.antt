@@ -33,22 +33,22 @@ Asking = List (List ℕ) → Heard → ByteCount → Type 0
 abbrev pub nothingAsked : Asking
 nothingAsked datagrams heard allowance = Unit {0}
 
+abbrev pub channelIn : (j : ℕ) → List ℕ → Channel
+channelIn j left = radio.channelAt (words.stateIn left) j
+
+-- a call of the endpoint, by its reply and by the words and the memory that it left
+abbrev pub afterActing : Terms → Call → EndpointReply → Lent → Lents → Lents
+afterActing k c reply left x = record { own = left; far = x .far; watched = acted k (sees (k .id) c (worldIn (x .own))) (handedOut reply) (x .watched) }
+
 module _ (k : Terms) (j : ℕ) where
-  abbrev pub channelIn : List ℕ → Channel
-  channelIn left = radio.channelAt (words.stateIn left) j
-
-  -- a call of the endpoint, by its reply and by the words and the memory that it left
-  abbrev pub afterActing : Call → EndpointReply → Lent → Lents → Lents
-  afterActing c reply left x = record { own = left; far = x .far; watched = acted k (sees (k .id) c (worldIn (x .own))) (handedOut reply) (x .watched) }
-
   -- a call of the radio's end, by its answer and by the words and the output that it left
   abbrev pub afterCalling : station.Call → Answer → (left out : List ℕ) → Lents → Lents
-  afterCalling c answer left out x = record { own = x .own; far = left; watched = told (heardIn k j c (endsIn x)) (channelIn left) (writtenBy answer out) (x .watched) }
+  afterCalling c answer left out x = record { own = x .own; far = left; watched = told (heardIn k c (endsIn x)) (channelIn j left) (writtenBy answer out) (x .watched) }
 
   pub data Step (asked : Asking) : Lents → Lents → Type 0 where
-    acts : (x : Lents) (c : Call) (reply : EndpointReply) (left : Lent) → MayAct c (x .watched) → PerformedIn c (x .own) reply left → Step asked x (afterActing c reply left x)
+    acts : (x : Lents) (c : Call) (reply : EndpointReply) (left : Lent) → MayAct c (x .watched) → PerformedIn c (x .own) reply left → Step asked x (afterActing k c reply left x)
     calls : (x : Lents) (c : station.Call) (answer : Answer) (left out : List ℕ) → MayCall k c (x .watched) → far.PerformedIn c (x .far) answer left out
-        → asked (writtenBy answer out) (heardAfter k j c (endsIn x)) (allowanceAt (channelIn left)) → Step asked x (afterCalling c answer left out x)
+        → asked (writtenBy answer out) (heardAfter k c (endsIn x)) (allowanceAt (channelIn j left)) → Step asked x (afterCalling c answer left out x)
 
   pub data Reach (asked : Asking) : Lents → Lents → Type 0 where
     stays : (x : Lents) → Reach asked x x

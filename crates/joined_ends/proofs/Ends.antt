@@ -9,6 +9,7 @@ use native.Mathlib.Omega.{arith}
 use lib.ListN.{length}
 use lib.Dec.{eqb}
 use borrow.Author.Tests.{eqb-false}
+use Rattle.facts.proofs.Tests.{clash}
 use Rattle.quantity.specs.declared.count.ByteCount.{ByteCount}
 use Rattle.quantity.specs.declared.count.DatalinkId.{DatalinkId}
 use Rattle.quantity.specs.declared.count.FlowSequence.{FlowSequence}
@@ -23,7 +24,7 @@ use Rattle.radio_end_state.specs.State as state
 use Rattle.radio_end_state.specs.Message.{messageOf}
 use Rattle.radio_end_run.specs.Run as station
 use Rattle.ips_channel_rules.specs.Rules.{next, Tried, sent, Answer, answered, called, call, Terms, Condition, step, final}
-use Rattle.ips_channel_rules.specs.Simple.{Limit, free, none, upTo, Counter, countOn, simple}
+use Rattle.ips_channel_rules.specs.Simple.{Limit, free, none, upTo, Counter, fitsBelow, countOn, simple}
 use Rattle.ips_state.specs.State.{Configuration, startAt}
 use Rattle.ips_state.specs.Limits.{configurationTaken}
 use Rattle.ips_state.specs.Memory.{World}
@@ -35,8 +36,8 @@ use Rattle.ips_run.specs.Demand.{bytesIn, ruled, simplyAt}
 use Rattle.ips_calls.specs.Replies.{replyOf, handedOut}
 use Rattle.joined.specs.Net.{Heard, unheard, wordOf, afterHearing, reachOf, Told, Net, afterHear, afterTell, AGE, MOST-GRANTED}
 use Rattle.joined.specs.Net as net
-use Rattle.joined.proofs.Net.{heard-words, together, never-past}
-use Rattle.joined_ends.specs.Ends.{writtenIn, Sent, Down, Watched, Ends, countOf, statedIn, UpArrives, MayAct, MayCall, sentAt, downAs, heardNow, allowanceAt, boundIf, tellingOf, told, lifeAfter, afterAct, heardIn, heardAfter, channelAfter, afterCall, Step, acts, calls, Reach, stays, goes-on, start}
+use Rattle.joined.proofs.Net.{heard-words, together, never-past, never-free}
+use Rattle.joined_ends.specs.Ends.{writtenIn, Sent, Down, Watched, Ends, countOf, statedIn, UpArrives, MayAct, MayCall, sentAt, downAs, heardNow, allowanceAt, boundIf, tellingOf, told, lifeAfter, afterAct, heardIn, heardAfter, channelAfter, afterCall, Step, acts, calls, Reach, stays, goes-on, NotPast, start}
 use Rattle.joined_ends.proofs.Moves.{Moves}
 use Rattle.joined_ends.proofs.Stated.{StatesOf, After, Went}
 use Rattle.joined_ends.proofs.Acting.{Own, own-fresh, own-step, own-after, Comes, act-moves, handed-states}
@@ -97,10 +98,11 @@ listens-one x hd at e m young =
       word = sym (heard-words hd (sequenceAt at) (omega arith));
     }
 
-grow-most : (count : ℕ) (l : Limit) (n : ℕ) → countOn count l n ≤ count + n
-grow-most count free n = omega arith
-grow-most count none n = omega arith
-grow-most count (upTo z) n = omega arith
+-- what fits on a channel that isn't free is counted whole
+grows-all : (count : ℕ) (l : Limit) (n : ℕ) → (l ≡ free → ⊥) → fitsBelow count l n ≡ true → countOn count l n ≡ count + n
+grows-all count free n not e = absurd (not refl)
+grows-all count none n not e = clash e
+grows-all count (upTo z) n not e = refl
 
 module _ (conf : Configuration) (fits : configurationTaken conf ≡ true) (small : (i : ℕ) → i < length (conf .starts) → startAt conf i .first .0 < 2 ^ 32)
     (index : ℕ) (inside : index < length (conf .starts)) (controlled : startAt conf index .setting .controlled ≡ true) (j : ℕ) where
@@ -145,10 +147,10 @@ module _ (conf : Configuration) (fits : configurationTaken conf ≡ true) (small
   act-comes x i (pace time) m = tt
   act-comes x i (query out) m = tt
 
-  act-keeps : (x : Ends) (c : Call) → MayAct c (x .watched) → Joined x → Joined (afterAct k j c x)
+  act-keeps : (x : Ends) (c : Call) → MayAct c (x .watched) → Joined x → Joined (afterAct k c x)
   act-keeps x c may i =
-      let at = lifeAfter k j c x .counting .count in
-      let moves : Moves (i .net-is) (lifeAfter k j c x .counting) = act-moves conf fits small index inside controlled (x .world) (x .watched .life) (i .own) (i .net-is) (i .counter-is) c (act-comes x i c may) in
+      let at = lifeAfter k c x .counting .count in
+      let moves : Moves (i .net-is) (lifeAfter k c x .counting) = act-moves conf fits small index inside controlled (x .world) (x .watched .life) (i .own) (i .net-is) (i .counter-is) c (act-comes x i c may) in
       let datagrams = handedOut (replyOf c (x .world)) in
       record {
         own = own-step conf fits small index inside controlled (x .world) (x .watched .life) (i .own) c (act-bytes (x .watched) c may);
@@ -211,10 +213,10 @@ module _ (conf : Configuration) (fits : configurationTaken conf ≡ true) (small
       s′ = station.stateAfter c (x .station)
 
       abbrev hd′ : Heard
-      hd′ = heardAfter k j c x
+      hd′ = heardAfter k c x
 
       abbrev t : Told
-      t = tellingOf (heardIn k j c x) (channelAfter k j c x) (x .watched)
+      t = tellingOf (heardIn k c x) (channelAfter j c x) (x .watched)
 
       l : Listens (i .net-is) (x .watched .heard) (station.heardBy c (x .station) (k .id))
       l = listens c may
@@ -235,17 +237,17 @@ module _ (conf : Configuration) (fits : configurationTaken conf ≡ true) (small
 
       -- what the net tells is what was written
       abbrev a : ByteCount
-      a = allowanceAt (channelAfter k j c x)
+      a = allowanceAt (channelAfter j c x)
 
       telling-same : net.tellingOf a (l .net-is) ≡ t
       telling-same =
-          told-same (l .net-is .counter .count) (countOf (x .watched)) (granted (wordOf (l .net-is .heard)) a) (windowNow (channelAfter k j c x)) (reachOf (l .net-is .heard) a) (reachOf hd′ a)
+          told-same (l .net-is .counter .count) (countOf (x .watched)) (granted (wordOf (l .net-is .heard)) a) (windowNow (channelAfter j c x)) (reachOf (l .net-is .heard) a) (reachOf hd′ a)
           (ap (λ (y : Counter). y .count) (l .counter-is ∙ i .counter-is))
           (ap (λ (h : Heard). granted (wordOf h) a) (l .heard-is) ∙ sym (window-granted k j s′ hd′ far′))
           (ap (λ (h : Heard). reachOf h a) (l .heard-is))
 
       abbrev Left : List (List ℕ) → Ends
-      Left ds = record { world = x .world; station = s′; watched = told (heardIn k j c x) (channelAfter k j c x) ds (x .watched) }
+      Left ds = record { world = x .world; station = s′; watched = told (heardIn k c x) (channelAfter j c x) ds (x .watched) }
 
       keeps-by : (ds : List (List ℕ)) → boundIf ds hd′ a → ((d : List ℕ) → List·Memᴰ d ds → DownIs (downAs t d)) → Joined (Left ds)
       keeps-by [] bound down =
@@ -337,22 +339,32 @@ module _ (conf : Configuration) (fits : configurationTaken conf ≡ true) (small
         let below : i .net-is .counter .count + length packet ≤ i .net-is .top = never-past (startAt conf index .first) (small index inside) (i .net-is) (i .reach) n may in
         subst (λ (y : Counter). y .count + length packet ≤ x .watched .top) (i .counter-is) (subst (λ (t : ℕ). i .net-is .counter .count + length packet ≤ t) (i .top-is) below)
 
-    -- the same of the count after it
-    pub all-within : (x : Ends) → Reach k j fresh x → (time : ℕ) (out packet : List ℕ) (carried : Sequence)
-        → calling (k .id) (next time out) (x .world) .answer ≡ answered (sent packet carried) → lifeAfter k j (on (k .id) (next time out)) x .counting .count ≤ x .watched .top
-    all-within x r time out packet carried given = by (eqb (k .id) (k .id)) refl
+    never-free-there : (x : Ends) → Reach k j fresh x → x .watched .life .counting .limit ≡ free → ⊥
+    never-free-there x r e =
+        let i = keeps-all fresh x r joined-fresh in
+        never-free (startAt conf index .first) (small index inside) (i .net-is) (i .reach) (ap (λ (y : Counter). y .limit) (i .counter-is) ∙ e)
+
+    -- each of its bytes is counted: the channel is never free
+    pub all-counted : (x : Ends) → Reach k j fresh x → (time : ℕ) (out packet : List ℕ) (carried : Sequence)
+        → calling (k .id) (next time out) (x .world) .answer ≡ answered (sent packet carried) → countOf (afterAct k (on (k .id) (next time out)) x .watched) ≡ countOf (x .watched) + length packet
+    all-counted x r time out packet carried given = by (eqb (k .id) (k .id)) refl
       where
         c : Counter
         c = x .watched .life .counting
 
-        below : c .count + length packet ≤ x .watched .top
-        below = all-never-past x r time out packet carried given
-
-        after : step simple k (call (next time out)) (x .watched .life) .counting .count ≤ x .watched .top
-        after =
-            subst (λ (y : Counter). y .count ≤ x .watched .top) (sym (goes x r time out packet carried given .counter-is))
-            (omega (arith, grow-most (c .count) (c .limit) (length packet), below))
-
-        by : (b : Bool) → eqb (k .id) (k .id) ≡ b → final simple k (cond b (call (next time out) ∷ []) []) (x .watched .life) .counting .count ≤ x .watched .top
-        by true e = after
+        by : (b : Bool) → eqb (k .id) (k .id) ≡ b → final simple k (cond b (call (next time out) ∷ []) []) (x .watched .life) .counting .count ≡ c .count + length packet
+        by true e =
+            let went = goes x r time out packet carried given in
+            ap (λ (y : Counter). y .count) (went .counter-is) ∙ grows-all (c .count) (c .limit) (length packet) (never-free-there x r) (went .fits)
         by false e = absurd (eqb-false (k .id) (k .id) e refl)
+
+    pub all-not-past : (x : Ends) → Reach k j fresh x → (time : ℕ) (out packet : List ℕ) (carried : Sequence)
+        → calling (k .id) (next time out) (x .world) .answer ≡ answered (sent packet carried) → NotPast k time out x
+    all-not-past x r time out packet carried given =
+        record {
+          packet = packet;
+          carried = carried;
+          goes = given;
+          below = all-never-past x r time out packet carried given;
+          counted = all-counted x r time out packet carried given;
+        }

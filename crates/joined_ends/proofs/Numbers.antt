@@ -104,7 +104,7 @@ module _ (k : Terms) (j : ℕ) where
   top-of (stays x) h = h
   top-of (goes-on x _ _ r (acts y c may)) h = top-of r h
   top-of (goes-on x _ _ r (calls y c may bound)) h =
-      written-top (tellingOf (heardIn k j c y) (channelAfter k j c y) (y .watched)) (y .watched .downs) (y .watched .top) (writtenIn (station.afterCall c (y .station))) (top-of r h)
+      written-top (tellingOf (heardIn k c y) (channelAfter j c y) (y .watched)) (y .watched .downs) (y .watched .top) (writtenIn (station.afterCall c (y .station))) (top-of r h)
 
   pub top-fresh : (w : World) (s : radio.State) (life : Condition simple) {y : Ends} → Reach k j (start w s life) y → TopIs (map toldOf (y .watched .downs)) (y .watched .top)
   top-fresh w s life r = top-of r (record { none-above = λ t m. absurd (List·Memᴰ·not-nil m); one-of-them = inl refl })

@@ -4,7 +4,7 @@ use Prim.Native.Nat.{ℕ, _+_, _≤_, _<_, max}
 use mathlib.Core.Path.{_≡_}
 use mathlib.Core.Logic.{_⊎_}
 use mathlib.Core.List.{List, [], _∷_, _++_, map, List·Memᴰ}
-use lib.ListN.{take}
+use lib.ListN.{length, take}
 use Rattle.quantity.specs.declared.count.FlowSequence.{FlowSequence}
 use Rattle.quantity.specs.declared.count.ByteCount.{ByteCount}
 use Rattle.wire.specs.Numbers.{Octets}
@@ -17,9 +17,10 @@ use Rattle.radio_end_state.specs.State as radio
 use Rattle.radio_end_state.specs.Channel.{windowNow}
 use Rattle.radio_end_state.specs.Calls.{After}
 use Rattle.radio_end_run.specs.Run as station
-use Rattle.ips_channel_rules.specs.Rules.{Event, Terms, Condition, final}
+use Rattle.ips_channel_rules.specs.Rules.{next, sent, answered, Event, Terms, Condition, final}
 use Rattle.ips_channel_rules.specs.Simple.{simple}
 use Rattle.ips_state.specs.Memory.{World}
+use Rattle.ips_run.specs.Calling.{calling}
 use Rattle.ips_run.specs.Run.{Call, on, radio, pace, query, after, sees}
 use Rattle.ips_calls.specs.Replies.{replyOf, handedOut}
 use Rattle.joined.specs.Net.{Heard, unheard, afterHearing, reachOf, Bounded, Told, AGE, MOST-GRANTED}
@@ -151,7 +152,7 @@ pub record Ends : Type 0 where
   pub watched : Watched
 
 -- the watched channel: as it is configured at the endpoint, and at an index of the radio's configuration
-module _ (k : Terms) (j : ℕ) where
+module _ (k : Terms) where
   abbrev pub lifeAfter : Call → Ends → Condition simple
   lifeAfter c x = final simple k (sees (k .id) c (x .world)) (x .watched .life)
 
@@ -165,20 +166,30 @@ module _ (k : Terms) (j : ℕ) where
   abbrev pub heardAfter : station.Call → Ends → Heard
   heardAfter c x = heardNow (x .watched .heard) (heardIn c x)
 
-  abbrev pub channelAfter : station.Call → Ends → Channel
-  channelAfter c x = radio.channelAt (station.stateAfter c (x .station)) j
+abbrev pub channelAfter : (j : ℕ) → station.Call → Ends → Channel
+channelAfter j c x = radio.channelAt (station.stateAfter c (x .station)) j
 
+module _ (k : Terms) (j : ℕ) where
   abbrev pub afterCall : station.Call → Ends → Ends
   afterCall c x =
-      record { world = x .world; station = station.stateAfter c (x .station); watched = told (heardIn c x) (channelAfter c x) (writtenIn (station.afterCall c (x .station))) (x .watched) }
+      record { world = x .world; station = station.stateAfter c (x .station); watched = told (heardIn k c x) (channelAfter j c x) (writtenIn (station.afterCall c (x .station))) (x .watched) }
 
   pub data Step : Ends → Ends → Type 0 where
-    acts : (x : Ends) (c : Call) → MayAct c (x .watched) → Step x (afterAct c x)
-    calls : (x : Ends) (c : station.Call) → MayCall k c (x .watched) → boundIf (writtenIn (station.afterCall c (x .station))) (heardAfter c x) (allowanceAt (channelAfter c x)) → Step x (afterCall c x)
+    acts : (x : Ends) (c : Call) → MayAct c (x .watched) → Step x (afterAct k c x)
+    calls : (x : Ends) (c : station.Call) → MayCall k c (x .watched) → boundIf (writtenIn (station.afterCall c (x .station))) (heardAfter k c x) (allowanceAt (channelAfter j c x)) → Step x (afterCall c x)
 
   pub data Reach : Ends → Ends → Type 0 where
     stays : (x : Ends) → Reach x x
     goes-on : (x y z : Ends) → Reach x y → Step y z → Reach x z
+
+-- "the endpoint never sends past the highest window the radio has ever granted": the packet that Next hands over lies with all its bytes at or below the highest number
+-- granted, and each of them is counted
+pub record NotPast (k : Terms) (time : ℕ) (out : List ℕ) (x : Ends) : Type 0 where
+  pub packet : List ℕ
+  pub carried : Sequence
+  pub goes : calling (k .id) (next time out) (x .world) .answer ≡ answered (sent packet carried)
+  pub below : countOf (x .watched) + length packet ≤ x .watched .top
+  pub counted : countOf (afterAct k (on (k .id) (next time out)) x .watched) ≡ countOf (x .watched) + length packet
 
 -- nothing heard, nothing granted, nothing on its way
 abbrev pub unwatched : Condition simple → Watched

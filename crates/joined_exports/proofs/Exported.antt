@@ -1,6 +1,6 @@
 -- Both libraries joined: after two exported starts and any exported calls, whatever the net does, no Next that answers SENT goes past the highest window ever granted.
 -- Assumes nothing.
-use Prim.Native.Nat.{ℕ, zero, suc, _<_, _≤_}
+use Prim.Native.Nat.{ℕ, zero, suc, _<_}
 use mathlib.Core.Path.{_≡_, refl, sym, ap, subst, _∙_}
 use mathlib.Core.Bool.{true}
 use mathlib.Core.List.{List, [], _∷_, _++_, append-nil}
@@ -37,7 +37,7 @@ use Rattle.nespovarda.proofs.Handing.{handful-exported}
 use Rattle.nespovarda_station.specs.Exports as far
 use Rattle.nespovarda_station.specs.Ran.{answerSaid}
 use Rattle.nespovarda_station.proofs.Ran as far-ran
-use Rattle.joined_ends.specs.Ends.{Watched, MayAct, acted, boundIf, Modest, lifeAfter, unwatched}
+use Rattle.joined_ends.specs.Ends.{Watched, MayAct, acted, boundIf, Modest, NotPast, unwatched}
 use Rattle.joined_code.specs.Called.{Lents, endsIn, Asking, nothingAsked}
 use Rattle.joined_code.specs.Called as code
 use Rattle.joined_code.proofs.Called.{joined-never-past, joined-modest}
@@ -91,13 +91,13 @@ module _ (k : Terms) (j : ℕ) (asked : Asking) (from : Lents) where
       let world-is : worldIn l′ ≡ after c w = performed-in (offer-bytes c (o .0)) h .world-is in
       let first : code.Reach k j asked from (record { own = l′; far = far; watched = acted k (sees (k .id) c w) [] x }) =
       subst (λ (datagrams : List (List ℕ)). code.Reach k j asked from (record { own = l′; far = far; watched = acted k (sees (k .id) c w) datagrams x })) none
-      (code.goes-on from found (code.afterActing k j c reply l′ found) r (code.acts found c reply l′ (offer-may c (o .0) x) h)) in
+      (code.goes-on from found (code.afterActing k c reply l′ found) r (code.acts found c reply l′ (offer-may c (o .0) x) h)) in
       let same : acted k (seesAll (k .id) cs (worldIn l′)) [] (acted k (sees (k .id) c w) [] x) ≡ acted k (seesAll (k .id) (c ∷ cs) w) [] x =
       ap (λ (v : World). acted k (seesAll (k .id) cs v) [] (acted k (sees (k .id) c w) [] x)) world-is ∙ acted-both (sees (k .id) c w) (seesAll (k .id) cs (after c w)) x in
       subst (λ (z : Watched). code.Reach k j asked from (record { own = last; far = far; watched = z })) same (offers-reach (o .1) rest far (acted k (sees (k .id) c w) [] x) first)
 
   hands-reach : (x : Lents) (h : Handful) (answers : List ℕ) (r : Answer) (answers′ : List ℕ) (left : Lent) → HandfulExported h (x .own) answers r left answers′
-      → code.Reach k j asked from x → code.Reach k j asked from (afterHanding k j h answers r answers′ left x)
+      → code.Reach k j asked from x → code.Reach k j asked from (afterHanding k h answers r answers′ left x)
   hands-reach x h answers r answers′ left e reach =
       let reply = each (handfulSaid r) answers′ in
       let run : RanIn (x .own) (callsBy (several h answers) reply ++ []) (repliesBy reply ++ []) left = acts-ran (acting.handed (handful-exported e) acting.over) in
@@ -134,16 +134,16 @@ module _ {configuration words memory words′ memory′ : List ℕ} (begun : Sta
     abbrev begins : Lents
     begins = record { own = lent words′ memory′; far = after′; watched = unwatched (simplyAt conf index) }
 
-    -- THE THEOREM, of what is linked: each Next that answers SENT leaves the count at or below the highest number ever granted
+    -- THE THEOREM, of what is linked: the packet of each Next that answers SENT lies at or below the highest number ever granted
     pub exported-never-past : (x : Lents) → Reach k j boundIf begins x → (time : ℕ) (out out′ : List ℕ) (bytes : ℕ) (left : Lent)
-        → Exported (on (k .id) (next time out)) (x .own) (numbers 3 bytes) out′ left → lifeAfter k j (on (k .id) (next time out)) (endsIn x) .counting .count ≤ x .watched .top
+        → Exported (on (k .id) (next time out)) (x .own) (numbers 3 bytes) out′ left → NotPast k time out (endsIn x)
     exported-never-past x r time out out′ bytes left h =
         joined-never-past (start-says begun) (far-ran.start-says far-begun) index inside j far-inside controlled far-controlled same-id same-datalink x (reach-says k j boundIf begins x r) time out out′
         (record { 0 = bytes }) left (exports-say h)
 
     -- and with watermark plus throughput at most 2^30 in the radio's configuration nothing is asked of any window
     pub exported-modest : Modest (getD (far-conf .settings) j radio.noSetting) → (x : Lents) → Reach k j nothingAsked begins x → (time : ℕ) (out out′ : List ℕ) (bytes : ℕ) (left : Lent)
-        → Exported (on (k .id) (next time out)) (x .own) (numbers 3 bytes) out′ left → lifeAfter k j (on (k .id) (next time out)) (endsIn x) .counting .count ≤ x .watched .top
+        → Exported (on (k .id) (next time out)) (x .own) (numbers 3 bytes) out′ left → NotPast k time out (endsIn x)
     exported-modest modest x r time out out′ bytes left h =
         joined-modest (start-says begun) (far-ran.start-says far-begun) index inside j far-inside controlled far-controlled same-id same-datalink modest x (reach-says k j nothingAsked begins x r) time
         out out′ (record { 0 = bytes }) left (exports-say h)

@@ -17,25 +17,25 @@ use Rattle.nespovarda_station.specs.Ran.{answerSaid}
 use Rattle.joined_ends.specs.Ends.{writtenBy, MayAct, MayCall, acted, allowanceAt, heardAfter}
 use Rattle.joined_code.specs.Called.{Lents, endsIn, Asking, channelIn, afterActing, afterCalling}
 
-module _ (k : Terms) (j : ℕ) where
-  -- a handful, by its numbers and the lent answers after it: the watched channel sees the offers that it stands for, and no datagram is handed over
-  abbrev pub afterHanding : Handful → (answers : List ℕ) → Answer → (answers′ : List ℕ) → Lent → Lents → Lents
-  afterHanding h answers r answers′ left x =
-      record {
-        own = left;
-        far = x .far;
-        watched = acted k (seesAll (k .id) (callsBy (several h answers) (each (handfulSaid r) answers′)) (worldIn (x .own))) [] (x .watched);
-      }
+-- a handful, by its numbers and the lent answers after it: the watched channel sees the offers that it stands for, and no datagram is handed over
+abbrev pub afterHanding : Terms → Handful → (answers : List ℕ) → Answer → (answers′ : List ℕ) → Lent → Lents → Lents
+afterHanding k h answers r answers′ left x =
+    record {
+      own = left;
+      far = x .far;
+      watched = acted k (seesAll (k .id) (callsBy (several h answers) (each (handfulSaid r) answers′)) (worldIn (x .own))) [] (x .watched);
+    }
 
+module _ (k : Terms) (j : ℕ) where
   pub data Step (asked : Asking) : Lents → Lents → Type 0 where
     -- the router calls
-    acts : (x : Lents) (c : Call) (r : Answer) (out : List ℕ) (left : Lent) → MayAct c (x .watched) → Exported c (x .own) r out left → Step asked x (afterActing k j c (replySaid c r out) left x)
+    acts : (x : Lents) (c : Call) (r : Answer) (out : List ℕ) (left : Lent) → MayAct c (x .watched) → Exported c (x .own) r out left → Step asked x (afterActing k c (replySaid c r out) left x)
     -- the router offers a handful
     hands : (x : Lents) (h : Handful) (answers : List ℕ) (r : Answer) (answers′ : List ℕ) (left : Lent) → HandfulExported h (x .own) answers r left answers′
-        → Step asked x (afterHanding h answers r answers′ left x)
+        → Step asked x (afterHanding k h answers r answers′ left x)
     -- the radio calls
     calls : (x : Lents) (c : station.Call) (r : Answer) (left out : List ℕ) → MayCall k c (x .watched) → far.Exported (station.afterCall c (words.stateIn (x .far))) (x .far) r left out
-        → asked (writtenBy (answerSaid r) out) (heardAfter k j c (endsIn x)) (allowanceAt (channelIn k j left)) → Step asked x (afterCalling k j c (answerSaid r) left out x)
+        → asked (writtenBy (answerSaid r) out) (heardAfter k c (endsIn x)) (allowanceAt (channelIn j left)) → Step asked x (afterCalling k j c (answerSaid r) left out x)
 
   pub data Reach (asked : Asking) : Lents → Lents → Type 0 where
     stays : (x : Lents) → Reach asked x x
