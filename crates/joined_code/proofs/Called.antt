@@ -39,12 +39,12 @@ use Rattle.ips_words_start.specs.Start.{configurationIn, StartedIn}
 use Rattle.ips_words_start.proofs.Exactly as own-starts
 use Rattle.ips_words_start.proofs.FreshWords.{configuration-small}
 use Rattle.joined_ends.proofs.Fresh.{fresh-radio, modest-bound, modest-stays, modest-fresh}
-use Rattle.joined.specs.Net.{unheard}
+use Rattle.joined.specs.Net.{unheard, Reach, stays, goes-on}
 use Rattle.joined_ends.specs.Ends.{writtenBy, writtenIn, Ends, MayAct, MayCall, told, allowanceAt, boundIf, Modest, afterAct, heardIn, heardAfter, channelAfter, afterCall, NotPast, unwatched}
 use Rattle.joined_ends.specs.Ends as ends
 use Rattle.joined_ends.proofs.Telling.{Radio}
 use Rattle.joined_ends.proofs.Ends.{act-bytes, all-not-past}
-use Rattle.joined_code.specs.Called.{Lents, endsIn, nothingAsked, channelIn, afterActing, afterCalling, Step, acts, calls, Reach, stays, goes-on}
+use Rattle.joined_code.specs.Called.{Lents, endsIn, nothingAsked, channelIn, afterActing, afterCalling, Step, acts, calls}
 
 module _ (k : Terms) (j : ℕ) where
   -- ---- a step on words is a step of the ends that they stand for
@@ -74,9 +74,9 @@ module _ (k : Terms) (j : ℕ) where
   step-in _ _ (acts x c reply left may h) = act-in x c reply left may h
   step-in _ _ (calls x c answer left out may h bound) = call-in x c answer left out may h bound
 
-  pub reach-in : (x y : Lents) → Reach k j boundIf x y → ends.Reach k j (endsIn x) (endsIn y)
-  reach-in _ _ (stays x) = ends.stays (endsIn x)
-  reach-in _ _ (goes-on x y z r s) = ends.goes-on (endsIn x) (endsIn y) (endsIn z) (reach-in x y r) (step-in y z s)
+  pub reach-in : (x y : Lents) → Reach (Step k j boundIf) x y → Reach (ends.Step k j) (endsIn x) (endsIn y)
+  reach-in _ _ (stays x) = stays (endsIn x)
+  reach-in _ _ (goes-on x y z r s) = goes-on (endsIn x) (endsIn y) (endsIn z) (reach-in x y r) (step-in y z s)
 
   -- ---- where the watched channel's setting is modest, nothing need be asked of a window
   record Settled (x : Lents) : Type 0 where
@@ -93,10 +93,10 @@ module _ (k : Terms) (j : ℕ) where
       }
 
   record Bounded (b x : Lents) : Type 0 where
-    reach : Reach k j boundIf b x
+    reach : Reach (Step k j boundIf) b x
     settled : Settled x
 
-  modest-reach : (b x : Lents) → Settled b → Reach k j nothingAsked b x → Bounded b x
+  modest-reach : (b x : Lents) → Settled b → Reach (Step k j nothingAsked) b x → Bounded b x
   modest-reach b _ m (stays x) = record { reach = stays x; settled = m }
   modest-reach b _ m (goes-on _ y z r (acts x c reply left may h)) =
       let i = modest-reach b y m r in
@@ -139,15 +139,15 @@ module _ {configuration words memory words′ memory′ : List ℕ} (begun : Sta
       begins = record { own = lent words′ memory′; far = after′; watched = unwatched (simplyAt conf index) }
 
       -- THE THEOREM, of the code's own outcomes: "Then, counting without wrap, the endpoint never sends past the highest window the radio has ever granted"
-      pub joined-never-past : (x : Lents) → Reach k j boundIf begins x → (time : ℕ) (out out′ : List ℕ) (n : ByteCount) (left : Lent)
+      pub joined-never-past : (x : Lents) → Reach (Step k j boundIf) begins x → (time : ℕ) (out out′ : List ℕ) (n : ByteCount) (left : Lent)
           → PerformedIn (on (k .id) (next time out)) (x .own) (ofChannel (asked (NextAnswer.Sent n) out′)) left → NotPast k time out (endsIn x)
       joined-never-past x r time out out′ n left h = go (calling (k .id) (next time out) w .answer) refl (h .reply-is)
         where
           w : World
           w = worldIn (x .own)
 
-          reached : ends.Reach k j (ends.start (freshWorld conf) (far-words.stateIn after′) (simplyAt conf index)) (endsIn x)
-          reached = subst (λ (v : World). ends.Reach k j (ends.start v (far-words.stateIn after′) (simplyAt conf index)) (endsIn x)) (started-in begun) (reach-in k j begins x r)
+          reached : Reach (ends.Step k j) (ends.start (freshWorld conf) (far-words.stateIn after′) (simplyAt conf index)) (endsIn x)
+          reached = subst (λ (v : World). Reach (ends.Step k j) (ends.start v (far-words.stateIn after′) (simplyAt conf index)) (endsIn x)) (started-in begun) (reach-in k j begins x r)
 
           go : (a : rules.Answer Tried) → calling (k .id) (next time out) w .answer ≡ a → ofChannel (asked (NextAnswer.Sent n) out′) ≡ replyOf (on (k .id) (next time out)) w
               → NotPast k time out (endsIn x)
@@ -159,7 +159,7 @@ module _ {configuration words memory words′ memory′ : List ℕ} (begun : Sta
               all-not-past conf taken small index inside controlled j (far-words.stateIn after′) far-there (endsIn x) reached time out packet carried e
 
       -- THE COROLLARY: with watermark plus throughput at most 2^30 in the radio's configuration nothing is asked of any window, for good
-      pub joined-modest : Modest (getD (far-conf .settings) j radio.noSetting) → (x : Lents) → Reach k j nothingAsked begins x → (time : ℕ) (out out′ : List ℕ) (n : ByteCount) (left : Lent)
+      pub joined-modest : Modest (getD (far-conf .settings) j radio.noSetting) → (x : Lents) → Reach (Step k j nothingAsked) begins x → (time : ℕ) (out out′ : List ℕ) (n : ByteCount) (left : Lent)
           → PerformedIn (on (k .id) (next time out)) (x .own) (ofChannel (asked (NextAnswer.Sent n) out′)) left → NotPast k time out (endsIn x)
       joined-modest modest x r = joined-never-past x (modest-reach k j begins x settled r .reach)
         where

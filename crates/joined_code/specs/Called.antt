@@ -49,7 +49,3 @@ module _ (k : Terms) (j : ℕ) where
     acts : (x : Lents) (c : Call) (reply : EndpointReply) (left : Lent) → MayAct c (x .watched) → PerformedIn c (x .own) reply left → Step asked x (afterActing k c reply left x)
     calls : (x : Lents) (c : station.Call) (answer : Answer) (left out : List ℕ) → MayCall k c (x .watched) → far.PerformedIn c (x .far) answer left out
         → asked (writtenBy answer out) (heardAfter k c (endsIn x)) (allowanceAt (channelIn j left)) → Step asked x (afterCalling c answer left out x)
-
-  pub data Reach (asked : Asking) : Lents → Lents → Type 0 where
-    stays : (x : Lents) → Reach asked x x
-    goes-on : (x y z : Lents) → Reach asked x y → Step asked y z → Reach asked x z

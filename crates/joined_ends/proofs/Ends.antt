@@ -34,10 +34,10 @@ use Rattle.ips_run.specs.Run.{Call, on, radio, pace, query}
 use Rattle.ips_run.specs.Run as run
 use Rattle.ips_run.specs.Demand.{bytesIn, ruled, simplyAt}
 use Rattle.ips_calls.specs.Replies.{replyOf, handedOut}
-use Rattle.joined.specs.Net.{Heard, unheard, wordOf, afterHearing, reachOf, Told, Net, afterHear, afterTell, AGE, MOST-GRANTED}
+use Rattle.joined.specs.Net.{Heard, unheard, wordOf, afterHearing, reachOf, Told, Net, afterHear, afterTell, AGE, MOST-GRANTED, Reach, stays, goes-on}
 use Rattle.joined.specs.Net as net
 use Rattle.joined.proofs.Net.{heard-words, together, never-past, never-free}
-use Rattle.joined_ends.specs.Ends.{writtenIn, Sent, Down, Watched, Ends, countOf, statedIn, UpArrives, MayAct, MayCall, sentAt, downAs, heardNow, allowanceAt, boundIf, tellingOf, told, lifeAfter, afterAct, heardIn, heardAfter, channelAfter, afterCall, Step, acts, calls, Reach, stays, goes-on, NotPast, start}
+use Rattle.joined_ends.specs.Ends.{writtenIn, Sent, Down, Watched, Ends, countOf, statedIn, UpArrives, MayAct, MayCall, sentAt, downAs, heardNow, allowanceAt, boundIf, tellingOf, told, lifeAfter, afterAct, heardIn, heardAfter, channelAfter, afterCall, Step, acts, calls, NotPast, start}
 use Rattle.joined_ends.proofs.Moves.{Moves}
 use Rattle.joined_ends.proofs.Stated.{StatesOf, After, Went}
 use Rattle.joined_ends.proofs.Acting.{Own, own-fresh, own-step, own-after, Comes, act-moves, handed-states}
@@ -74,7 +74,7 @@ told-same a b v w p q e f g = rw (e, f, g)
 -- ---- what was heard, in the net
 pub record Listens (x : Net) (hd : Heard) (ss : List FlowSequence) : Type 0 where
   pub net-is : Net
-  pub reach : net.Reach AGE MOST-GRANTED x net-is
+  pub reach : Reach (net.Step AGE MOST-GRANTED) x net-is
   pub counter-is : net-is .counter ≡ x .counter
   pub heard-is : net-is .heard ≡ heardNow hd ss
   pub top-is : net-is .top ≡ x .top
@@ -83,13 +83,13 @@ pub record Listens (x : Net) (hd : Heard) (ss : List FlowSequence) : Type 0 wher
   pub word : heardAll (wordOf hd) ss ≡ wordOf (heardNow hd ss)
 
 listens-none : (x : Net) (hd : Heard) → x .heard ≡ hd → Listens x hd []
-listens-none x hd e = record { net-is = x; reach = net.stays x; counter-is = refl; heard-is = e; top-is = refl; ups-are = refl; downs-are = refl; word = refl }
+listens-none x hd e = record { net-is = x; reach = stays x; counter-is = refl; heard-is = e; top-is = refl; ups-are = refl; downs-are = refl; word = refl }
 
 listens-one : (x : Net) (hd : Heard) (at : ℕ) → x .heard ≡ hd → List·Memᴰ at (x .ups) → x .counter .count < at + AGE → Listens x hd (sequenceAt at ∷ [])
 listens-one x hd at e m young =
     record {
       net-is = afterHear at x;
-      reach = net.goes-on x x (afterHear at x) (net.stays x) (net.hears x at m young);
+      reach = goes-on x x (afterHear at x) (stays x) (net.hears x at m young);
       counter-is = refl;
       heard-is = ap (λ (h : Heard). afterHearing h (sequenceAt at)) e;
       top-is = refl;
@@ -121,7 +121,7 @@ module _ (conf : Configuration) (fits : configurationTaken conf ≡ true) (small
     own : OwnIn (x .world) (x .watched .life)
     far : Radio k j (x .station) (x .watched .heard)
     net-is : Net
-    reach : net.Reach AGE MOST-GRANTED (net.start (startAt conf index .first)) net-is
+    reach : Reach (net.Step AGE MOST-GRANTED) (net.start (startAt conf index .first)) net-is
     counter-is : net-is .counter ≡ x .watched .life .counting
     heard-is : net-is .heard ≡ x .watched .heard
     top-is : net-is .top ≡ x .watched .top
@@ -232,7 +232,7 @@ module _ (conf : Configuration) (fits : configurationTaken conf ≡ true) (small
             window-is = stated-window k j s′ hd′ far′ ∙ sym (window-granted k j s′ hd′ far′);
           }
 
-      reach-there : net.Reach AGE MOST-GRANTED (net.start (startAt conf index .first)) (l .net-is)
+      reach-there : Reach (net.Step AGE MOST-GRANTED) (net.start (startAt conf index .first)) (l .net-is)
       reach-there = together AGE MOST-GRANTED (net.start (startAt conf index .first)) (i .net-is) (l .net-is) (i .reach) (l .reach)
 
       -- what the net tells is what was written
@@ -271,7 +271,7 @@ module _ (conf : Configuration) (fits : configurationTaken conf ≡ true) (small
             own = i .own;
             far = far′;
             net-is = y;
-            reach = net.goes-on (net.start (startAt conf index .first)) (l .net-is) y reach-there (net.tells (l .net-is) a (subst (λ (h : Heard). net.Bounded MOST-GRANTED h a) (sym (l .heard-is)) bound));
+            reach = goes-on (net.start (startAt conf index .first)) (l .net-is) y reach-there (net.tells (l .net-is) a (subst (λ (h : Heard). net.Bounded MOST-GRANTED h a) (sym (l .heard-is)) bound));
             counter-is = l .counter-is ∙ i .counter-is;
             heard-is = l .heard-is;
             top-is = ap (λ (n : ℕ). max n (reachOf (l .net-is .heard) a)) (l .top-is ∙ i .top-is) ∙ ap (λ (h : Heard). max (x .watched .top) (reachOf h a)) (l .heard-is);
@@ -296,7 +296,7 @@ module _ (conf : Configuration) (fits : configurationTaken conf ≡ true) (small
   keeps _ _ (acts x c may) i = act-keeps x c may i
   keeps _ _ (calls x c may bound) i = call-keeps x i c may bound
 
-  keeps-all : (x y : Ends) → Reach k j x y → Joined x → Joined y
+  keeps-all : (x y : Ends) → Reach (Step k j) x y → Joined x → Joined y
   keeps-all _ _ (stays x) i = i
   keeps-all _ _ (goes-on x y z r s) i = keeps y z s (keeps-all x y r i)
 
@@ -311,7 +311,7 @@ module _ (conf : Configuration) (fits : configurationTaken conf ≡ true) (small
           own = own-fresh conf fits small index inside controlled;
           far = far;
           net-is = net.start (startAt conf index .first);
-          reach = net.stays (net.start (startAt conf index .first));
+          reach = stays (net.start (startAt conf index .first));
           counter-is = rw controlled;
           heard-is = refl;
           top-is = refl;
@@ -321,7 +321,7 @@ module _ (conf : Configuration) (fits : configurationTaken conf ≡ true) (small
           downs-state = λ d m. absurd (List·Memᴰ·not-nil m);
         }
 
-    goes : (x : Ends) → Reach k j fresh x → (time : ℕ) (out packet : List ℕ) (carried : Sequence)
+    goes : (x : Ends) → Reach (Step k j) fresh x → (time : ℕ) (out packet : List ℕ) (carried : Sequence)
         → calling (k .id) (next time out) (x .world) .answer ≡ answered (sent packet carried) → Went packet carried (x .watched .life .counting) (step simple k (call (next time out)) (x .watched .life) .counting)
     goes x r time out packet carried given =
         let i = keeps-all fresh x r joined-fresh in
@@ -329,7 +329,7 @@ module _ (conf : Configuration) (fits : configurationTaken conf ≡ true) (small
         (own-after conf fits small index inside controlled (x .world) (x .watched .life) (i .own) (next time out))
 
     -- THE THEOREM: whatever is called at either end, and whatever the net does: a packet that Next hands over on the channel isn't past the highest window ever granted
-    pub all-never-past : (x : Ends) → Reach k j fresh x → (time : ℕ) (out packet : List ℕ) (carried : Sequence)
+    pub all-never-past : (x : Ends) → Reach (Step k j) fresh x → (time : ℕ) (out packet : List ℕ) (carried : Sequence)
         → calling (k .id) (next time out) (x .world) .answer ≡ answered (sent packet carried) → countOf (x .watched) + length packet ≤ x .watched .top
     all-never-past x r time out packet carried given =
         let i = keeps-all fresh x r joined-fresh in
@@ -339,13 +339,13 @@ module _ (conf : Configuration) (fits : configurationTaken conf ≡ true) (small
         let below : i .net-is .counter .count + length packet ≤ i .net-is .top = never-past (startAt conf index .first) (small index inside) (i .net-is) (i .reach) n may in
         subst (λ (y : Counter). y .count + length packet ≤ x .watched .top) (i .counter-is) (subst (λ (t : ℕ). i .net-is .counter .count + length packet ≤ t) (i .top-is) below)
 
-    never-free-there : (x : Ends) → Reach k j fresh x → x .watched .life .counting .limit ≡ free → ⊥
+    never-free-there : (x : Ends) → Reach (Step k j) fresh x → x .watched .life .counting .limit ≡ free → ⊥
     never-free-there x r e =
         let i = keeps-all fresh x r joined-fresh in
         never-free (startAt conf index .first) (small index inside) (i .net-is) (i .reach) (ap (λ (y : Counter). y .limit) (i .counter-is) ∙ e)
 
     -- each of its bytes is counted: the channel is never free
-    pub all-counted : (x : Ends) → Reach k j fresh x → (time : ℕ) (out packet : List ℕ) (carried : Sequence)
+    pub all-counted : (x : Ends) → Reach (Step k j) fresh x → (time : ℕ) (out packet : List ℕ) (carried : Sequence)
         → calling (k .id) (next time out) (x .world) .answer ≡ answered (sent packet carried) → countOf (afterAct k (on (k .id) (next time out)) x .watched) ≡ countOf (x .watched) + length packet
     all-counted x r time out packet carried given = by (eqb (k .id) (k .id)) refl
       where
@@ -358,7 +358,7 @@ module _ (conf : Configuration) (fits : configurationTaken conf ≡ true) (small
             ap (λ (y : Counter). y .count) (went .counter-is) ∙ grows-all (c .count) (c .limit) (length packet) (never-free-there x r) (went .fits)
         by false e = absurd (eqb-false (k .id) (k .id) e refl)
 
-    pub all-not-past : (x : Ends) → Reach k j fresh x → (time : ℕ) (out packet : List ℕ) (carried : Sequence)
+    pub all-not-past : (x : Ends) → Reach (Step k j) fresh x → (time : ℕ) (out packet : List ℕ) (carried : Sequence)
         → calling (k .id) (next time out) (x .world) .answer ≡ answered (sent packet carried) → NotPast k time out x
     all-not-past x r time out packet carried given =
         record {

@@ -14,9 +14,9 @@ use Rattle.ips_state.specs.Memory.{World}
 use Rattle.ips_run.specs.Run.{Call, after, afterAll, sees, seesAll}
 use Rattle.ips_run.proofs.Whole.{sees-append}
 use Rattle.radio_flow.specs.Numbers.{numberOf, larger, numberAfter}
-use Rattle.joined.specs.Net.{Heard, unheard, heardTo, afterHearing, Told, TopIs}
+use Rattle.joined.specs.Net.{Heard, unheard, heardTo, afterHearing, Told, TopIs, Reach, stays, goes-on}
 use Rattle.joined.proofs.Net.{top-more}
-use Rattle.joined_ends.specs.Ends.{writtenIn, Down, Ends, downAs, heardNow, topWith, tellingOf, heardIn, channelAfter, afterCall, acts, calls, Reach, stays, goes-on, start}
+use Rattle.joined_ends.specs.Ends.{writtenIn, Down, Ends, downAs, heardNow, topWith, tellingOf, heardIn, channelAfter, afterCall, Step, acts, calls, start}
 use Rattle.joined_ends.proofs.Acting.{after-one}
 
 states-one : (cs : List station.Call) (c : station.Call) (s : radio.State) → station.statesAfter (cs ++ (c ∷ [])) s ≡ station.stateAfter c (station.statesAfter cs s)
@@ -44,23 +44,23 @@ number-is first later = number-on (first .0) later
 
 module _ (k : Terms) (j : ℕ) where
   -- the calls of each end, in order
-  abbrev pub madeBy : {x y : Ends} → Reach k j x y → List Call
+  abbrev pub madeBy : {x y : Ends} → Reach (Step k j) x y → List Call
   madeBy (stays x) = []
   madeBy (goes-on x _ _ r (acts y c may)) = madeBy r ++ (c ∷ [])
   madeBy (goes-on x _ _ r (calls y c may bound)) = madeBy r
 
-  abbrev pub calledBy : {x y : Ends} → Reach k j x y → List station.Call
+  abbrev pub calledBy : {x y : Ends} → Reach (Step k j) x y → List station.Call
   calledBy (stays x) = []
   calledBy (goes-on x _ _ r (acts y c may)) = calledBy r
   calledBy (goes-on x _ _ r (calls y c may bound)) = calledBy r ++ (c ∷ [])
 
   -- the endpoint is where its calls lead, and the life beside it is the simple channel's on what the channel saw
-  pub world-made : {x y : Ends} (r : Reach k j x y) → y .world ≡ afterAll (madeBy r) (x .world)
+  pub world-made : {x y : Ends} (r : Reach (Step k j) x y) → y .world ≡ afterAll (madeBy r) (x .world)
   world-made (stays x) = refl
   world-made (goes-on x _ _ r (acts y c may)) = ap (after c) (world-made r) ∙ sym (after-one (madeBy r) c (x .world))
   world-made (goes-on x _ _ r (calls y c may bound)) = world-made r
 
-  pub life-made : {x y : Ends} (r : Reach k j x y) → y .watched .life ≡ final simple k (seesAll (k .id) (madeBy r) (x .world)) (x .watched .life)
+  pub life-made : {x y : Ends} (r : Reach (Step k j) x y) → y .watched .life ≡ final simple k (seesAll (k .id) (madeBy r) (x .world)) (x .watched .life)
   life-made (stays x) = refl
   life-made (goes-on x _ _ r (acts y c may)) =
       let cs = madeBy r in
@@ -71,12 +71,12 @@ module _ (k : Terms) (j : ℕ) where
   life-made (goes-on x _ _ r (calls y c may bound)) = life-made r
 
   -- the radio's end is where its calls lead, and the number beside it is that of the words it heard
-  pub station-called : {x y : Ends} (r : Reach k j x y) → y .station ≡ station.statesAfter (calledBy r) (x .station)
+  pub station-called : {x y : Ends} (r : Reach (Step k j) x y) → y .station ≡ station.statesAfter (calledBy r) (x .station)
   station-called (stays x) = refl
   station-called (goes-on x _ _ r (acts y c may)) = station-called r
   station-called (goes-on x _ _ r (calls y c may bound)) = ap (station.stateAfter c) (station-called r) ∙ sym (states-one (calledBy r) c (x .station))
 
-  pub heard-called : {x y : Ends} (r : Reach k j x y) → y .watched .heard ≡ heardNow (x .watched .heard) (station.heardThrough (calledBy r) (x .station) (k .id))
+  pub heard-called : {x y : Ends} (r : Reach (Step k j) x y) → y .watched .heard ≡ heardNow (x .watched .heard) (station.heardThrough (calledBy r) (x .station) (k .id))
   heard-called (stays x) = refl
   heard-called (goes-on x _ _ r (acts y c may)) = heard-called r
   heard-called (goes-on x _ _ r (calls y c may bound)) =
@@ -100,11 +100,11 @@ module _ (k : Terms) (j : ℕ) where
       subst (TopIs (map toldOf (map (downAs t) (e ∷ (f ∷ es)) ++ ds))) (again top (t .reaches))
       (top-more t (map toldOf (map (downAs t) (f ∷ es) ++ ds)) (max top (t .reaches)) (written-top t ds top (f ∷ es) h))
 
-  pub top-of : {x y : Ends} → Reach k j x y → TopIs (map toldOf (x .watched .downs)) (x .watched .top) → TopIs (map toldOf (y .watched .downs)) (y .watched .top)
+  pub top-of : {x y : Ends} → Reach (Step k j) x y → TopIs (map toldOf (x .watched .downs)) (x .watched .top) → TopIs (map toldOf (y .watched .downs)) (y .watched .top)
   top-of (stays x) h = h
   top-of (goes-on x _ _ r (acts y c may)) h = top-of r h
   top-of (goes-on x _ _ r (calls y c may bound)) h =
       written-top (tellingOf (heardIn k c y) (channelAfter j c y) (y .watched)) (y .watched .downs) (y .watched .top) (writtenIn (station.afterCall c (y .station))) (top-of r h)
 
-  pub top-fresh : (w : World) (s : radio.State) (life : Condition simple) {y : Ends} → Reach k j (start w s life) y → TopIs (map toldOf (y .watched .downs)) (y .watched .top)
+  pub top-fresh : (w : World) (s : radio.State) (life : Condition simple) {y : Ends} → Reach (Step k j) (start w s life) y → TopIs (map toldOf (y .watched .downs)) (y .watched .top)
   top-fresh w s life r = top-of r (record { none-above = λ t m. absurd (List·Memᴰ·not-nil m); one-of-them = inl refl })

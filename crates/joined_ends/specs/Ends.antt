@@ -178,10 +178,6 @@ module _ (k : Terms) (j : ℕ) where
     acts : (x : Ends) (c : Call) → MayAct c (x .watched) → Step x (afterAct k c x)
     calls : (x : Ends) (c : station.Call) → MayCall k c (x .watched) → boundIf (writtenIn (station.afterCall c (x .station))) (heardAfter k c x) (allowanceAt (channelAfter j c x)) → Step x (afterCall c x)
 
-  pub data Reach : Ends → Ends → Type 0 where
-    stays : (x : Ends) → Reach x x
-    goes-on : (x y z : Ends) → Reach x y → Step y z → Reach x z
-
 -- "the endpoint never sends past the highest window the radio has ever granted": the packet that Next hands over lies with all its bytes at or below the highest number
 -- granted, and each of them is counted
 pub record NotPast (k : Terms) (time : ℕ) (out : List ℕ) (x : Ends) : Type 0 where

@@ -37,11 +37,12 @@ use Rattle.nespovarda.proofs.Handing.{handful-exported}
 use Rattle.nespovarda_station.specs.Exports as far
 use Rattle.nespovarda_station.specs.Ran.{answerSaid}
 use Rattle.nespovarda_station.proofs.Ran as far-ran
+use Rattle.joined.specs.Net.{Reach, stays, goes-on}
 use Rattle.joined_ends.specs.Ends.{Watched, MayAct, acted, boundIf, Modest, NotPast, unwatched}
 use Rattle.joined_code.specs.Called.{Lents, endsIn, Asking, nothingAsked}
 use Rattle.joined_code.specs.Called as code
 use Rattle.joined_code.proofs.Called.{joined-never-past, joined-modest}
-use Rattle.joined_exports.specs.Exported.{afterHanding, Step, acts, hands, calls, Reach, stays, goes-on}
+use Rattle.joined_exports.specs.Exported.{afterHanding, Step, acts, hands, calls}
 
 -- ---- offers hand no datagram over
 abbrev Offers : Call → Type 0
@@ -81,23 +82,23 @@ module _ (k : Terms) (j : ℕ) (asked : Asking) (from : Lents) where
       ap {B = Watched} (λ (life : Condition simple). record { life = life; heard = x .heard; top = x .top; ups = x .ups; downs = x .downs }) (sym (final-append simple k seen more (x .life)))
 
   offers-reach : {l last : Lent} {cs : List Call} {xs : List EndpointReply} → AllOffers cs → RanIn l cs xs last → (far : List ℕ) (x : Watched)
-      → code.Reach k j asked from (record { own = l; far = far; watched = x })
-      → code.Reach k j asked from (record { own = last; far = far; watched = acted k (seesAll (k .id) cs (worldIn l)) [] x })
+      → Reach (code.Step k j asked) from (record { own = l; far = far; watched = x })
+      → Reach (code.Step k j asked) from (record { own = last; far = far; watched = acted k (seesAll (k .id) cs (worldIn l)) [] x })
   offers-reach o over far x r = r
   offers-reach {l} {last} o (ran {l′ = l′} {c = c} {x = reply} {cs = cs} h rest) far x r =
       let w = worldIn l in
       let found : Lents = record { own = l; far = far; watched = x } in
       let none : handedOut reply ≡ [] = ap handedOut (h .reply-is) ∙ offer-nothing c (o .0) w in
       let world-is : worldIn l′ ≡ after c w = performed-in (offer-bytes c (o .0)) h .world-is in
-      let first : code.Reach k j asked from (record { own = l′; far = far; watched = acted k (sees (k .id) c w) [] x }) =
-      subst (λ (datagrams : List (List ℕ)). code.Reach k j asked from (record { own = l′; far = far; watched = acted k (sees (k .id) c w) datagrams x })) none
-      (code.goes-on from found (code.afterActing k c reply l′ found) r (code.acts found c reply l′ (offer-may c (o .0) x) h)) in
+      let first : Reach (code.Step k j asked) from (record { own = l′; far = far; watched = acted k (sees (k .id) c w) [] x }) =
+      subst (λ (datagrams : List (List ℕ)). Reach (code.Step k j asked) from (record { own = l′; far = far; watched = acted k (sees (k .id) c w) datagrams x })) none
+      (goes-on from found (code.afterActing k c reply l′ found) r (code.acts found c reply l′ (offer-may c (o .0) x) h)) in
       let same : acted k (seesAll (k .id) cs (worldIn l′)) [] (acted k (sees (k .id) c w) [] x) ≡ acted k (seesAll (k .id) (c ∷ cs) w) [] x =
       ap (λ (v : World). acted k (seesAll (k .id) cs v) [] (acted k (sees (k .id) c w) [] x)) world-is ∙ acted-both (sees (k .id) c w) (seesAll (k .id) cs (after c w)) x in
-      subst (λ (z : Watched). code.Reach k j asked from (record { own = last; far = far; watched = z })) same (offers-reach (o .1) rest far (acted k (sees (k .id) c w) [] x) first)
+      subst (λ (z : Watched). Reach (code.Step k j asked) from (record { own = last; far = far; watched = z })) same (offers-reach (o .1) rest far (acted k (sees (k .id) c w) [] x) first)
 
   hands-reach : (x : Lents) (h : Handful) (answers : List ℕ) (r : Answer) (answers′ : List ℕ) (left : Lent) → HandfulExported h (x .own) answers r left answers′
-      → code.Reach k j asked from x → code.Reach k j asked from (afterHanding k h answers r answers′ left x)
+      → Reach (code.Step k j asked) from x → Reach (code.Step k j asked) from (afterHanding k h answers r answers′ left x)
   hands-reach x h answers r answers′ left e reach =
       let reply = each (handfulSaid r) answers′ in
       let run : RanIn (x .own) (callsBy (several h answers) reply ++ []) (repliesBy reply ++ []) left = acts-ran (acting.handed (handful-exported e) acting.over) in
@@ -106,13 +107,13 @@ module _ (k : Terms) (j : ℕ) (asked : Asking) (from : Lents) where
       offers-reach (handful-offers h answers answers′ (handfulSaid r)) plain (x .far) (x .watched) reach
 
   -- ---- an exported call is the call that its numbers say
-  step-says : (x y : Lents) → Step k j asked x y → code.Reach k j asked from x → code.Reach k j asked from y
-  step-says _ y (acts x c r out left may h) reach = code.goes-on from x y reach (code.acts x c (replySaid c r out) left may (exports-say h))
+  step-says : (x y : Lents) → Step k j asked x y → Reach (code.Step k j asked) from x → Reach (code.Step k j asked) from y
+  step-says _ y (acts x c r out left may h) reach = goes-on from x y reach (code.acts x c (replySaid c r out) left may (exports-say h))
   step-says _ y (hands x h answers r answers′ left e) reach = hands-reach x h answers r answers′ left e reach
-  step-says _ y (calls x c r left out may h bound) reach = code.goes-on from x y reach (code.calls x c (answerSaid r) left out may (far-ran.exports-say h) bound)
+  step-says _ y (calls x c r left out may h bound) reach = goes-on from x y reach (code.calls x c (answerSaid r) left out may (far-ran.exports-say h) bound)
 
-  pub reach-says : (x : Lents) → Reach k j asked from x → code.Reach k j asked from x
-  reach-says _ (stays x) = code.stays x
+  pub reach-says : (x : Lents) → Reach (Step k j asked) from x → Reach (code.Step k j asked) from x
+  reach-says _ (stays x) = stays x
   reach-says _ (goes-on _ y z r s) = step-says y z s (reach-says y r)
 
 -- ---- from two exported starts that answer STARTED, on any words and any memory
@@ -135,14 +136,14 @@ module _ {configuration words memory words′ memory′ : List ℕ} (begun : Sta
     begins = record { own = lent words′ memory′; far = after′; watched = unwatched (simplyAt conf index) }
 
     -- THE THEOREM, of what is linked: the packet of each Next that answers SENT lies at or below the highest number ever granted
-    pub exported-never-past : (x : Lents) → Reach k j boundIf begins x → (time : ℕ) (out out′ : List ℕ) (bytes : ℕ) (left : Lent)
+    pub exported-never-past : (x : Lents) → Reach (Step k j boundIf) begins x → (time : ℕ) (out out′ : List ℕ) (bytes : ℕ) (left : Lent)
         → Exported (on (k .id) (next time out)) (x .own) (numbers 3 bytes) out′ left → NotPast k time out (endsIn x)
     exported-never-past x r time out out′ bytes left h =
         joined-never-past (start-says begun) (far-ran.start-says far-begun) index inside j far-inside controlled far-controlled same-id same-datalink x (reach-says k j boundIf begins x r) time out out′
         (record { 0 = bytes }) left (exports-say h)
 
     -- and with watermark plus throughput at most 2^30 in the radio's configuration nothing is asked of any window
-    pub exported-modest : Modest (getD (far-conf .settings) j radio.noSetting) → (x : Lents) → Reach k j nothingAsked begins x → (time : ℕ) (out out′ : List ℕ) (bytes : ℕ) (left : Lent)
+    pub exported-modest : Modest (getD (far-conf .settings) j radio.noSetting) → (x : Lents) → Reach (Step k j nothingAsked) begins x → (time : ℕ) (out out′ : List ℕ) (bytes : ℕ) (left : Lent)
         → Exported (on (k .id) (next time out)) (x .own) (numbers 3 bytes) out′ left → NotPast k time out (endsIn x)
     exported-modest modest x r time out out′ bytes left h =
         joined-modest (start-says begun) (far-ran.start-says far-begun) index inside j far-inside controlled far-controlled same-id same-datalink modest x (reach-says k j nothingAsked begins x r) time

@@ -36,7 +36,3 @@ module _ (k : Terms) (j : ℕ) where
     -- the radio calls
     calls : (x : Lents) (c : station.Call) (r : Answer) (left out : List ℕ) → MayCall k c (x .watched) → far.Exported (station.afterCall c (words.stateIn (x .far))) (x .far) r left out
         → asked (writtenBy (answerSaid r) out) (heardAfter k c (endsIn x)) (allowanceAt (channelIn j left)) → Step asked x (afterCalling k j c (answerSaid r) left out x)
-
-  pub data Reach (asked : Asking) : Lents → Lents → Type 0 where
-    stays : (x : Lents) → Reach asked x x
-    goes-on : (x y z : Lents) → Reach asked x y → Step asked y z → Reach asked x z
