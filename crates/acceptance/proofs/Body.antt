@@ -13,10 +13,10 @@ use Rattle.quantity.specs.declared.count.DatalinkId.{DatalinkId}
 use Rattle.wire.specs.Options.{Options, done, cut, option}
 use Rattle.meaning.specs.declared.message.End.{End}
 use Rattle.meaning.specs.declared.message.Plane.{Plane}
-use Rattle.meaning.specs.Kinds.{among, standsLast, mustHold}
+use Rattle.meaning.specs.Kinds.{among, stands_last, must_hold}
 use Rattle.read_option.specs.Stated.{Table}
-use Rattle.acceptance.specs.Account.{All, Listed, is_at, speaksFor, one, speaks, count, the, Ending, Filled, Paired, Ours}
-use Rattle.acceptance.proofs.Lists.{last-speaks}
+use Rattle.acceptance.specs.Account.{All, Listed, is_at, speaks_for, one, speaks, count, the, Ending, Filled, Paired, Ours}
+use Rattle.acceptance.proofs.Lists.{last_speaks}
 use Rattle.acceptance.proofs.Seats.{taken_free, Free, adding}
 
 -- ---- one place of a table
@@ -29,9 +29,9 @@ abbrev pub or : Option (List ℕ) → Option (List ℕ) → Option (List ℕ)
 or none y = y
 or (some content) y = some content
 
-or-none : (x : Option (List ℕ)) → or x none ≡ x
-or-none none = refl
-or-none (some content) = refl
+or_none : (x : Option (List ℕ)) → or x none ≡ x
+or_none none = refl
+or_none (some content) = refl
 
 pub at_most : (x : Option (List ℕ)) → taken x + 0 ≤ 1
 at_most none = omega arith
@@ -52,7 +52,7 @@ same true (some other) y content n h = absurd (omega arith)
 
 -- nothing that stands last is stated yet
 abbrev pub Open : Plane → Table → Type 0
-Open plane τ = (kind : ℕ) → among kind (standsLast plane) ≡ true → τ kind 0 ≡ none
+Open plane τ = (kind : ℕ) → among kind (stands_last plane) ≡ true → τ kind 0 ≡ none
 
 module _ (plane : Plane) (end : End) where
   -- the two together have at most one for each type and channel
@@ -69,38 +69,38 @@ module _ (plane : Plane) (end : End) where
   Opens τ (cut rest) = Unit {0}
   Opens τ (option kind content f) = Open plane τ
 
-  pub plus-done : (τ : Table) → plus τ done ≡ τ
+  pub plus_done : (τ : Table) → plus τ done ≡ τ
   unfolding the
-  plus-done τ = λ i k n. or-none (τ k n) i
+  plus_done τ = λ i k n. or_none (τ k n) i
 
   module _ (τ : Table) (kind : ℕ) (content : List ℕ) where
-    pub plus-option : (f : Options) → Room τ (option kind content f) → plus (adding plane end kind content τ) f ≡ plus τ (option kind content f)
+    pub plus_option : (f : Options) → Room τ (option kind content f) → plus (adding plane end kind content τ) f ≡ plus τ (option kind content f)
     unfolding the count
-    plus-option f room = λ i k n. same (speaks plane end k n kind content) (τ k n) (the plane end k n f) content (count plane end k n f) (room k n) i
+    plus_option f room = λ i k n. same (speaks plane end k n kind content) (τ k n) (the plane end k n f) content (count plane end k n f) (room k n) i
 
-    pub room-option : (f : Options) → Room τ (option kind content f) ↔ Free plane end kind content τ × Room (adding plane end kind content τ) f
+    pub room_option : (f : Options) → Room τ (option kind content f) ↔ Free plane end kind content τ × Room (adding plane end kind content τ) f
     unfolding count
-    room-option f = ((λ room. ((λ k n. ((seat k n).0 (room k n)).0), λ k n. ((seat k n).0 (room k n)).1)), λ h k n. (seat k n).1 (h.0 k n, h.1 k n))
+    room_option f = ((λ room. ((λ k n. ((seat k n).0 (room k n)).0), λ k n. ((seat k n).0 (room k n)).1)), λ h k n. (seat k n).1 (h.0 k n, h.1 k n))
       where
         seat : (k n : ℕ) → taken (τ k n) + (one (speaks plane end k n kind content) + count plane end k n f) ≤ 1
             ↔ (speaks plane end k n kind content ≡ true → τ k n ≡ none) × (taken (adding plane end kind content τ k n) + count plane end k n f ≤ 1)
         seat k n = sits (speaks plane end k n kind content) (τ k n) content (count plane end k n f)
 
     -- no option stands behind one that stands last
-    pub still_open : (f : Options) → Open plane τ → (among kind (standsLast plane) ≡ true → f ≡ done) → Opens (adding plane end kind content τ) f
+    pub still_open : (f : Options) → Open plane τ → (among kind (stands_last plane) ≡ true → f ≡ done) → Opens (adding plane end kind content τ) f
     still_open done o h = tt
     still_open (cut rest) o h = tt
     still_open (option u d f) o h = λ k q. go k q (eqb k kind) refl
       where
-        go : (k : ℕ) → among k (standsLast plane) ≡ true → (b : Bool) → eqb k kind ≡ b
-            → cond (cond b (is_at 0 (speaksFor plane end kind content)) false) (some content) (τ k 0) ≡ none
+        go : (k : ℕ) → among k (stands_last plane) ≡ true → (b : Bool) → eqb k kind ≡ b
+            → cond (cond b (is_at 0 (speaks_for plane end kind content)) false) (some content) (τ k 0) ≡ none
         go k q false e = o k q
         go k q true e = let x : option u d f ≡ done = h (rw (eqb-true k kind e) at q) in clash (cc)
 
-    pub ended : (f : Options) → All (Listed plane end) f → Opens (adding plane end kind content τ) f → among kind (standsLast plane) ≡ true → f ≡ done
+    pub ended : (f : Options) → All (Listed plane end) f → Opens (adding plane end kind content τ) f → among kind (stands_last plane) ≡ true → f ≡ done
     ended done l o h = refl
     ended (cut rest) l o h = absurd l
-    ended (option u d f) l o h = taken_free (rw (last-speaks plane end content kind h, eq-eqb kind kind refl) at (o kind h))
+    ended (option u d f) l o h = taken_free (rw (last_speaks plane end content kind h, eq-eqb kind kind refl) at (o kind h))
 
 -- ---- what is allowed
 
@@ -112,7 +112,7 @@ pub record Admitted (plane : Plane) (end : End) (τ : Table) (kind : ℕ) (conte
 
 -- no option needs to follow
 pub record Complete (plane : Plane) (end : End) (id : DatalinkId) (τ : Table) : Type 0 where
-  pub filled : Filled (mustHold plane end) τ
+  pub filled : Filled (must_hold plane end) τ
   pub paired : Paired plane τ
   pub ours : Ours id τ
 
@@ -129,17 +129,17 @@ pub record Allowed (plane : Plane) (end : End) (id : DatalinkId) (τ : Table) (f
   pub complete : Complete plane end id (plus plane end τ f)
 
 module _ (plane : Plane) (end : End) where
-  pub faultless-done : (τ : Table) → Faultless plane end τ done
+  pub faultless_done : (τ : Table) → Faultless plane end τ done
   unfolding count
-  faultless-done τ = record { listed = tt; room = λ k n. at_most (τ k n); opens = tt; ending = tt }
+  faultless_done τ = record { listed = tt; room = λ k n. at_most (τ k n); opens = tt; ending = tt }
 
-  pub faultless-option : (τ : Table) (kind : ℕ) (content : List ℕ) (f : Options)
+  pub faultless_option : (τ : Table) (kind : ℕ) (content : List ℕ) (f : Options)
       → Faultless plane end τ (option kind content f) ↔ Admitted plane end τ kind content × Faultless plane end (adding plane end kind content τ) f
-  faultless-option τ kind content f = (forth, λ h. back h.0 h.1)
+  faultless_option τ kind content f = (forth, λ h. back h.0 h.1)
     where
       forth : Faultless plane end τ (option kind content f) → Admitted plane end τ kind content × Faultless plane end (adding plane end kind content τ) f
       forth w =
-          let r = (room-option plane end τ kind content f).0 w.room in (
+          let r = (room_option plane end τ kind content f).0 w.room in (
             record { listed = w.listed.0; free = r.0; opens = w.opens },
             record { listed = w.listed.1; room = r.1; opens = still_open plane end τ kind content f w.opens w.ending.0; ending = w.ending.1 },
           )
@@ -147,25 +147,25 @@ module _ (plane : Plane) (end : End) where
       back : Admitted plane end τ kind content → Faultless plane end (adding plane end kind content τ) f → Faultless plane end τ (option kind content f)
       back a w = record {
         listed = (a.listed, w.listed);
-        room = (room-option plane end τ kind content f).1 (a.free, w.room);
+        room = (room_option plane end τ kind content f).1 (a.free, w.room);
         opens = a.opens;
         ending = (ended plane end τ kind content f w.listed w.opens, w.ending);
       }
 
   module _ (id : DatalinkId) where
-    pub allowed-done : (τ : Table) → Allowed plane end id τ done ↔ Complete plane end id τ
-    allowed-done τ = ((λ w. rw plus-done at w.complete), λ c. record { faultless = faultless-done τ; complete = rw (plus-done plane end τ) c })
+    pub allowed_done : (τ : Table) → Allowed plane end id τ done ↔ Complete plane end id τ
+    allowed_done τ = ((λ w. rw plus_done at w.complete), λ c. record { faultless = faultless_done τ; complete = rw (plus_done plane end τ) c })
 
-    pub allowed-option : (τ : Table) (kind : ℕ) (content : List ℕ) (f : Options)
+    pub allowed_option : (τ : Table) (kind : ℕ) (content : List ℕ) (f : Options)
         → Allowed plane end id τ (option kind content f) ↔ Admitted plane end τ kind content × Allowed plane end id (adding plane end kind content τ) f
-    allowed-option τ kind content f = (forth, λ h. back h.0 h.1)
+    allowed_option τ kind content f = (forth, λ h. back h.0 h.1)
       where
         forth : Allowed plane end id τ (option kind content f) → Admitted plane end τ kind content × Allowed plane end id (adding plane end kind content τ) f
         forth w =
-            let both = (faultless-option τ kind content f).0 w.faultless in
-            (both.0, record { faultless = both.1; complete = rw (plus-option plane end τ kind content f w.faultless.room) w.complete })
+            let both = (faultless_option τ kind content f).0 w.faultless in
+            (both.0, record { faultless = both.1; complete = rw (plus_option plane end τ kind content f w.faultless.room) w.complete })
 
         back : Admitted plane end τ kind content → Allowed plane end id (adding plane end kind content τ) f → Allowed plane end id τ (option kind content f)
         back a w =
-            let whole = (faultless-option τ kind content f).1 (a, w.faultless) in
-            record { faultless = whole; complete = rw (plus-option plane end τ kind content f whole.room) at w.complete }
+            let whole = (faultless_option τ kind content f).1 (a, w.faultless) in
+            record { faultless = whole; complete = rw (plus_option plane end τ kind content f whole.room) at w.complete }

@@ -11,7 +11,7 @@ use Rattle.facts.specs.Tables.{tabulate}
 use Rattle.facts.proofs.Tests.{clash}
 use Rattle.quantity.specs.declared.count.DatalinkId.{DatalinkId}
 use Rattle.quantity.specs.Limits.{CHANNEL-IDS, LONGEST-DATAGRAM}
-use Rattle.wire.specs.Numbers.{Octets, bigEndian}
+use Rattle.wire.specs.Numbers.{Octets, big_endian}
 use Rattle.wire.specs.Options.{Options, done, cut, option, bytes}
 use Rattle.meaning.specs.declared.message.End.{End}
 use Rattle.meaning.specs.declared.message.End.TheVariants.{Ips, Radio}
@@ -20,79 +20,79 @@ use Rattle.meaning.specs.declared.message.Window.{Window}
 use Rattle.meaning.specs.declared.message.StatusCell.{StatusCell}
 use Rattle.meaning.specs.declared.message.SequenceCell.{SequenceCell}
 use Rattle.meaning.specs.declared.message.WindowCell.{WindowCell}
-use Rattle.meaning.specs.Kinds.{among, mayHold, DATALINK-IDENTIFIER, LINK-INSTANCE, DATALINK-CONTEXT, CHANNEL-STATUS, FLOW-WINDOW, FLOW-SEQUENCE}
-use Rattle.meaning.specs.Cells.{noStatus, noSequence, noWindow}
+use Rattle.meaning.specs.Kinds.{among, may_hold, DATALINK-IDENTIFIER, LINK-INSTANCE, DATALINK-CONTEXT, CHANNEL-STATUS, FLOW-WINDOW, FLOW-SEQUENCE}
+use Rattle.meaning.specs.Cells.{no_status, no_sequence, no_window}
 use Rattle.meaning.proofs.Amongst.{Each, amongst}
-use Rattle.read_option.specs.Stated.{Table, datalinkFrom, instanceFrom, contextFrom, statusFrom, sequenceFrom, windowFrom, controlStated}
+use Rattle.read_option.specs.Stated.{Table, datalink_from, instance_from, context_from, status_from, sequence_from, window_from, control_stated}
 use Rattle.read_rules.specs.declared.answer.Verdict.{Verdict}
-use Rattle.read_rules.specs.Sorts.{channelOf, unstatedDatalink}
-use Rattle.read_control.specs.Message.{unstatedInstance, unstatedContext, unstatedStatus, unstatedSequence, unstatedWindow, controlUnstated, controlState, blankControl, controlRefused, controlAccepted, controlOther, controlSort}
-use Rattle.reader.specs.Header.{CURRENT-VERSION, versionOf, flagOf, flag}
-use Rattle.reader.specs.Readings.{readControl}
-use Rattle.acceptance.specs.Account.{Ending, Accepts, controlMeaning, Shuffled}
+use Rattle.read_rules.specs.Sorts.{channel_of, unstated_datalink}
+use Rattle.read_control.specs.Message.{unstated_instance, unstated_context, unstated_status, unstated_sequence, unstated_window, control_unstated, control_state, blank_control, control_refused, control_accepted, control_other, control_sort}
+use Rattle.reader.specs.Header.{CURRENT-VERSION, version_of, flag_of, flag}
+use Rattle.reader.specs.Readings.{read_control}
+use Rattle.acceptance.specs.Account.{Ending, Accepts, control_meaning, Shuffled}
 use Rattle.acceptance.proofs.Seats.{vacant, put}
-use Rattle.acceptance.proofs.Tables.{vacant-is, row_is, set-row}
+use Rattle.acceptance.proofs.Tables.{vacant_is, row_is, set_row}
 use Rattle.acceptance.proofs.Cells.{Cells}
 use Rattle.acceptance.proofs.Account.{account}
-use Rattle.acceptance.proofs.Shuffle.{Alike, others, status-same, reordered}
+use Rattle.acceptance.proofs.Shuffle.{Alike, others, status_same, reordered}
 use Rattle.acceptance.proofs.Ours.{ours}
 
 -- what holds of each type of a control message holds of each that an end's may hold
 each_of : (end : End) (P : ℕ → Type 0) → P DATALINK-IDENTIFIER → P LINK-INSTANCE → P DATALINK-CONTEXT → P CHANNEL-STATUS → P FLOW-SEQUENCE → P FLOW-WINDOW
-    → Each P (mayHold planes.Control end)
+    → Each P (may_hold planes.Control end)
 each_of Ips P d i c s q w = (d, (q, tt))
 each_of Radio P d i c s q w = (d, (s, (i, (c, (w, tt)))))
 
-window-stated : (content : List ℕ) → unstatedWindow (windowFrom (some content)) ≡ false
-window-stated content = go (eqb (length content) 1)
+window_stated_lem : (content : List ℕ) → unstated_window (window_from (some content)) ≡ false
+window_stated_lem content = go (eqb (length content) 1)
   where
-    go : (b : Bool) → unstatedWindow (cond b Window.Empty (Window.Given (record { 0 = bigEndian (drop 1 content) }))) ≡ false
+    go : (b : Bool) → unstated_window (cond b Window.Empty (Window.Given (record { 0 = big_endian (drop 1 content) }))) ≡ false
     go true = refl
     go false = refl
 
 module _ (end : End) (τ : Table) where
-  pub unstated : (kind : ℕ) → among kind (mayHold planes.Control end) ≡ true → (content : List ℕ) → channelOf planes.Control kind content < CHANNEL-IDS
-      → controlUnstated kind (channelOf planes.Control kind content) (controlStated τ) ≡ vacant (τ kind (channelOf planes.Control kind content))
-  unfolding controlUnstated controlStated
+  pub unstated : (kind : ℕ) → among kind (may_hold planes.Control end) ≡ true → (content : List ℕ) → channel_of planes.Control kind content < CHANNEL-IDS
+      → control_unstated kind (channel_of planes.Control kind content) (control_stated τ) ≡ vacant (τ kind (channel_of planes.Control kind content))
+  unfolding control_unstated control_stated
   unstated =
-      amongst _ (mayHold planes.Control end)
+      amongst _ (may_hold planes.Control end)
       (each_of end _
-      (λ c h. vacant-is (λ x. unstatedDatalink (datalinkFrom x)) refl (λ d. refl) (τ DATALINK-IDENTIFIER 0))
-      (λ c h. vacant-is (λ x. unstatedInstance (instanceFrom x)) refl (λ d. refl) (τ LINK-INSTANCE 0))
-      (λ c h. vacant-is (λ x. unstatedContext (contextFrom x)) refl (λ d. refl) (τ DATALINK-CONTEXT 0))
-      (λ c h. row_is (λ cell. unstatedStatus cell.status) (λ x. record { status = statusFrom x }) refl (λ d. refl) CHANNEL-IDS (τ CHANNEL-STATUS) (get_or c 0 0) noStatus h)
-      (λ c h. row_is (λ cell. unstatedSequence cell.sequence) (λ x. record { sequence = sequenceFrom x }) refl (λ d. refl) CHANNEL-IDS (τ FLOW-SEQUENCE) (get_or c 0 0) noSequence h)
-      (λ c h. row_is (λ cell. unstatedWindow cell.window) (λ x. record { window = windowFrom x }) refl window-stated CHANNEL-IDS (τ FLOW-WINDOW) (get_or c 0 0) noWindow h))
+      (λ c h. vacant_is (λ x. unstated_datalink (datalink_from x)) refl (λ d. refl) (τ DATALINK-IDENTIFIER 0))
+      (λ c h. vacant_is (λ x. unstated_instance (instance_from x)) refl (λ d. refl) (τ LINK-INSTANCE 0))
+      (λ c h. vacant_is (λ x. unstated_context (context_from x)) refl (λ d. refl) (τ DATALINK-CONTEXT 0))
+      (λ c h. row_is (λ cell. unstated_status cell.status) (λ x. record { status = status_from x }) refl (λ d. refl) CHANNEL-IDS (τ CHANNEL-STATUS) (get_or c 0 0) no_status h)
+      (λ c h. row_is (λ cell. unstated_sequence cell.sequence) (λ x. record { sequence = sequence_from x }) refl (λ d. refl) CHANNEL-IDS (τ FLOW-SEQUENCE) (get_or c 0 0) no_sequence h)
+      (λ c h. row_is (λ cell. unstated_window cell.window) (λ x. record { window = window_from x }) refl window_stated_lem CHANNEL-IDS (τ FLOW-WINDOW) (get_or c 0 0) no_window h))
 
-  pub state : (kind : ℕ) → among kind (mayHold planes.Control end) ≡ true → (content : List ℕ)
-      → controlState kind (channelOf planes.Control kind content) content (controlStated τ) ≡ controlStated (put kind (channelOf planes.Control kind content) content τ)
-  unfolding controlState controlStated
+  pub state : (kind : ℕ) → among kind (may_hold planes.Control end) ≡ true → (content : List ℕ)
+      → control_state kind (channel_of planes.Control kind content) content (control_stated τ) ≡ control_stated (put kind (channel_of planes.Control kind content) content τ)
+  unfolding control_state control_stated
   state =
-      amongst _ (mayHold planes.Control end)
+      amongst _ (may_hold planes.Control end)
       (each_of end _
       (λ c. refl)
       (λ c. refl)
       (λ c. refl)
-      (λ c. rw (set-row {A = StatusCell} CHANNEL-IDS (λ x. record { status = statusFrom x }) (τ CHANNEL-STATUS) (get_or c 0 0) c))
-      (λ c. rw (set-row {A = SequenceCell} CHANNEL-IDS (λ x. record { sequence = sequenceFrom x }) (τ FLOW-SEQUENCE) (get_or c 0 0) c))
-      (λ c. rw (set-row {A = WindowCell} CHANNEL-IDS (λ x. record { window = windowFrom x }) (τ FLOW-WINDOW) (get_or c 0 0) c)))
+      (λ c. rw (set_row {A = StatusCell} CHANNEL-IDS (λ x. record { status = status_from x }) (τ CHANNEL-STATUS) (get_or c 0 0) c))
+      (λ c. rw (set_row {A = SequenceCell} CHANNEL-IDS (λ x. record { sequence = sequence_from x }) (τ FLOW-SEQUENCE) (get_or c 0 0) c))
+      (λ c. rw (set_row {A = WindowCell} CHANNEL-IDS (λ x. record { window = window_from x }) (τ FLOW-WINDOW) (get_or c 0 0) c)))
 
 -- tables that differ in unused bits alone state the same
-control-alike : (τ σ : Table) → Alike τ σ → controlStated τ ≡ controlStated σ
-unfolding controlStated
-control-alike τ σ alike = λ i. record {
-  datalink = datalinkFrom (others τ σ alike DATALINK-IDENTIFIER 0 refl i);
-  instance = instanceFrom (others τ σ alike LINK-INSTANCE 0 refl i);
-  context = contextFrom (others τ σ alike DATALINK-CONTEXT 0 refl i);
-  statuses = tabulate CHANNEL-IDS (λ n. record { status = status-same τ σ alike n i });
-  sequences = tabulate CHANNEL-IDS (λ n. record { sequence = sequenceFrom (others τ σ alike FLOW-SEQUENCE n refl i) });
-  windows = tabulate CHANNEL-IDS (λ n. record { window = windowFrom (others τ σ alike FLOW-WINDOW n refl i) });
+control_alike : (τ σ : Table) → Alike τ σ → control_stated τ ≡ control_stated σ
+unfolding control_stated
+control_alike τ σ alike = λ i. record {
+  datalink = datalink_from (others τ σ alike DATALINK-IDENTIFIER 0 refl i);
+  instance = instance_from (others τ σ alike LINK-INSTANCE 0 refl i);
+  context = context_from (others τ σ alike DATALINK-CONTEXT 0 refl i);
+  statuses = tabulate CHANNEL-IDS (λ n. record { status = status_same τ σ alike n i });
+  sequences = tabulate CHANNEL-IDS (λ n. record { sequence = sequence_from (others τ σ alike FLOW-SEQUENCE n refl i) });
+  windows = tabulate CHANNEL-IDS (λ n. record { window = window_from (others τ σ alike FLOW-WINDOW n refl i) });
 }
 
 module _ (end : End) (id : DatalinkId) where
-  unfoldable pub control-cells : Cells (controlSort end id) id controlStated
-  unfolding blankControl controlStated controlRefused controlAccepted controlOther
-  control-cells = record {
+  unfoldable pub control_cells : Cells (control_sort end id) id control_stated
+  unfolding blank_control control_stated control_refused control_accepted control_other
+  control_cells = record {
     verdict = λ r. r.verdict;
     accepted = λ m. refl;
     refused = λ number place. refl;
@@ -102,22 +102,22 @@ module _ (end : End) (id : DatalinkId) where
     state = state end;
     opens = λ τ. ((λ o. refl), λ e k q. clash q);
     paired = λ τ. ((λ p. refl), λ e. tt);
-    ours = λ τ. ours id (datalinkFrom (τ DATALINK-IDENTIFIER 0));
+    ours = λ τ. ours id (datalink_from (τ DATALINK-IDENTIFIER 0));
   }
 
   -- A control message is accepted exactly where the account allows it, and the answer is its meaning.
-  pub control-account : (s : List ℕ) → Octets s
-      → ((readControl end id s).verdict ≡ Verdict.Accepted ↔ (f : Options) × Accepts planes.Control end id s f)
-      × ((f : Options) → Accepts planes.Control end id s f → readControl end id s ≡ controlAccepted (controlMeaning end f))
-  unfolding readControl control-cells
-  control-account = account (controlSort end id) id controlStated control-cells
+  pub control_account : (s : List ℕ) → Octets s
+      → ((read_control end id s).verdict ≡ Verdict.Accepted ↔ (f : Options) × Accepts planes.Control end id s f)
+      × ((f : Options) → Accepts planes.Control end id s f → read_control end id s ≡ control_accepted (control_meaning end f))
+  unfolding read_control control_cells
+  control_account = account (control_sort end id) id control_stated control_cells
 
   -- Order, unused bits and skipped options carry no meaning.
-  pub control-reordered : (s : List ℕ) (f g : Options) (header : ℕ) → Accepts planes.Control end id s f → Shuffled planes.Control end f g
-      → versionOf header ≡ CURRENT-VERSION → flagOf header ≡ flag planes.Control → length (header ∷ bytes g) ≤ LONGEST-DATAGRAM
-      → readControl end id (header ∷ bytes g) ≡ readControl end id s
-  unfolding readControl
-  control-reordered s f g header a x = reordered (controlSort end id) id controlStated control-cells control-alike s f g header a x (any_order g)
+  pub control_reordered : (s : List ℕ) (f g : Options) (header : ℕ) → Accepts planes.Control end id s f → Shuffled planes.Control end f g
+      → version_of header ≡ CURRENT-VERSION → flag_of header ≡ flag planes.Control → length (header ∷ bytes g) ≤ LONGEST-DATAGRAM
+      → read_control end id (header ∷ bytes g) ≡ read_control end id s
+  unfolding read_control
+  control_reordered s f g header a x = reordered (control_sort end id) id control_stated control_cells control_alike s f g header a x (any_order g)
     where
       any_order : (f : Options) → Ending planes.Control f
       any_order done = tt

@@ -9,28 +9,28 @@ use Rattle.meaning.specs.declared.message.End.{End}
 use Rattle.meaning.specs.declared.message.End.TheVariants.{Ips, Radio}
 use Rattle.meaning.specs.declared.message.Plane.{Plane}
 use Rattle.meaning.specs.declared.message.Plane.TheVariants.{Control, Data}
-use Rattle.meaning.specs.Kinds.{among, known, naming, mayHold, oneForEach, standsLast, mustHold}
+use Rattle.meaning.specs.Kinds.{among, known, naming, may_hold, one_for_each, stands_last, must_hold}
 use Rattle.meaning.proofs.Amongst.{Each, amongst}
-use Rattle.acceptance.specs.Account.{Listed, speaksFor}
+use Rattle.acceptance.specs.Account.{Listed, speaks_for}
 
 -- where there may be one for each channel, the content begins with a Channel ID
-pub each-names : (plane : Plane) (kind : ℕ) → among kind (oneForEach plane) ≡ true → among kind naming ≡ true
-each-names Control = amongst _ (oneForEach Control) (refl, (refl, (refl, tt)))
-each-names Data = amongst _ (oneForEach Data) tt
+pub each_names : (plane : Plane) (kind : ℕ) → among kind (one_for_each plane) ≡ true → among kind naming ≡ true
+each_names Control = amongst _ (one_for_each Control) (refl, (refl, (refl, tt)))
+each_names Data = amongst _ (one_for_each Data) tt
 
 -- what must stand may stand
-pub must-may : (plane : Plane) (end : End) → Each (λ kind. among kind (mayHold plane end) ≡ true) (mustHold plane end)
-must-may Control Ips = (refl, tt)
-must-may Control Radio = (refl, (refl, tt))
-must-may Data Ips = (refl, (refl, tt))
-must-may Data Radio = (refl, (refl, tt))
+pub must_may : (plane : Plane) (end : End) → Each (λ kind. among kind (may_hold plane end) ≡ true) (must_hold plane end)
+must_may Control Ips = (refl, tt)
+must_may Control Radio = (refl, (refl, tt))
+must_may Data Ips = (refl, (refl, tt))
+must_may Data Radio = (refl, (refl, tt))
 
 -- what stands last speaks for no channel
-pub last-speaks : (plane : Plane) (end : End) (content : List ℕ) (kind : ℕ) → among kind (standsLast plane) ≡ true → speaksFor plane end kind content ≡ some 0
-last-speaks Control end content = amongst _ (standsLast Control) tt
-last-speaks Data Ips content = amongst _ (standsLast Data) (refl, tt)
-last-speaks Data Radio content = amongst _ (standsLast Data) (refl, tt)
+pub last_speaks : (plane : Plane) (end : End) (content : List ℕ) (kind : ℕ) → among kind (stands_last plane) ≡ true → speaks_for plane end kind content ≡ some 0
+last_speaks Control end content = amongst _ (stands_last Control) tt
+last_speaks Data Ips content = amongst _ (stands_last Data) (refl, tt)
+last_speaks Data Radio content = amongst _ (stands_last Data) (refl, tt)
 
 -- an unknown option has nothing to be refused for
-pub unknown-listed : (plane : Plane) (end : End) (kind : ℕ) (content : List ℕ) → among kind known ≡ false → Listed plane end kind content
-unknown-listed plane end kind content u = record { kind-listed = λ k. clash (sym u ∙ k); length-listed = λ k. clash (sym u ∙ k); value-listed = λ k. clash (sym u ∙ k) }
+pub unknown_listed : (plane : Plane) (end : End) (kind : ℕ) (content : List ℕ) → among kind known ≡ false → Listed plane end kind content
+unknown_listed plane end kind content u = record { kind_listed = λ k. clash (sym u ∙ k); length_listed_lem = λ k. clash (sym u ∙ k); value_listed_lem = λ k. clash (sym u ∙ k) }

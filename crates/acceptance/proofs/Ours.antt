@@ -6,11 +6,11 @@ use borrow.Author.Tests.{eq-eqb, eqb-true}
 use Rattle.facts.proofs.Tests.{clash}
 use Rattle.quantity.specs.declared.count.DatalinkId.{DatalinkId}
 use Rattle.meaning.specs.declared.message.Datalink.{Datalink}
-use Rattle.read_rules.specs.Sorts.{isOurs}
+use Rattle.read_rules.specs.Sorts.{is_ours}
 
-pub ours : (id : DatalinkId) (x : Datalink) → x ≡ Datalink.Given id ↔ isOurs id x ≡ true
+pub ours : (id : DatalinkId) (x : Datalink) → x ≡ Datalink.Given id ↔ is_ours id x ≡ true
 ours id x = ((λ e. rw e (eq-eqb id.0 id.0 refl)), λ e. back x e)
   where
-    back : (x : Datalink) → isOurs id x ≡ true → x ≡ Datalink.Given id
+    back : (x : Datalink) → is_ours id x ≡ true → x ≡ Datalink.Given id
     back Datalink.Absent e = clash e
     back (Datalink.Given d) e = λ i. Datalink.Given (record { 0 = eqb-true d.0 id.0 e i })

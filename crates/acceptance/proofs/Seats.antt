@@ -9,9 +9,9 @@ use lib.Dec.{eqb}
 use Rattle.facts.proofs.Tests.{clash}
 use Rattle.meaning.specs.declared.message.End.{End}
 use Rattle.meaning.specs.declared.message.Plane.{Plane}
-use Rattle.meaning.specs.Kinds.{among, known, mayHold}
+use Rattle.meaning.specs.Kinds.{among, known, may_hold}
 use Rattle.read_option.specs.Stated.{Table}
-use Rattle.read_rules.specs.Sorts.{channelOf}
+use Rattle.read_rules.specs.Sorts.{channel_of}
 use Rattle.acceptance.specs.Account.{speaks}
 
 -- ---- a place of a table
@@ -23,9 +23,9 @@ abbrev pub vacant : Option (List ℕ) → Bool
 vacant none = true
 vacant (some content) = false
 
-pub of-vacant : (x : Option (List ℕ)) → vacant x ≡ true → x ≡ none
-of-vacant none e = refl
-of-vacant (some content) e = clash e
+pub of_vacant : (x : Option (List ℕ)) → vacant x ≡ true → x ≡ none
+of_vacant none e = refl
+of_vacant (some content) e = clash e
 
 -- a content more, at a type and a channel
 abbrev pub put : ℕ → ℕ → List ℕ → Table → Table
@@ -49,24 +49,24 @@ module _ (plane : Plane) (end : End) (kind : ℕ) (content : List ℕ) where
       go true = refl
       go false = refl
 
-  pub adding-silent : among kind known ≡ false → (τ : Table) → adding τ ≡ τ
-  adding-silent u τ = λ i k n. cond (silent u k n i) (some content) (τ k n)
+  pub adding_silent : among kind known ≡ false → (τ : Table) → adding τ ≡ τ
+  adding_silent u τ = λ i k n. cond (silent u k n i) (some content) (τ k n)
 
   -- a known one that the message may hold speaks for its channel
-  module _ (u : among kind known ≡ true) (a : among kind (mayHold plane end) ≡ true) (τ : Table) where
+  module _ (u : among kind known ≡ true) (a : among kind (may_hold plane end) ≡ true) (τ : Table) where
     abbrev channel : ℕ
-    channel = channelOf plane kind content
+    channel = channel_of plane kind content
 
     speaking : (k n : ℕ) → speaks plane end k n kind content ≡ cond (eqb k kind) (eqb n channel) false
     speaking k n = rw (u, a)
 
-    pub adding-puts : adding τ ≡ put kind (channelOf plane kind content) content τ
-    adding-puts = λ i k n. cond (speaking k n i) (some content) (τ k n)
+    pub adding_puts : adding τ ≡ put kind (channel_of plane kind content) content τ
+    adding_puts = λ i k n. cond (speaking k n i) (some content) (τ k n)
 
-    pub of-free : Free τ → τ kind (channelOf plane kind content) ≡ none
-    of-free f = f kind channel (speaking kind channel ∙ rw (eq-eqb kind kind refl, eq-eqb channel channel refl))
+    pub of_free : Free τ → τ kind (channel_of plane kind content) ≡ none
+    of_free f = f kind channel (speaking kind channel ∙ rw (eq-eqb kind kind refl, eq-eqb channel channel refl))
 
-    pub free_of : τ kind (channelOf plane kind content) ≡ none → Free τ
+    pub free_of : τ kind (channel_of plane kind content) ≡ none → Free τ
     free_of e k n s = go (eqb k kind) refl (sym (speaking k n) ∙ s)
       where
         go : (b : Bool) → eqb k kind ≡ b → cond b (eqb n channel) false ≡ true → τ k n ≡ none

@@ -15,12 +15,12 @@ use Rattle.meaning.specs.declared.message.End.{End}
 use Rattle.meaning.specs.declared.message.Plane.{Plane}
 use Rattle.meaning.specs.declared.message.Plane.TheVariants as planes
 use Rattle.meaning.specs.declared.message.Status.{Status}
-use Rattle.meaning.specs.Kinds.{valueListed, mustHold, DATALINK-IDENTIFIER, CHANNEL-STATUS, CHANNEL-IDENTIFIER, FLOW-SEQUENCE}
-use Rattle.read_option.specs.Stated.{Table, statusFrom}
-use Rattle.read_rules.specs.Sorts.{Sort, rulesOf}
-use Rattle.reader.specs.Header.{CURRENT-VERSION, versionOf, flagOf, flag, readWith}
-use Rattle.acceptance.specs.Account.{All, Listed, is_at, speaksFor, one, speaks, count, the, table_of, Ending, Filled, Paired, Accepts, Shuffled}
-use Rattle.acceptance.proofs.Lists.{unknown-listed}
+use Rattle.meaning.specs.Kinds.{value_listed, must_hold, DATALINK-IDENTIFIER, CHANNEL-STATUS, CHANNEL-IDENTIFIER, FLOW-SEQUENCE}
+use Rattle.read_option.specs.Stated.{Table, status_from}
+use Rattle.read_rules.specs.Sorts.{Sort, rules_of}
+use Rattle.reader.specs.Header.{CURRENT-VERSION, version_of, flag_of, flag, read_with}
+use Rattle.acceptance.specs.Account.{All, Listed, is_at, speaks_for, one, speaks, count, the, table_of, Ending, Filled, Paired, Accepts, Shuffled}
+use Rattle.acceptance.proofs.Lists.{unknown_listed}
 use Rattle.acceptance.proofs.Seats.{taken_free, silent}
 use Rattle.acceptance.proofs.Cells.{Cells}
 use Rattle.acceptance.proofs.Account.{⇒accepted}
@@ -31,9 +31,9 @@ bare kind none = none
 bare kind (some content) = some (cond (eqb kind CHANNEL-STATUS) (get_or content 0 0 ∷ (get_or content 1 0 % 16 ∷ [])) content)
 
 module _ (plane : Plane) (end : End) where
-  unused-listed : {n a b : ℕ} → Listed plane end CHANNEL-STATUS (n ∷ (a ∷ [])) → Listed plane end CHANNEL-STATUS (n ∷ (b ∷ []))
-  unfolding valueListed
-  unused-listed l = record { kind-listed = l.kind-listed; length-listed = l.length-listed; value-listed = l.value-listed }
+  unused_listed : {n a b : ℕ} → Listed plane end CHANNEL-STATUS (n ∷ (a ∷ [])) → Listed plane end CHANNEL-STATUS (n ∷ (b ∷ []))
+  unfolding value_listed
+  unused_listed l = record { kind_listed = l.kind_listed; length_listed_lem = l.length_listed_lem; value_listed_lem = l.value_listed_lem }
 
   listeds : {f g : Options} → Shuffled plane end f g → All (Listed plane end) f ↔ All (Listed plane end) g
   listeds Shuffled.same = ((λ l. l), λ l. l)
@@ -41,8 +41,8 @@ module _ (plane : Plane) (end : End) where
   listeds (Shuffled.chain s r) = let e = listeds s in let d = listeds r in ((λ l. d.0 (e.0 l)), λ l. e.1 (d.1 l))
   listeds (Shuffled.under s) = let e = listeds s in ((λ l. (l.0, e.0 l.1)), λ l. (l.0, e.1 l.1))
   listeds Shuffled.swap = ((λ l. (l.1.0, (l.0, l.1.1))), λ l. (l.1.0, (l.0, l.1.1)))
-  listeds (Shuffled.unused e) = ((λ l. (unused-listed l.0, l.1)), λ l. (unused-listed l.0, l.1))
-  listeds (Shuffled.skip {t} {c} e) = ((λ l. l.1), λ l. (unknown-listed plane end t c e, l))
+  listeds (Shuffled.unused e) = ((λ l. (unused_listed l.0, l.1)), λ l. (unused_listed l.0, l.1))
+  listeds (Shuffled.skip {t} {c} e) = ((λ l. l.1), λ l. (unknown_listed plane end t c e, l))
 
   module _ (k n : ℕ) where
     counts : {f g : Options} → Shuffled plane end f g → count plane end k n f ≡ count plane end k n g
@@ -73,7 +73,7 @@ module _ (plane : Plane) (end : End) where
         go true true q = absurd (omega arith)
         go true false q = refl
         go false b q = refl
-    thes (Shuffled.unused {n = m} {a} {b} {f} e) h = go (eqb k CHANNEL-STATUS) (is_at n (speaksFor plane end CHANNEL-STATUS (m ∷ (a ∷ [])))) refl
+    thes (Shuffled.unused {n = m} {a} {b} {f} e) h = go (eqb k CHANNEL-STATUS) (is_at n (speaks_for plane end CHANNEL-STATUS (m ∷ (a ∷ [])))) refl
       where
         go : (same speaking : Bool) → eqb k CHANNEL-STATUS ≡ same
             → bare k (cond (cond same speaking false) (some (m ∷ (a ∷ []))) (the plane end k n f)) ≡ bare k (cond (cond same speaking false) (some (m ∷ (b ∷ []))) (the plane end k n f))
@@ -85,71 +85,71 @@ module _ (plane : Plane) (end : End) where
 -- ---- two tables that differ in unused bits alone
 
 -- The unused bits of a Channel Status carry no meaning.
-pub status-unused : (n a b : ℕ) → a % 16 ≡ b % 16 → statusFrom (some (n ∷ (a ∷ []))) ≡ statusFrom (some (n ∷ (b ∷ [])))
-status-unused n a b e = ap Status.Given e
+pub status_unused : (n a b : ℕ) → a % 16 ≡ b % 16 → status_from (some (n ∷ (a ∷ []))) ≡ status_from (some (n ∷ (b ∷ [])))
+status_unused n a b e = ap Status.Given e
 
-bare-status : (x : Option (List ℕ)) → statusFrom (bare CHANNEL-STATUS x) ≡ statusFrom x
-bare-status none = refl
-bare-status (some content) = ap Status.Given (omega arith)
+bare_status : (x : Option (List ℕ)) → status_from (bare CHANNEL-STATUS x) ≡ status_from x
+bare_status none = refl
+bare_status (some content) = ap Status.Given (omega arith)
 
-bare-other : (kind : ℕ) → eqb kind CHANNEL-STATUS ≡ false → (x : Option (List ℕ)) → bare kind x ≡ x
-bare-other kind e none = refl
-bare-other kind e (some content) = rw e
+bare_other : (kind : ℕ) → eqb kind CHANNEL-STATUS ≡ false → (x : Option (List ℕ)) → bare kind x ≡ x
+bare_other kind e none = refl
+bare_other kind e (some content) = rw e
 
-bare-none : (kind : ℕ) (x : Option (List ℕ)) → bare kind x ≡ none → x ≡ none
-bare-none kind none e = refl
-bare-none kind (some content) e = taken_free e
+bare_none : (kind : ℕ) (x : Option (List ℕ)) → bare kind x ≡ none → x ≡ none
+bare_none kind none e = refl
+bare_none kind (some content) e = taken_free e
 
 abbrev pub Alike : Table → Table → Type 0
 Alike τ σ = (kind channel : ℕ) → bare kind (τ kind channel) ≡ bare kind (σ kind channel)
 
 module _ (τ σ : Table) (alike : Alike τ σ) where
   pub others : (kind channel : ℕ) → eqb kind CHANNEL-STATUS ≡ false → τ kind channel ≡ σ kind channel
-  others kind channel e = sym (bare-other kind e (τ kind channel)) ∙ alike kind channel ∙ bare-other kind e (σ kind channel)
+  others kind channel e = sym (bare_other kind e (τ kind channel)) ∙ alike kind channel ∙ bare_other kind e (σ kind channel)
 
-  pub status-same : (n : ℕ) → statusFrom (τ CHANNEL-STATUS n) ≡ statusFrom (σ CHANNEL-STATUS n)
-  status-same n = sym (bare-status (τ CHANNEL-STATUS n)) ∙ ap statusFrom (alike CHANNEL-STATUS n) ∙ bare-status (σ CHANNEL-STATUS n)
+  pub status_same : (n : ℕ) → status_from (τ CHANNEL-STATUS n) ≡ status_from (σ CHANNEL-STATUS n)
+  status_same n = sym (bare_status (τ CHANNEL-STATUS n)) ∙ ap status_from (alike CHANNEL-STATUS n) ∙ bare_status (σ CHANNEL-STATUS n)
 
-  still-filled : (kinds : List ℕ) → Filled kinds τ → Filled kinds σ
-  still-filled [] f = tt
-  still-filled (kind ∷ kinds) f = ((λ e. f.0 (bare-none kind (τ kind 0) (alike kind 0 ∙ ap (bare kind) e))), still-filled kinds f.1)
+  still_filled : (kinds : List ℕ) → Filled kinds τ → Filled kinds σ
+  still_filled [] f = tt
+  still_filled (kind ∷ kinds) f = ((λ e. f.0 (bare_none kind (τ kind 0) (alike kind 0 ∙ ap (bare kind) e))), still_filled kinds f.1)
 
-  still-paired : (plane : Plane) → Paired plane τ → Paired plane σ
-  still-paired planes.Control p = tt
-  still-paired planes.Data p = rw (others FLOW-SEQUENCE 0 refl, others CHANNEL-IDENTIFIER 0 refl) at p
+  still_paired : (plane : Plane) → Paired plane τ → Paired plane σ
+  still_paired planes.Control p = tt
+  still_paired planes.Data p = rw (others FLOW-SEQUENCE 0 refl, others CHANNEL-IDENTIFIER 0 refl) at p
 
 -- ---- a datagram
 
-pub tables-alike : (plane : Plane) (end : End) (id : DatalinkId) (s : List ℕ) (f g : Options) → Accepts plane end id s f → Shuffled plane end f g
+pub tables_alike : (plane : Plane) (end : End) (id : DatalinkId) (s : List ℕ) (f g : Options) → Accepts plane end id s f → Shuffled plane end f g
     → Alike (table_of plane end f) (table_of plane end g)
-tables-alike plane end id s f g a x k n = thes plane end k n x (a.once k n)
+tables_alike plane end id s f g a x k n = thes plane end k n x (a.once k n)
 
 -- what is allowed is allowed in any order, behind any header of the version and plane
-pub still-allowed : (plane : Plane) (end : End) (id : DatalinkId) (s : List ℕ) (f g : Options) (header : ℕ) → Accepts plane end id s f → Shuffled plane end f g
-    → Ending plane g → versionOf header ≡ CURRENT-VERSION → flagOf header ≡ flag plane → length (header ∷ bytes g) ≤ LONGEST-DATAGRAM
+pub still_allowed : (plane : Plane) (end : End) (id : DatalinkId) (s : List ℕ) (f g : Options) (header : ℕ) → Accepts plane end id s f → Shuffled plane end f g
+    → Ending plane g → version_of header ≡ CURRENT-VERSION → flag_of header ≡ flag plane → length (header ∷ bytes g) ≤ LONGEST-DATAGRAM
     → Accepts plane end id (header ∷ bytes g) g
-still-allowed plane end id s f g header a x d v p h =
-    let alike : Alike (table_of plane end f) (table_of plane end g) = tables-alike plane end id s f g a x in
+still_allowed plane end id s f g header a x d v p h =
+    let alike : Alike (table_of plane end f) (table_of plane end g) = tables_alike plane end id s f g a x in
     record {
       header = header;
       version = v;
-      of-plane = p;
+      of_plane = p;
       whole = refl;
       short = h;
       listed = (listeds plane end x).0 a.listed;
       once = λ k n. rw (← counts plane end k n x) (a.once k n);
       ending = d;
-      filled = still-filled (table_of plane end f) (table_of plane end g) alike (mustHold plane end) a.filled;
-      paired = still-paired (table_of plane end f) (table_of plane end g) alike plane a.paired;
+      filled = still_filled (table_of plane end f) (table_of plane end g) alike (must_hold plane end) a.filled;
+      paired = still_paired (table_of plane end f) (table_of plane end g) alike plane a.paired;
       ours = rw (others (table_of plane end f) (table_of plane end g) alike DATALINK-IDENTIFIER 0 refl) at a.ours;
     }
 
 -- and the answer is the same, for any sort of message that is filled alike from tables that are alike
 module _ {A B : Type 0} (S : Sort A B) (id : DatalinkId) (stated : Table → A) (C : Cells S id stated) (same : (τ σ : Table) → Alike τ σ → stated τ ≡ stated σ) where
   pub reordered : (s : List ℕ) (f g : Options) (header : ℕ) → Accepts S.plane S.end id s f → Shuffled S.plane S.end f g
-      → Ending S.plane g → versionOf header ≡ CURRENT-VERSION → flagOf header ≡ flag S.plane → length (header ∷ bytes g) ≤ LONGEST-DATAGRAM
-      → readWith (rulesOf S) (header ∷ bytes g) ≡ readWith (rulesOf S) s
+      → Ending S.plane g → version_of header ≡ CURRENT-VERSION → flag_of header ≡ flag S.plane → length (header ∷ bytes g) ≤ LONGEST-DATAGRAM
+      → read_with (rules_of S) (header ∷ bytes g) ≡ read_with (rules_of S) s
   reordered s f g header a x d v p h =
-      ⇒accepted S id stated C (header ∷ bytes g) g (still-allowed S.plane S.end id s f g header a x d v p h)
-      ∙ ap S.accept (sym (same (table_of S.plane S.end f) (table_of S.plane S.end g) (tables-alike S.plane S.end id s f g a x)))
+      ⇒accepted S id stated C (header ∷ bytes g) g (still_allowed S.plane S.end id s f g header a x d v p h)
+      ∙ ap S.accept (sym (same (table_of S.plane S.end f) (table_of S.plane S.end g) (tables_alike S.plane S.end id s f g a x)))
       ∙ sym (⇒accepted S id stated C s f a)

@@ -14,11 +14,11 @@ use Rattle.acceptance.specs.Account.{one, speaks, count, the, Stands, table_of, 
 use Rattle.acceptance.proofs.Seats.{taken_free}
 
 module _ (plane : Plane) (end : End) (k n : ℕ) (content : List ℕ) where
-  the-stands : (f : Options) → the plane end k n f ≡ some content → Stands plane end k n content f
+  the_stands : (f : Options) → the plane end k n f ≡ some content → Stands plane end k n content f
   unfolding the Stands
-  the-stands done e = taken_free (sym e)
-  the-stands (cut rest) e = taken_free (sym e)
-  the-stands (option kind other f) e = go (the-stands f) (speaks plane end k n kind other) refl e
+  the_stands done e = taken_free (sym e)
+  the_stands (cut rest) e = taken_free (sym e)
+  the_stands (option kind other f) e = go (the_stands f) (speaks plane end k n kind other) refl e
     where
       go : (the plane end k n f ≡ some content → Stands plane end k n content f) → (b : Bool) → speaks plane end k n kind other ≡ b
           → cond b (some other) (the plane end k n f) ≡ some content → ((speaks plane end k n kind other ≡ true) × (other ≡ content)) ⊎ Stands plane end k n content f
@@ -32,12 +32,12 @@ module _ (plane : Plane) (end : End) (k n : ℕ) (content : List ℕ) where
   counted (option kind other f) (inl x) = rw x.0 (omega arith)
   counted (option kind other f) (inr x) = let h = counted f x in omega arith
 
-  stands-the : (f : Options) → count plane end k n f ≤ 1 → Stands plane end k n content f → the plane end k n f ≡ some content
+  stands_the : (f : Options) → count plane end k n f ≤ 1 → Stands plane end k n content f → the plane end k n f ≡ some content
   unfolding the Stands count
-  stands-the done h x = absurd x
-  stands-the (cut rest) h x = absurd x
-  stands-the (option kind other f) h (inl x) = rw (x.0, x.1)
-  stands-the (option kind other f) h (inr x) = go (λ q. stands-the f q x) (speaks plane end k n kind other) (counted f x) h
+  stands_the done h x = absurd x
+  stands_the (cut rest) h x = absurd x
+  stands_the (option kind other f) h (inl x) = rw (x.0, x.1)
+  stands_the (option kind other f) h (inr x) = go (λ q. stands_the f q x) (speaks plane end k n kind other) (counted f x) h
     where
       go : (count plane end k n f ≤ 1 → the plane end k n f ≡ some content) → (b : Bool) → 1 ≤ count plane end k n f → one b + count plane end k n f ≤ 1
           → cond b (some other) (the plane end k n f) ≡ some content
@@ -45,7 +45,7 @@ module _ (plane : Plane) (end : End) (k n : ℕ) (content : List ℕ) where
       go later false p q = later (omega arith)
 
 -- What the table of an accepted message says of a type and a channel is what stands in it.
-pub table-stands : (plane : Plane) (end : End) (id : DatalinkId) (s : List ℕ) (f : Options) → Accepts plane end id s f
+pub table_stands : (plane : Plane) (end : End) (id : DatalinkId) (s : List ℕ) (f : Options) → Accepts plane end id s f
     → (kind channel : ℕ) (content : List ℕ) → table_of plane end f kind channel ≡ some content ↔ Stands plane end kind channel content f
-table-stands plane end id s f a kind channel content =
-    (the-stands plane end kind channel content f, stands-the plane end kind channel content f (a.once kind channel))
+table_stands plane end id s f a kind channel content =
+    (the_stands plane end kind channel content f, stands_the plane end kind channel content f (a.once kind channel))

@@ -10,10 +10,10 @@ use Rattle.meaning.specs.declared.message.Plane.TheVariants as planes
 use Rattle.meaning.specs.declared.message.Datalink.{Datalink}
 use Rattle.meaning.specs.declared.message.Control.{Control}
 use Rattle.meaning.specs.declared.message.Data.{Data}
-use Rattle.meaning.specs.Kinds.{among, known, lengthListed, valueListed, mayHold, mustHold, standsLast, DATALINK-IDENTIFIER, CHANNEL-STATUS, CHANNEL-IDENTIFIER, FLOW-SEQUENCE}
-use Rattle.read_option.specs.Stated.{Table, datalinkFrom, controlStated, dataStated}
-use Rattle.read_rules.specs.Sorts.{channelOf}
-use Rattle.reader.specs.Header.{CURRENT-VERSION, versionOf, flagOf, flag}
+use Rattle.meaning.specs.Kinds.{among, known, length_listed, value_listed, may_hold, must_hold, stands_last, DATALINK-IDENTIFIER, CHANNEL-STATUS, CHANNEL-IDENTIFIER, FLOW-SEQUENCE}
+use Rattle.read_option.specs.Stated.{Table, datalink_from, control_stated, data_stated}
+use Rattle.read_rules.specs.Sorts.{channel_of}
+use Rattle.reader.specs.Header.{CURRENT-VERSION, version_of, flag_of, flag}
 
 -- every option has the property, and nothing is cut off
 abbrev pub All : (ℕ → List ℕ → Type 0) → Options → Type 0
@@ -23,13 +23,13 @@ All P (option kind content more) = P kind content × All P more
 
 -- an option is unknown, or one that the message may hold, with a listed length and a value that has a meaning
 pub record Listed (plane : Plane) (end : End) (kind : ℕ) (content : List ℕ) : Type 0 where
-  pub kind-listed : among kind known ≡ true → among kind (mayHold plane end) ≡ true
-  pub length-listed : among kind known ≡ true → lengthListed kind (length content) ≡ true
-  pub value-listed : among kind known ≡ true → valueListed kind content ≡ true
+  pub kind_listed : among kind known ≡ true → among kind (may_hold plane end) ≡ true
+  pub length_listed_lem : among kind known ≡ true → length_listed kind (length content) ≡ true
+  pub value_listed_lem : among kind known ≡ true → value_listed kind content ≡ true
 
 -- the channel for which an option speaks: `none` if it says nothing, 0 if it speaks for no channel
-abbrev pub speaksFor : Plane → End → ℕ → List ℕ → Option ℕ
-speaksFor plane end kind content = cond (among kind known) (cond (among kind (mayHold plane end)) (some (channelOf plane kind content)) none) none
+abbrev pub speaks_for : Plane → End → ℕ → List ℕ → Option ℕ
+speaks_for plane end kind content = cond (among kind known) (cond (among kind (may_hold plane end)) (some (channel_of plane kind content)) none) none
 
 abbrev pub is_at : ℕ → Option ℕ → Bool
 is_at n none = false
@@ -37,7 +37,7 @@ is_at n (some m) = eqb n m
 
 -- whether an option is one of type k for channel n
 abbrev pub speaks : Plane → End → ℕ → ℕ → ℕ → List ℕ → Bool
-speaks plane end k n kind content = cond (eqb k kind) (is_at n (speaksFor plane end kind content)) false
+speaks plane end k n kind content = cond (eqb k kind) (is_at n (speaks_for plane end kind content)) false
 
 abbrev pub one : Bool → ℕ
 one true = 1
@@ -69,7 +69,7 @@ table_of plane e options = λ kind channel. the plane e kind channel options
 abbrev pub Ending : Plane → Options → Type 0
 Ending plane done = Unit {0}
 Ending plane (cut rest) = Unit {0}
-Ending plane (option kind content more) = (among kind (standsLast plane) ≡ true → more ≡ done) × Ending plane more
+Ending plane (option kind content more) = (among kind (stands_last plane) ≡ true → more ≡ done) × Ending plane more
 
 -- what must stand stands
 abbrev pub Filled : List ℕ → Table → Type 0
@@ -88,30 +88,30 @@ Paired planes.Data τ = SameChannel (τ FLOW-SEQUENCE 0) (τ CHANNEL-IDENTIFIER 
 
 -- the Datalink ID is the configured one
 abbrev pub Ours : DatalinkId → Table → Type 0
-Ours id τ = datalinkFrom (τ DATALINK-IDENTIFIER 0) ≡ Datalink.Given id
+Ours id τ = datalink_from (τ DATALINK-IDENTIFIER 0) ≡ Datalink.Given id
 
 -- A datagram is accepted by a reader of a plane and an end that is configured with an ID, and these are its options:
 -- it is a header that section 3.1 allows, of this plane, followed by whole options, each unknown or listed, none repeated where at most one
 -- may stand, Packet Data last, what is required there, the Flow Sequence's channel the same, the Datalink ID the configured one.
 pub record Accepts (plane : Plane) (e : End) (id : DatalinkId) (datagram : List ℕ) (options : Options) : Type 0 where
   pub header : ℕ
-  pub version : versionOf header ≡ CURRENT-VERSION
-  pub of-plane : flagOf header ≡ flag plane
+  pub version : version_of header ≡ CURRENT-VERSION
+  pub of_plane : flag_of header ≡ flag plane
   pub whole : datagram ≡ header ∷ bytes options
   pub short : length datagram ≤ LONGEST-DATAGRAM
   pub listed : All (Listed plane e) options
   pub once : (kind channel : ℕ) → count plane e kind channel options ≤ 1
   pub ending : Ending plane options
-  pub filled : Filled (mustHold plane e) (table_of plane e options)
+  pub filled : Filled (must_hold plane e) (table_of plane e options)
   pub paired : Paired plane (table_of plane e options)
   pub ours : Ours id (table_of plane e options)
 
 -- what the options of an accepted message state
-abbrev pub controlMeaning : End → Options → Control
-controlMeaning e options = controlStated (table_of planes.Control e options)
+abbrev pub control_meaning : End → Options → Control
+control_meaning e options = control_stated (table_of planes.Control e options)
 
-abbrev pub dataMeaning : End → Options → Data
-dataMeaning e options = dataStated (table_of planes.Data e options)
+abbrev pub data_meaning : End → Options → Data
+data_meaning e options = data_stated (table_of planes.Data e options)
 
 -- the same options, but for their order, for the unused bits of a Channel Status, and for those that say nothing
 pub data Shuffled (plane : Plane) (e : End) : Options → Options → Type 0 where

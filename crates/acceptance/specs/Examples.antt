@@ -1,7 +1,7 @@
 -- Document 01, "Examples": the starred ones, as rows of a single table. Those on messages are options of a radio's control message. Document 02, §6: "The example
 -- 03 08 then reads "under the default".", which is 0.
 use Rattle.std.specs.Prelude.{ℕ, ◌≡◌, List, [], ◌∷◌, Bool, true, false, ℤ, pos, negsuc}
-use Rattle.quantity.specs.Distance.{distance_of, fits_of, advanceOf}
+use Rattle.quantity.specs.Distance.{distance_of, fits_of, advance_of}
 use Rattle.meaning.specs.declared.message.End.TheVariants.{Radio}
 use Rattle.meaning.specs.declared.message.Plane.TheVariants as planes
 use Rattle.meaning.specs.declared.message.Status.{Status}
@@ -24,7 +24,7 @@ pub data Row : Type 0 where
 abbrev pub Right : Row → Type 0
 Right (distance s w d) = distance_of (record { 0 = s }) (record { 0 = w }) ≡ d
 Right (fits s w n answer) = fits_of (record { 0 = s }) (record { 0 = w }) (record { 0 = n }) ≡ answer
-Right (becomes s n after) = advanceOf (record { 0 = s }) (record { 0 = n }) ≡ record { 0 = after }
+Right (becomes s n after) = advance_of (record { 0 = s }) (record { 0 = n }) ≡ record { 0 = after }
 Right (status content channel number isUnknown isOperational) =
     (answer_of planes.Control Radio CHANNEL-STATUS content ≡ Took (Item.Status channel number))
     × (unknown DEFAULT-CODES (Status.Given number) ≡ isUnknown)

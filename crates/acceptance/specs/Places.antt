@@ -3,13 +3,13 @@ use Rattle.std.specs.Prelude.{ℕ, ◌+◌, ◌≤◌, ◌<◌, ◌≡◌, List,
 use Rattle.std.proofs.Math.Option.{none}
 use Rattle.quantity.specs.declared.refusal.Refusal.{Refusal}
 use Rattle.quantity.specs.Refusals.{HEADER, CUT, BEHIND-PACKET, MISSING, OTHER-DATALINK}
-use Rattle.wire.specs.Options.{Options, cut, option, bytes, split, Whole-options}
+use Rattle.wire.specs.Options.{Options, cut, option, bytes, split, WholeOptions}
 use Rattle.meaning.specs.declared.message.End.{End}
 use Rattle.meaning.specs.declared.message.Plane.{Plane}
 use Rattle.meaning.specs.declared.message.Plane.TheVariants as planes
-use Rattle.meaning.specs.Kinds.{among, known, lengthListed, valueListed, mayHold}
+use Rattle.meaning.specs.Kinds.{among, known, length_listed, value_listed, may_hold}
 use Rattle.read_option.specs.Stated.{Table}
-use Rattle.read_rules.specs.Sorts.{channelOf}
+use Rattle.read_rules.specs.Sorts.{channel_of}
 use Rattle.acceptance.specs.Account.{All, Listed, count, table_of, Ending}
 
 -- number 8: Packet Data (128) stands already; a control message has none
@@ -20,16 +20,16 @@ Behind planes.Data τ = τ 128 0 ≡ none → ⊥
 -- The first fault of the first option of a rest, `τ` being what the options before it say: "each tested in the order 3, 8, 6, 4, 5, 7".
 -- Each number stands with what its line of "Numbers of refusal" says, and with no number before it in this order.
 pub data Fault (plane : Plane) (e : End) (τ : Table) : ℕ → Options → Type 0 where
-  cut_off : {rest : List ℕ} → Fault plane e τ 3 (cut rest)
-  behind-packet : {kind : ℕ} {content : List ℕ} {more : Options} → Behind plane τ → Fault plane e τ 8 (option kind content more)
-  unlisted : {kind : ℕ} {content : List ℕ} {more : Options} → (Behind plane τ → ⊥) → among kind known ≡ true → among kind (mayHold plane e) ≡ false
+  cut_off_lem : {rest : List ℕ} → Fault plane e τ 3 (cut rest)
+  behind_packet_lem : {kind : ℕ} {content : List ℕ} {more : Options} → Behind plane τ → Fault plane e τ 8 (option kind content more)
+  unlisted : {kind : ℕ} {content : List ℕ} {more : Options} → (Behind plane τ → ⊥) → among kind known ≡ true → among kind (may_hold plane e) ≡ false
       → Fault plane e τ 6 (option kind content more)
-  other_length : {kind : ℕ} {content : List ℕ} {more : Options} → (Behind plane τ → ⊥) → among kind known ≡ true → among kind (mayHold plane e) ≡ true
-      → lengthListed kind (length content) ≡ false → Fault plane e τ 4 (option kind content more)
-  meaningless : {kind : ℕ} {content : List ℕ} {more : Options} → (Behind plane τ → ⊥) → among kind known ≡ true → among kind (mayHold plane e) ≡ true
-      → lengthListed kind (length content) ≡ true → valueListed kind content ≡ false → Fault plane e τ 5 (option kind content more)
+  other_length : {kind : ℕ} {content : List ℕ} {more : Options} → (Behind plane τ → ⊥) → among kind known ≡ true → among kind (may_hold plane e) ≡ true
+      → length_listed kind (length content) ≡ false → Fault plane e τ 4 (option kind content more)
+  meaningless : {kind : ℕ} {content : List ℕ} {more : Options} → (Behind plane τ → ⊥) → among kind known ≡ true → among kind (may_hold plane e) ≡ true
+      → length_listed kind (length content) ≡ true → value_listed kind content ≡ false → Fault plane e τ 5 (option kind content more)
   repeated : {kind : ℕ} {content : List ℕ} {more : Options} → (Behind plane τ → ⊥) → among kind known ≡ true → Listed plane e kind content
-      → (τ kind (channelOf plane kind content) ≡ none → ⊥) → Fault plane e τ 7 (option kind content more)
+      → (τ kind (channel_of plane kind content) ≡ none → ⊥) → Fault plane e τ 7 (option kind content more)
 
 -- "the first found is reported": the options before it have no fault, and the place is its first byte, a byte of the datagram
 pub record AtOption (plane : Plane) (e : End) (datagram : List ℕ) (refusal : Refusal) : Type 0 where
@@ -37,7 +37,7 @@ pub record AtOption (plane : Plane) (e : End) (datagram : List ℕ) (refusal : R
   pub before : Options
   pub rest : List ℕ
   pub parts : datagram ≡ header ∷ (bytes before ++ rest)
-  pub whole : Whole-options before
+  pub whole : WholeOptions before
   pub listed : All (Listed plane e) before
   pub once : (kind channel : ℕ) → count plane e kind channel before ≤ 1
   pub ending : Ending plane before
@@ -46,6 +46,6 @@ pub record AtOption (plane : Plane) (e : End) (datagram : List ℕ) (refusal : R
   pub inside : refusal.place < length datagram
 
 pub record PlacedAt (plane : Plane) (e : End) (datagram : List ℕ) (refusal : Refusal) : Type 0 where
-  pub in-header : refusal.number ≤ HEADER → refusal.place ≡ 0
-  pub in-option : CUT ≤ refusal.number → refusal.number ≤ BEHIND-PACKET → AtOption plane e datagram refusal
+  pub in_header : refusal.number ≤ HEADER → refusal.place ≡ 0
+  pub in_option : CUT ≤ refusal.number → refusal.number ≤ BEHIND-PACKET → AtOption plane e datagram refusal
   pub in_whole : MISSING ≤ refusal.number → refusal.number ≤ OTHER-DATALINK → refusal.place ≡ length datagram

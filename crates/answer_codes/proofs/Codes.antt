@@ -9,49 +9,49 @@ use native.Mathlib.Omega.{arith}
 use lib.ListN.{get_or}
 use Rattle.answer_codes.specs.declared.Answer.{Answer}
 use Rattle.answer_codes.specs.Codes.{Outcome, code_of, REFUSED, SENT, WROTE, ANSWERED, UNASKED}
-use Rattle.answer_codes.specs.Codes.Outcome.{refused, started, taken, sent, nothing-waiting, not-operational, window-shut, withdrawn, accepted, due, other-plane, wrote, shown, kept, none-there, quiet, query-due, silent, query-due-silent, pacer-shown, answered, unasked, no-message, offered}
+use Rattle.answer_codes.specs.Codes.Outcome.{refused, started, taken, sent, nothing_waiting, not_operational, window_shut, withdrawn, accepted, due, other_plane, wrote, shown, kept, none_there, quiet, query_due, silent, query_due_silent, pacer_shown, answered, unasked, no_message, offered}
 
 -- the outcomes without a number, each at its kind
 abbrev plain : List Outcome
 plain =
-    kept ∷ started ∷ taken ∷ kept ∷ nothing-waiting ∷ not-operational ∷ window-shut ∷ withdrawn ∷ accepted ∷ due ∷ other-plane ∷ kept ∷ shown ∷ kept ∷ none-there
-    ∷ quiet ∷ query-due ∷ silent ∷ query-due-silent ∷ pacer-shown ∷ kept ∷ kept ∷ no-message ∷ offered ∷ []
+    kept ∷ started ∷ taken ∷ kept ∷ nothing_waiting ∷ not_operational ∷ window_shut ∷ withdrawn ∷ accepted ∷ due ∷ other_plane ∷ kept ∷ shown ∷ kept ∷ none_there
+    ∷ quiet ∷ query_due ∷ silent ∷ query_due_silent ∷ pacer_shown ∷ kept ∷ kept ∷ no_message ∷ offered ∷ []
 
 -- the outcome that an answer's numbers say
-abbrev pub outcomeOf : Answer → Outcome
-outcomeOf a =
+abbrev pub outcome_of : Answer → Outcome
+outcome_of a =
     cond (leb REFUSED a.kind) (refused (a.kind - REFUSED) a.value)
     (cond (eqb a.kind SENT) (sent a.value)
     (cond (eqb a.kind WROTE) (wrote a.value)
     (cond (eqb a.kind ANSWERED) (answered a.value) (cond (eqb a.kind UNASKED) (unasked a.value) (get_or plain a.kind kept)))))
 
-pub outcome-back : (a : Outcome) → outcomeOf (code_of a) ≡ a
-outcome-back (refused number place) =
-    let number-back : (REFUSED + number) - REFUSED ≡ number = omega arith in
-    rw (le-leb REFUSED (REFUSED + number) (omega arith), number-back)
-outcome-back started = refl
-outcome-back taken = refl
-outcome-back (sent bytes) = refl
-outcome-back nothing-waiting = refl
-outcome-back not-operational = refl
-outcome-back window-shut = refl
-outcome-back withdrawn = refl
-outcome-back accepted = refl
-outcome-back due = refl
-outcome-back other-plane = refl
-outcome-back (wrote bytes) = refl
-outcome-back shown = refl
-outcome-back kept = refl
-outcome-back none-there = refl
-outcome-back quiet = refl
-outcome-back query-due = refl
-outcome-back silent = refl
-outcome-back query-due-silent = refl
-outcome-back pacer-shown = refl
-outcome-back (answered bytes) = refl
-outcome-back (unasked bytes) = refl
-outcome-back no-message = refl
-outcome-back offered = refl
+pub outcome_back : (a : Outcome) → outcome_of (code_of a) ≡ a
+outcome_back (refused number place) =
+    let number_back : (REFUSED + number) - REFUSED ≡ number = omega arith in
+    rw (le-leb REFUSED (REFUSED + number) (omega arith), number_back)
+outcome_back started = refl
+outcome_back taken = refl
+outcome_back (sent bytes) = refl
+outcome_back nothing_waiting = refl
+outcome_back not_operational = refl
+outcome_back window_shut = refl
+outcome_back withdrawn = refl
+outcome_back accepted = refl
+outcome_back due = refl
+outcome_back other_plane = refl
+outcome_back (wrote bytes) = refl
+outcome_back shown = refl
+outcome_back kept = refl
+outcome_back none_there = refl
+outcome_back quiet = refl
+outcome_back query_due = refl
+outcome_back silent = refl
+outcome_back query_due_silent = refl
+outcome_back pacer_shown = refl
+outcome_back (answered bytes) = refl
+outcome_back (unasked bytes) = refl
+outcome_back no_message = refl
+outcome_back offered = refl
 
-pub codes-one : (a b : Outcome) → code_of a ≡ code_of b → a ≡ b
-codes-one a b same = sym (outcome-back a) ∙ ap outcomeOf same ∙ outcome-back b
+pub codes_one : (a b : Outcome) → code_of a ≡ code_of b → a ≡ b
+codes_one a b same = sym (outcome_back a) ∙ ap outcome_of same ∙ outcome_back b

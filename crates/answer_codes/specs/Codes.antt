@@ -4,36 +4,36 @@ use Rattle.quantity.specs.declared.refusal.Refusal.{Refusal}
 use Rattle.writer.specs.declared.answer.WriteAnswer.{WriteAnswer}
 use Rattle.answer_codes.specs.declared.Answer.{Answer}
 
--- what a call answers. Document 01, of a refusal: "Each gives its number and a place, changes no state and no lent byte." `other-plane`, `shown`, `kept`,
--- `none-there` and `pacer-shown` are the library's own: a reader asked for the plane that a message isn't of, what stands in the words, and a position at which no
+-- what a call answers. Document 01, of a refusal: "Each gives its number and a place, changes no state and no lent byte." `other_plane`, `shown`, `kept`,
+-- `none_there` and `pacer_shown` are the library's own: a reader asked for the plane that a message isn't of, what stands in the words, and a position at which no
 -- packet waits.
 pub data Outcome : Type 0 where
   refused : (number place : ℕ) → Outcome
   started : Outcome
   taken : Outcome
   sent : (bytes : ℕ) → Outcome
-  nothing-waiting : Outcome
-  not-operational : Outcome
-  window-shut : Outcome
+  nothing_waiting : Outcome
+  not_operational : Outcome
+  window_shut : Outcome
   withdrawn : Outcome
   accepted : Outcome
   -- accepted, and a mobility message is due
   due : Outcome
-  other-plane : Outcome
+  other_plane : Outcome
   wrote : (bytes : ℕ) → Outcome
   shown : Outcome
   kept : Outcome
-  none-there : Outcome
+  none_there : Outcome
   -- the pacer asked: is a query due, and is the radio silent
   quiet : Outcome
-  query-due : Outcome
+  query_due : Outcome
   silent : Outcome
-  query-due-silent : Outcome
-  pacer-shown : Outcome
+  query_due_silent : Outcome
+  pacer_shown : Outcome
   -- the radio's end: a message was written as the answer to what was asked, or unasked; there is nothing to send
   answered : (bytes : ℕ) → Outcome
   unasked : (bytes : ℕ) → Outcome
-  no-message : Outcome
+  no_message : Outcome
   -- a handful: each of its packets was offered, and has an answer of its own
   offered : Outcome
 
@@ -117,37 +117,37 @@ plainly kind = record { kind = kind; value = 0 }
 abbrev pub counting : ℕ → ℕ → Answer
 counting kind bytes = record { kind = kind; value = bytes }
 
--- the numbers of an outcome (`codes-one`: no two outcomes have the same)
+-- the numbers of an outcome (`codes_one`: no two outcomes have the same)
 abbrev pub code_of : Outcome → Answer
 code_of (refused number place) = record { kind = REFUSED + number; value = place }
 code_of started = plainly STARTED
 code_of taken = plainly TAKEN
 code_of (sent bytes) = counting SENT bytes
-code_of nothing-waiting = plainly NOTHING-WAITING
-code_of not-operational = plainly NOT-OPERATIONAL
-code_of window-shut = plainly WINDOW-SHUT
+code_of nothing_waiting = plainly NOTHING-WAITING
+code_of not_operational = plainly NOT-OPERATIONAL
+code_of window_shut = plainly WINDOW-SHUT
 code_of withdrawn = plainly WITHDRAWN
 code_of accepted = plainly ACCEPTED
 code_of due = plainly DUE
-code_of other-plane = plainly OTHER-PLANE
+code_of other_plane = plainly OTHER-PLANE
 code_of (wrote bytes) = counting WROTE bytes
 code_of shown = plainly SHOWN
 code_of kept = plainly KEPT
-code_of none-there = plainly NONE-THERE
+code_of none_there = plainly NONE-THERE
 code_of quiet = plainly QUIET
-code_of query-due = plainly QUERY-DUE
+code_of query_due = plainly QUERY-DUE
 code_of silent = plainly SILENT
-code_of query-due-silent = plainly QUERY-DUE-SILENT
-code_of pacer-shown = plainly PACER-SHOWN
+code_of query_due_silent = plainly QUERY-DUE-SILENT
+code_of pacer_shown = plainly PACER-SHOWN
 code_of (answered bytes) = counting ANSWERED bytes
 code_of (unasked bytes) = counting UNASKED bytes
-code_of no-message = plainly NO-MESSAGE
+code_of no_message = plainly NO-MESSAGE
 code_of offered = plainly OFFERED
 
 -- a refusal, and a writer's answer, as an outcome
-abbrev pub refusedAs : Refusal → Outcome
-refusedAs refusal = refused refusal.number refusal.place
+abbrev pub refused_as : Refusal → Outcome
+refused_as refusal = refused refusal.number refusal.place
 
-abbrev pub writtenAs : WriteAnswer → Outcome
-writtenAs (WriteAnswer.Wrote bytes) = wrote bytes.0
-writtenAs (WriteAnswer.Refused refusal) = refusedAs refusal
+abbrev pub written_as : WriteAnswer → Outcome
+written_as (WriteAnswer.Wrote bytes) = wrote bytes.0
+written_as (WriteAnswer.Refused refusal) = refused_as refusal

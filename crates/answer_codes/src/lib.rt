@@ -1,6 +1,6 @@
 // An answer of any call as two numbers, for callers that share no types with Rattle. specs/Codes.antt has the same names, with `-` for `_`.
 ghost use Rattle.std.specs.Prelude.{◌≡◌};
-ghost use Rattle.answer_codes.specs.Codes.{code_of, plainly, counting, refusedAs, writtenAs};
+ghost use Rattle.answer_codes.specs.Codes.{code_of, plainly, counting, refused_as, written_as};
 
 use quantity::refusal::Refusal;
 use writer::answer::WriteAnswer;
@@ -80,7 +80,7 @@ pub fn counted(kind: u64, bytes: usize) -> Answer
 }
 
 pub fn refused(refusal: Refusal) -> Answer
-    ensures { result ≡ code_of (refusedAs refusal) }
+    ensures { result ≡ code_of (refused_as refusal) }
 {
     Answer {
         kind: REFUSED + refusal.number as u64,
@@ -89,7 +89,7 @@ pub fn refused(refusal: Refusal) -> Answer
 }
 
 pub fn of_write(answer: WriteAnswer) -> Answer
-    ensures { result ≡ code_of (writtenAs answer) }
+    ensures { result ≡ code_of (written_as answer) }
 {
     match answer {
         WriteAnswer::Wrote(length) => counted(WROTE, length.0),

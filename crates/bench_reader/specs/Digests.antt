@@ -13,7 +13,7 @@ use Rattle.meaning.specs.declared.message.Channel.{Channel}
 use Rattle.meaning.specs.declared.message.Expiration.{Expiration}
 use Rattle.meaning.specs.declared.message.Control.{Control}
 use Rattle.meaning.specs.declared.message.Data.{Data}
-use Rattle.meaning.specs.Cells.{noStatus, noSequence, noWindow}
+use Rattle.meaning.specs.Cells.{no_status, no_sequence, no_window}
 use Rattle.reader.specs.declared.answer.PlaneAnswer.{PlaneAnswer}
 use Rattle.reader.specs.Readings.{Verdict, ControlReading, DataReading}
 
@@ -34,123 +34,123 @@ ABSENT = 2 ^ 32
 abbrev pub EMPTY : ℕ
 EMPTY = 2 ^ 32 + 1
 
-abbrev pub datalinkPart : Datalink → ℕ
-datalinkPart Datalink.Absent = ABSENT
-datalinkPart (Datalink.Given id) = id.0
+abbrev pub datalink_part : Datalink → ℕ
+datalink_part Datalink.Absent = ABSENT
+datalink_part (Datalink.Given id) = id.0
 
-abbrev pub instancePart : Instance → ℕ
-instancePart Instance.Absent = 0
-instancePart (Instance.Given id n) = id.0
+abbrev pub instance_part : Instance → ℕ
+instance_part Instance.Absent = 0
+instance_part (Instance.Given id n) = id.0
 
-abbrev pub instanceLength : Instance → ℕ
-instanceLength Instance.Absent = 0
-instanceLength (Instance.Given id n) = n
+abbrev pub instance_length : Instance → ℕ
+instance_length Instance.Absent = 0
+instance_length (Instance.Given id n) = n
 
-abbrev pub contextPart : Context → ℕ
-contextPart Context.Absent = 0
-contextPart (Context.Given bytes n) = bytes.0
+abbrev pub context_part : Context → ℕ
+context_part Context.Absent = 0
+context_part (Context.Given bytes n) = bytes.0
 
-abbrev pub contextLength : Context → ℕ
-contextLength Context.Absent = 0
-contextLength (Context.Given bytes n) = n
+abbrev pub context_length : Context → ℕ
+context_length Context.Absent = 0
+context_length (Context.Given bytes n) = n
 
-abbrev pub statusPart : Status → ℕ
-statusPart Status.Absent = ABSENT
-statusPart (Status.Given number) = number
+abbrev pub status_part : Status → ℕ
+status_part Status.Absent = ABSENT
+status_part (Status.Given number) = number
 
-abbrev pub sequencePart : Sequence → ℕ
-sequencePart Sequence.Absent = ABSENT
-sequencePart (Sequence.Given word) = word.0
+abbrev pub sequence_part : Sequence → ℕ
+sequence_part Sequence.Absent = ABSENT
+sequence_part (Sequence.Given word) = word.0
 
-abbrev pub windowPart : Window → ℕ
-windowPart Window.Absent = ABSENT
-windowPart Window.Empty = EMPTY
-windowPart (Window.Given word) = word.0
+abbrev pub window_part : Window → ℕ
+window_part Window.Absent = ABSENT
+window_part Window.Empty = EMPTY
+window_part (Window.Given word) = word.0
 
-abbrev pub countedPart : Counted → ℕ
-countedPart Counted.Absent = ABSENT
-countedPart (Counted.Given id word) = word.0
+abbrev pub counted_part : Counted → ℕ
+counted_part Counted.Absent = ABSENT
+counted_part (Counted.Given id word) = word.0
 
-abbrev pub countedChannel : Counted → ℕ
-countedChannel Counted.Absent = ABSENT
-countedChannel (Counted.Given id word) = id
+abbrev pub counted_channel : Counted → ℕ
+counted_channel Counted.Absent = ABSENT
+counted_channel (Counted.Given id word) = id
 
-abbrev pub channelPart : Channel → ℕ
-channelPart Channel.Absent = ABSENT
-channelPart (Channel.Given id) = id
+abbrev pub channel_part : Channel → ℕ
+channel_part Channel.Absent = ABSENT
+channel_part (Channel.Given id) = id
 
-abbrev pub expirationPart : Expiration → ℕ
-expirationPart Expiration.Absent = ABSENT
-expirationPart (Expiration.Given time) = time
+abbrev pub expiration_part : Expiration → ℕ
+expiration_part Expiration.Absent = ABSENT
+expiration_part (Expiration.Given time) = time
 
 -- ---- what is stated, one part after another
 
-abbrev pub mixedAll : ℕ → List ℕ → ℕ
-mixedAll sum [] = sum
-mixedAll sum (part ∷ parts) = mixedAll (mixed sum part) parts
+abbrev pub mixed_all : ℕ → List ℕ → ℕ
+mixed_all sum [] = sum
+mixed_all sum (part ∷ parts) = mixed_all (mixed sum part) parts
 
 -- of a control message as a whole and of one channel; of a channel that the tables don't have, nothing is stated
-unfoldable pub controlSum : ℕ → Control → ℕ
-controlSum channel m =
-    mixedAll 0
-    (datalinkPart m.datalink
-    ∷ instancePart m.instance
-    ∷ instanceLength m.instance
-    ∷ contextPart m.context
-    ∷ contextLength m.context
-    ∷ statusPart (slice_index_or m.statuses channel noStatus).status
-    ∷ sequencePart (slice_index_or m.sequences channel noSequence).sequence
-    ∷ windowPart (slice_index_or m.windows channel noWindow).window
+unfoldable pub control_sum : ℕ → Control → ℕ
+control_sum channel m =
+    mixed_all 0
+    (datalink_part m.datalink
+    ∷ instance_part m.instance
+    ∷ instance_length m.instance
+    ∷ context_part m.context
+    ∷ context_length m.context
+    ∷ status_part (slice_index_or m.statuses channel no_status).status
+    ∷ sequence_part (slice_index_or m.sequences channel no_sequence).sequence
+    ∷ window_part (slice_index_or m.windows channel no_window).window
     ∷ [])
 
 -- of what is noted of a control message: its link, and of one channel its status and its window
-unfoldable pub notedSum : Instance → Context → (status window : ℕ) → ℕ
-notedSum instance context status window =
-    mixedAll 0 (instancePart instance ∷ instanceLength instance ∷ contextPart context ∷ contextLength context ∷ status ∷ window ∷ [])
+unfoldable pub noted_sum : Instance → Context → (status window : ℕ) → ℕ
+noted_sum instance context status window =
+    mixed_all 0 (instance_part instance ∷ instance_length instance ∷ context_part context ∷ context_length context ∷ status ∷ window ∷ [])
 
 abbrev pub noted_of : ℕ → Control → ℕ
 noted_of channel m =
-    notedSum m.instance m.context (statusPart (slice_index_or m.statuses channel noStatus).status) (windowPart (slice_index_or m.windows channel noWindow).window)
+    noted_sum m.instance m.context (status_part (slice_index_or m.statuses channel no_status).status) (window_part (slice_index_or m.windows channel no_window).window)
 
-unfoldable pub dataSum : Data → ℕ
-dataSum m = mixedAll 0 (datalinkPart m.datalink ∷ countedPart m.sequence ∷ countedChannel m.sequence ∷ channelPart m.channel ∷ expirationPart m.expiration ∷ [])
+unfoldable pub data_sum : Data → ℕ
+data_sum m = mixed_all 0 (datalink_part m.datalink ∷ counted_part m.sequence ∷ counted_channel m.sequence ∷ channel_part m.channel ∷ expiration_part m.expiration ∷ [])
 
 -- and of a packet its length and its last byte
-unfoldable pub packetSum : ℕ → List ℕ → ℕ
-packetSum sum packet = mixedAll sum (length packet ∷ slice_index packet (length packet - 1) ∷ [])
+unfoldable pub packet_sum : ℕ → List ℕ → ℕ
+packet_sum sum packet = mixed_all sum (length packet ∷ slice_index packet (length packet - 1) ∷ [])
 
 -- ---- a reading
 
-abbrev pub isAccepted : Verdict → Bool
-isAccepted Verdict.Accepted = true
-isAccepted Verdict.OtherPlane = false
-isAccepted (Verdict.Refused refusal) = false
+abbrev pub is_accepted : Verdict → Bool
+is_accepted Verdict.Accepted = true
+is_accepted Verdict.OtherPlane = false
+is_accepted (Verdict.Refused refusal) = false
 
 -- the number in the bits above the 17 that the place needs; no number is 0, so no refusal gives 0 or 1
-abbrev pub refusalOf : Refusal → ℕ
-refusalOf refusal = mixed refusal.number refusal.place
+abbrev pub refusal_of : Refusal → ℕ
+refusal_of refusal = mixed refusal.number refusal.place
 
-abbrev pub faultOf : Verdict → ℕ
-faultOf Verdict.Accepted = 0
-faultOf Verdict.OtherPlane = 1
-faultOf (Verdict.Refused refusal) = refusalOf refusal
+abbrev pub fault_of : Verdict → ℕ
+fault_of Verdict.Accepted = 0
+fault_of Verdict.OtherPlane = 1
+fault_of (Verdict.Refused refusal) = refusal_of refusal
 
-abbrev pub planeDigest : PlaneAnswer → ℕ
-planeDigest PlaneAnswer.Control = 0
-planeDigest PlaneAnswer.Data = 1
-planeDigest (PlaneAnswer.Refused refusal) = refusalOf refusal
+abbrev pub plane_digest : PlaneAnswer → ℕ
+plane_digest PlaneAnswer.Control = 0
+plane_digest PlaneAnswer.Data = 1
+plane_digest (PlaneAnswer.Refused refusal) = refusal_of refusal
 
-abbrev pub digestOf : Verdict → ℕ → ℕ
-digestOf verdict sum = cond (isAccepted verdict) sum (faultOf verdict)
+abbrev pub digest_of : Verdict → ℕ → ℕ
+digest_of verdict sum = cond (is_accepted verdict) sum (fault_of verdict)
 
-abbrev pub controlDigest : ℕ → ControlReading → ℕ
-controlDigest channel reading = digestOf reading.verdict (controlSum channel reading.message)
+abbrev pub control_digest : ℕ → ControlReading → ℕ
+control_digest channel reading = digest_of reading.verdict (control_sum channel reading.message)
 
-abbrev pub notedDigest : ℕ → ControlReading → ℕ
-notedDigest channel reading = digestOf reading.verdict (noted_of channel reading.message)
+abbrev pub noted_digest : ℕ → ControlReading → ℕ
+noted_digest channel reading = digest_of reading.verdict (noted_of channel reading.message)
 
-abbrev pub dataDigest : DataReading → ℕ
-dataDigest reading = digestOf reading.verdict (dataSum reading.message)
+abbrev pub data_digest : DataReading → ℕ
+data_digest reading = digest_of reading.verdict (data_sum reading.message)
 
-abbrev pub packetDigest : DataReading → List ℕ → ℕ
-packetDigest reading packet = digestOf reading.verdict (packetSum (dataSum reading.message) packet)
+abbrev pub packet_digest : DataReading → List ℕ → ℕ
+packet_digest reading packet = digest_of reading.verdict (packet_sum (data_sum reading.message) packet)

@@ -1,7 +1,7 @@
 // A reading folded into a number, part by part.
 ghost use Rattle.std.specs.Prelude.{◌≡◌};
-ghost use Rattle.note_control.specs.Codes.{codeStatus};
-ghost use Rattle.bench_reader.specs.Digests.{end_of, mixed, datalinkPart, instancePart, instanceLength, contextPart, contextLength, statusPart, sequencePart, windowPart, countedPart, countedChannel, channelPart, expirationPart, controlSum, notedSum, dataSum, packetSum, isAccepted, refusalOf, faultOf, planeDigest};
+ghost use Rattle.note_control.specs.Codes.{code_status};
+ghost use Rattle.bench_reader.specs.Digests.{end_of, mixed, datalink_part, instance_part, instance_length, context_part, context_length, status_part, sequence_part, window_part, counted_part, counted_channel, channel_part, expiration_part, control_sum, noted_sum, data_sum, packet_sum, is_accepted, refusal_of, fault_of, plane_digest};
 
 use meaning::message::{
     Channel, Context, Control, Counted, Data, Datalink, End, Expiration, Instance, Sequence,
@@ -38,7 +38,7 @@ pub fn mix(sum: u64, part: u64) -> u64
 }
 
 fn datalink(stated: Datalink) -> u64
-    ensures { result ≡ datalinkPart stated }
+    ensures { result ≡ datalink_part stated }
 {
     match stated {
         Datalink::Absent => ABSENT,
@@ -47,7 +47,7 @@ fn datalink(stated: Datalink) -> u64
 }
 
 fn instance(stated: Instance) -> u64
-    ensures { result ≡ instancePart stated }
+    ensures { result ≡ instance_part stated }
 {
     match stated {
         Instance::Absent => 0,
@@ -56,7 +56,7 @@ fn instance(stated: Instance) -> u64
 }
 
 fn instance_length(stated: Instance) -> u64
-    ensures { result ≡ instanceLength stated }
+    ensures { result ≡ instance_length stated }
 {
     match stated {
         Instance::Absent => 0,
@@ -65,7 +65,7 @@ fn instance_length(stated: Instance) -> u64
 }
 
 fn context(stated: Context) -> u64
-    ensures { result ≡ contextPart stated }
+    ensures { result ≡ context_part stated }
 {
     match stated {
         Context::Absent => 0,
@@ -74,7 +74,7 @@ fn context(stated: Context) -> u64
 }
 
 fn context_length(stated: Context) -> u64
-    ensures { result ≡ contextLength stated }
+    ensures { result ≡ context_length stated }
 {
     match stated {
         Context::Absent => 0,
@@ -83,7 +83,7 @@ fn context_length(stated: Context) -> u64
 }
 
 fn status(stated: Status) -> u64
-    ensures { result ≡ statusPart stated }
+    ensures { result ≡ status_part stated }
 {
     match stated {
         Status::Absent => ABSENT,
@@ -92,7 +92,7 @@ fn status(stated: Status) -> u64
 }
 
 fn sequence(stated: Sequence) -> u64
-    ensures { result ≡ sequencePart stated }
+    ensures { result ≡ sequence_part stated }
 {
     match stated {
         Sequence::Absent => ABSENT,
@@ -101,7 +101,7 @@ fn sequence(stated: Sequence) -> u64
 }
 
 pub fn window(stated: Window) -> u64
-    ensures { result ≡ windowPart stated }
+    ensures { result ≡ window_part stated }
 {
     match stated {
         Window::Absent => ABSENT,
@@ -111,7 +111,7 @@ pub fn window(stated: Window) -> u64
 }
 
 fn counted(stated: Counted) -> u64
-    ensures { result ≡ countedPart stated }
+    ensures { result ≡ counted_part stated }
 {
     match stated {
         Counted::Absent => ABSENT,
@@ -120,7 +120,7 @@ fn counted(stated: Counted) -> u64
 }
 
 fn counted_channel(stated: Counted) -> u64
-    ensures { result ≡ countedChannel stated }
+    ensures { result ≡ counted_channel stated }
 {
     match stated {
         Counted::Absent => ABSENT,
@@ -129,7 +129,7 @@ fn counted_channel(stated: Counted) -> u64
 }
 
 fn channel(stated: Channel) -> u64
-    ensures { result ≡ channelPart stated }
+    ensures { result ≡ channel_part stated }
 {
     match stated {
         Channel::Absent => ABSENT,
@@ -138,7 +138,7 @@ fn channel(stated: Channel) -> u64
 }
 
 fn expiration(stated: Expiration) -> u64
-    ensures { result ≡ expirationPart stated }
+    ensures { result ≡ expiration_part stated }
 {
     match stated {
         Expiration::Absent => ABSENT,
@@ -148,7 +148,7 @@ fn expiration(stated: Expiration) -> u64
 
 // What a control message states of the whole, and of one channel; of a channel that the tables don't have, nothing.
 pub fn control_sum(message: Control, channel: u8) -> u64
-    ensures { result ≡ controlSum channel message }
+    ensures { result ≡ control_sum channel message }
 {
     let named = message.datalink;
     let link = message.instance;
@@ -176,7 +176,7 @@ pub fn control_sum(message: Control, channel: u8) -> u64
 
 // What is noted of a Channel Status.
 pub fn status_code(code: u16) -> u64
-    ensures { result ≡ statusPart (codeStatus code) }
+    ensures { result ≡ status_part (code_status code) }
 {
     if code == ABSENT_STATUS {
         return ABSENT;
@@ -186,7 +186,7 @@ pub fn status_code(code: u16) -> u64
 
 // What is noted of a control message, its link, and of one channel its status and its window.
 pub fn noted_sum(link: Instance, told: Context, reported: u64, edge: u64) -> u64
-    ensures { result ≡ notedSum link told reported edge }
+    ensures { result ≡ noted_sum link told reported edge }
 {
     let named = mix(mix(0, instance(link)), instance_length(link));
     let whole = mix(mix(named, context(told)), context_length(told));
@@ -195,7 +195,7 @@ pub fn noted_sum(link: Instance, told: Context, reported: u64, edge: u64) -> u64
 
 // What a data message states, as one number.
 pub fn data_sum(message: Data) -> u64
-    ensures { result ≡ dataSum message }
+    ensures { result ≡ data_sum message }
 {
     let named = message.datalink;
     let flow = message.sequence;
@@ -210,7 +210,7 @@ pub fn data_sum(message: Data) -> u64
 
 // The packet's length and its last byte, where it has one.
 pub fn packet_sum(sum: u64, packet: &[u8]) -> u64
-    ensures { result ≡ packetSum sum packet.now }
+    ensures { result ≡ packet_sum sum packet.now }
 {
     let n = packet.len();
     if n == 0 {
@@ -221,7 +221,7 @@ pub fn packet_sum(sum: u64, packet: &[u8]) -> u64
 
 // Whether a reader accepted the message.
 pub fn is_accepted(verdict: Verdict) -> bool
-    ensures { result ≡ isAccepted verdict }
+    ensures { result ≡ is_accepted verdict }
 {
     match verdict {
         Verdict::Accepted => true,
@@ -232,14 +232,14 @@ pub fn is_accepted(verdict: Verdict) -> bool
 
 // A refusal's number and place: the place needs the lower 17 bits.
 pub fn refused(refusal: Refusal) -> u64
-    ensures { result ≡ refusalOf refusal }
+    ensures { result ≡ refusal_of refusal }
 {
     mix(refusal.number as u64, refusal.place as u64)
 }
 
 // Of a message that isn't accepted: its refusal, or 1.
 pub fn fault(verdict: Verdict) -> u64
-    ensures { result ≡ faultOf verdict }
+    ensures { result ≡ fault_of verdict }
 {
     match verdict {
         Verdict::Accepted => 0,
@@ -250,7 +250,7 @@ pub fn fault(verdict: Verdict) -> u64
 
 // The answer about the plane, as one number.
 pub fn plane(answer: PlaneAnswer) -> u64
-    ensures { result ≡ planeDigest answer }
+    ensures { result ≡ plane_digest answer }
 {
     match answer {
         PlaneAnswer::Control => 0,

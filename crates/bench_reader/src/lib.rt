@@ -2,8 +2,8 @@
 // asks it, by the plane first: what the header refuses fills no message.
 ghost use Rattle.std.specs.Prelude.{◌≡◌, if◌then◌else◌};
 ghost use Rattle.reader.specs.declared.answer.PlaneAnswer.{PlaneAnswer};
-ghost use Rattle.reader.specs.Readings.{planeOf, readControl, readData, packetOf};
-ghost use Rattle.bench_reader.specs.Digests.{end_of, planeDigest, controlDigest, notedDigest, dataDigest, packetDigest};
+ghost use Rattle.reader.specs.Readings.{plane_of, read_control, read_data, packet_of};
+ghost use Rattle.bench_reader.specs.Digests.{end_of, plane_digest, control_digest, noted_digest, data_digest, packet_digest};
 
 use meaning::message::End;
 use note_control::{codes, note};
@@ -17,7 +17,7 @@ pub mod digest;
 // The header alone, by which a caller chooses the reader.
 #[unsafe(no_mangle)]
 pub extern "C" fn nespovarda_plane_digest(datagram: &[u8]) -> u64
-    ensures { result ≡ planeDigest (planeOf datagram.now) }
+    ensures { result ≡ plane_digest (plane_of datagram.now) }
 {
     digest::plane(header::plane(datagram))
 }
@@ -30,7 +30,7 @@ pub extern "C" fn nespovarda_control_digest(
     id: u8,
     channel: u8,
 ) -> u64
-    ensures { result ≡ controlDigest channel (readControl (end_of radio) (record { 0 = id }) datagram.now) }
+    ensures { result ≡ control_digest channel (read_control (end_of radio) (record { 0 = id }) datagram.now) }
 {
     if let PlaneAnswer::Refused(refusal) = header::plane(datagram) {
         return digest::refused(refusal);
@@ -46,8 +46,8 @@ pub extern "C" fn nespovarda_control_digest(
 
 // What is noted of a datagram of the control plane.
 fn noted(datagram: &[u8], end: End, id: DatalinkId, channel: u8) -> u64
-    requires { planeOf datagram.now ≡ PlaneAnswer.Control }
-    ensures { result ≡ notedDigest channel (readControl end id datagram.now) }
+    requires { plane_of datagram.now ≡ PlaneAnswer.Control }
+    ensures { result ≡ noted_digest channel (read_control end id datagram.now) }
 {
     let mut statuses = [0u16; CHANNEL_IDS];
     let mut tags = [0u8; CHANNEL_IDS];
@@ -71,7 +71,7 @@ fn noted(datagram: &[u8], end: End, id: DatalinkId, channel: u8) -> u64
 // A control message by its lent tables: what is noted of the whole and of one channel.
 #[unsafe(no_mangle)]
 pub extern "C" fn nespovarda_noted_digest(datagram: &[u8], radio: bool, id: u8, channel: u8) -> u64
-    ensures { result ≡ notedDigest channel (readControl (end_of radio) (record { 0 = id }) datagram.now) }
+    ensures { result ≡ noted_digest channel (read_control (end_of radio) (record { 0 = id }) datagram.now) }
 {
     match header::plane(datagram) {
         PlaneAnswer::Control => noted(datagram, digest::end_of(radio), DatalinkId(id), channel),
@@ -84,7 +84,7 @@ pub extern "C" fn nespovarda_noted_digest(datagram: &[u8], radio: bool, id: u8, 
 // into this place, and nothing that it answers is handed over in memory (docs/SPEED.md).
 #[unsafe(no_mangle)]
 pub extern "C" fn nespovarda_data_digest(datagram: &[u8], radio: bool, id: u8, handed: bool) -> u64
-    ensures { result ≡ (if handed then packetDigest (readData (end_of radio) (record { 0 = id }) datagram.now) (packetOf datagram.now) else dataDigest (readData (end_of radio) (record { 0 = id }) datagram.now)) }
+    ensures { result ≡ (if handed then packet_digest (read_data (end_of radio) (record { 0 = id }) datagram.now) (packet_of datagram.now) else data_digest (read_data (end_of radio) (record { 0 = id }) datagram.now)) }
 {
     let carried = data::read_with_packet(datagram, digest::end_of(radio), DatalinkId(id));
     let reading = carried.reading;

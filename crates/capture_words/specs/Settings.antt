@@ -15,26 +15,26 @@ abbrev pub setting_of : Bool → ℕ → ℕ → ℕ → Setting
 setting_of good radio ips datalink = record { good = good; ports = record { radio = radio; ips = ips }; id = record { 0 = datalink } }
 
 -- words that say nothing
-abbrev pub refusedOf : Setting
-refusedOf = setting_of false 0 0 0
+abbrev pub refused_of : Setting
+refused_of = setting_of false 0 0 0
 
 -- what the program says on standard error: "ports 0 to 65535 and not equal, DATALINK 0 to 255"
 abbrev pub allowed : ℕ → ℕ → ℕ → Bool
 allowed radio ips datalink = leb radio HIGHEST-PORT && leb ips HIGHEST-PORT && leb datalink HIGHEST-DATALINK && not (eqb radio ips)
 
 -- what three numbers say
-unfoldable pub numbersSay : ℕ → ℕ → ℕ → Setting
-numbersSay radio ips datalink = cond (allowed radio ips datalink) (setting_of true radio ips datalink) refusedOf
+unfoldable pub numbers_say : ℕ → ℕ → ℕ → Setting
+numbers_say radio ips datalink = cond (allowed radio ips datalink) (setting_of true radio ips datalink) refused_of
 
 -- what three words say, each a number or none
-unfoldable pub wordsSay : Number → Number → Number → Setting
-wordsSay Bad ips datalink = refusedOf
-wordsSay (Value radio) Bad datalink = refusedOf
-wordsSay (Value radio) (Value ips) Bad = refusedOf
-wordsSay (Value radio) (Value ips) (Value datalink) = numbersSay radio ips datalink
+unfoldable pub words_say : Number → Number → Number → Setting
+words_say Bad ips datalink = refused_of
+words_say (Value radio) Bad datalink = refused_of
+words_say (Value radio) (Value ips) Bad = refused_of
+words_say (Value radio) (Value ips) (Value datalink) = numbers_say radio ips datalink
 
 -- by the words that there are: none, three of them, or another count
 pub data Asked : Setting → Type 0 where
-  none : Asked (numbersSay 8580 8581 7)
-  three : (radio ips datalink : Number) → Asked (wordsSay radio ips datalink)
-  others : Asked refusedOf
+  none : Asked (numbers_say 8580 8581 7)
+  three : (radio ips datalink : Number) → Asked (words_say radio ips datalink)
+  others : Asked refused_of

@@ -1,6 +1,6 @@
 // The words of a program over captures: the ports of the two ends and the Datalink ID.
 ghost use Rattle.std.specs.Prelude.{◌≡◌};
-ghost use Rattle.capture_words.specs.Settings.{setting_of, refusedOf, numbersSay, wordsSay, Asked};
+ghost use Rattle.capture_words.specs.Settings.{setting_of, refused_of, numbers_say, words_say, Asked};
 
 use ethernet::Ports;
 use quantity::count::DatalinkId;
@@ -41,14 +41,14 @@ fn made(good: bool, radio: usize, ips: usize, datalink: u8) -> Setting
 }
 
 fn refused() -> Setting
-    ensures { result ≡ refusedOf }
+    ensures { result ≡ refused_of }
 {
     made(false, 0, 0, 0)
 }
 
 // What three numbers say.
 pub fn numbers_say(radio: u64, ips: u64, datalink: u64) -> Setting
-    ensures { result ≡ numbersSay radio ips datalink }
+    ensures { result ≡ numbers_say radio ips datalink }
 {
     if radio > HIGHEST_PORT {
         return refused();
@@ -67,7 +67,7 @@ pub fn numbers_say(radio: u64, ips: u64, datalink: u64) -> Setting
 
 // What three words say, each a number or none.
 pub fn words_say(radio: Number, ips: Number, datalink: Number) -> Setting
-    ensures { result ≡ wordsSay radio ips datalink }
+    ensures { result ≡ words_say radio ips datalink }
 {
     let Number::Value(to_radio) = radio else {
         return refused();

@@ -10,8 +10,8 @@ abbrev pub plus : ℕ → ℕ → ℕ
 plus count amount = min MOST (count + amount)
 
 -- an amount more at a place; a place that isn't there takes nothing
-abbrev pub addAt : List ℕ → ℕ → ℕ → List ℕ
-addAt counts place amount = set counts place (plus (get_or counts place 0) amount)
+abbrev pub add_at : List ℕ → ℕ → ℕ → List ℕ
+add_at counts place amount = set counts place (plus (get_or counts place 0) amount)
 
 -- an amount for a place
 pub record Add : Type 0 where
@@ -22,6 +22,6 @@ abbrev pub to : ℕ → ℕ → Add
 to place amount = record { place = place; amount = amount }
 
 -- one after another
-unfoldable pub addAll : List Add → List ℕ → List ℕ
-addAll [] counts = counts
-addAll (add ∷ adds) counts = addAll adds (addAt counts add.place add.amount)
+unfoldable pub add_all : List Add → List ℕ → List ℕ
+add_all [] counts = counts
+add_all (add ∷ adds) counts = add_all adds (add_at counts add.place add.amount)

@@ -4,16 +4,16 @@ use Rattle.quantity.specs.declared.count.DatalinkId.{DatalinkId}
 use Rattle.meaning.specs.declared.message.Channel.{Channel}
 use Rattle.meaning.specs.declared.message.Control.{Control}
 use Rattle.meaning.specs.declared.message.End.{End}
-use Rattle.reader.specs.Readings.{Verdict, ControlReading, DataReading, readControl, readData, packetOf, planeOf}
+use Rattle.reader.specs.Readings.{Verdict, ControlReading, DataReading, read_control, read_data, packet_of, plane_of}
 use Rattle.reader.specs.declared.answer.PlaneAnswer.{PlaneAnswer}
 use Rattle.ethernet.specs.declared.Kind.{Kind}
 use Rattle.ethernet.specs.declared.Ports.{Ports}
-use Rattle.ethernet.specs.Layers.{datagramOf}
+use Rattle.ethernet.specs.Layers.{datagram_of}
 use Rattle.ethernet.specs.Kinds.{kind_of}
 use Rattle.census.specs.declared.Sender.{Sender}
 
 -- what a datagram is read as: refused by a number; an accepted control message; an accepted data message, by its channel and its packet's length.
--- A reader that is asked for a message of its own plane never answers that it is the other's (`outcome-fair`).
+-- A reader that is asked for a message of its own plane never answers that it is the other's (`outcome_fair`).
 pub data Reading : Type 0 where
   refused : ℕ → Reading
   control : Control → Reading
@@ -26,50 +26,50 @@ pub data Outcome : Type 0 where
   message : End → Reading → Outcome
 
 -- "no Channel Identifier: channel 0"
-abbrev pub channelOf : Channel → ℕ
-channelOf Channel.Absent = 0
-channelOf (Channel.Given channel) = channel
+abbrev pub channel_of : Channel → ℕ
+channel_of Channel.Absent = 0
+channel_of (Channel.Given channel) = channel
 
-abbrev pub byVerdict : Verdict → Reading → Reading
-byVerdict Verdict.Accepted reading = reading
-byVerdict (Verdict.Refused refusal) reading = refused refusal.number
-byVerdict Verdict.OtherPlane reading = astray
+abbrev pub by_verdict : Verdict → Reading → Reading
+by_verdict Verdict.Accepted reading = reading
+by_verdict (Verdict.Refused refusal) reading = refused refusal.number
+by_verdict Verdict.OtherPlane reading = astray
 
-abbrev pub controlOf : ControlReading → Reading
-controlOf reading = byVerdict reading.verdict (control reading.message)
+abbrev pub control_of : ControlReading → Reading
+control_of reading = by_verdict reading.verdict (control reading.message)
 
 -- "packets, their bytes": the length of Packet Data
 abbrev pub data_of : DataReading → List ℕ → Reading
-data_of reading packet = byVerdict reading.verdict (carried (channelOf reading.message.channel) (length packet))
+data_of reading packet = by_verdict reading.verdict (carried (channel_of reading.message.channel) (length packet))
 
-abbrev pub byPlane : PlaneAnswer → Reading → Reading → Reading
-byPlane PlaneAnswer.Control ofControl ofData = ofControl
-byPlane PlaneAnswer.Data ofControl ofData = ofData
-byPlane (PlaneAnswer.Refused refusal) ofControl ofData = refused refusal.number
+abbrev pub by_plane : PlaneAnswer → Reading → Reading → Reading
+by_plane PlaneAnswer.Control of_control of_data = of_control
+by_plane PlaneAnswer.Data of_control of_data = of_data
+by_plane (PlaneAnswer.Refused refusal) of_control of_data = refused refusal.number
 
 -- a datagram of an end, read by the reader of its plane
 unfoldable pub reading_of : End → DatalinkId → List ℕ → Reading
 reading_of end id datagram =
-    byPlane (planeOf datagram) (controlOf (readControl end id datagram)) (data_of (readData end id datagram) (packetOf datagram))
+    by_plane (plane_of datagram) (control_of (read_control end id datagram)) (data_of (read_data end id datagram) (packet_of datagram))
 
 -- whose message a record holds, by its kind: to the radio's port it is the IPS end's, to the IPS port the radio's
-abbrev pub senderOf : Kind → Sender
-senderOf Kind.Ips = Sender.Message End.Ips
-senderOf Kind.Radio = Sender.Message End.Radio
-senderOf Kind.Shortened = Sender.Skipped
-senderOf Kind.Short = Sender.Skipped
-senderOf Kind.OtherType = Sender.Skipped
-senderOf Kind.NotIpv4 = Sender.Skipped
-senderOf Kind.Fragment = Sender.Skipped
-senderOf Kind.OtherProtocol = Sender.Skipped
-senderOf Kind.Ipv4Length = Sender.Skipped
-senderOf Kind.UdpLength = Sender.Skipped
-senderOf Kind.OtherPort = Sender.Skipped
+abbrev pub sender_of : Kind → Sender
+sender_of Kind.Ips = Sender.Message End.Ips
+sender_of Kind.Radio = Sender.Message End.Radio
+sender_of Kind.Shortened = Sender.Skipped
+sender_of Kind.Short = Sender.Skipped
+sender_of Kind.OtherType = Sender.Skipped
+sender_of Kind.NotIpv4 = Sender.Skipped
+sender_of Kind.Fragment = Sender.Skipped
+sender_of Kind.OtherProtocol = Sender.Skipped
+sender_of Kind.Ipv4Length = Sender.Skipped
+sender_of Kind.UdpLength = Sender.Skipped
+sender_of Kind.OtherPort = Sender.Skipped
 
-abbrev pub bySender : Sender → (End → Reading) → Outcome
-bySender Sender.Skipped f = skipped
-bySender (Sender.Message end) f = message end (f end)
+abbrev pub by_sender : Sender → (End → Reading) → Outcome
+by_sender Sender.Skipped f = skipped
+by_sender (Sender.Message end) f = message end (f end)
 
 -- a record, by the ports, the configured Datalink ID, how many bytes there were and those that were kept
-unfoldable pub outcomeOf : Ports → DatalinkId → ℕ → List ℕ → Outcome
-outcomeOf ports id original frame = bySender (senderOf (kind_of ports original frame)) (λ end. reading_of end id (datagramOf frame))
+unfoldable pub outcome_of : Ports → DatalinkId → ℕ → List ℕ → Outcome
+outcome_of ports id original frame = by_sender (sender_of (kind_of ports original frame)) (λ end. reading_of end id (datagram_of frame))

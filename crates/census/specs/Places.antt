@@ -36,40 +36,40 @@ WINDOWS = 17
 abbrev pub PLACES : ℕ
 PLACES = 780
 
-abbrev pub endPlace : End → ℕ
-endPlace End.Ips = IPS
-endPlace End.Radio = RADIO
+abbrev pub end_place : End → ℕ
+end_place End.Ips = IPS
+end_place End.Radio = RADIO
 
 -- "windows granted": a Flow Window with the field
-abbrev pub windowAdds : ℕ → Window → List Add
-windowAdds channel Window.Absent = []
-windowAdds channel Window.Empty = []
-windowAdds channel (Window.Given window) = to (WINDOWS + 3 * channel) 1 ∷ []
+abbrev pub window_adds : ℕ → Window → List Add
+window_adds channel Window.Absent = []
+window_adds channel Window.Empty = []
+window_adds channel (Window.Given window) = to (WINDOWS + 3 * channel) 1 ∷ []
 
 -- those of a table, from a Channel ID on
-unfoldable pub windowsFrom : ℕ → List WindowCell → List Add
-windowsFrom channel [] = []
-windowsFrom channel (cell ∷ cells) = windowAdds channel cell.window ++ windowsFrom (suc channel) cells
+unfoldable pub windows_from : ℕ → List WindowCell → List Add
+windows_from channel [] = []
+windows_from channel (cell ∷ cells) = window_adds channel cell.window ++ windows_from (suc channel) cells
 
 -- of an accepted control message: the radio's grants windows
-abbrev pub grantedAdds : End → List WindowCell → List Add
-grantedAdds End.Ips cells = []
-grantedAdds End.Radio cells = windowsFrom 0 cells
+abbrev pub granted_adds : End → List WindowCell → List Add
+granted_adds End.Ips cells = []
+granted_adds End.Radio cells = windows_from 0 cells
 
 -- a packet of n bytes on a channel
-abbrev pub packetAdds : ℕ → ℕ → List Add
-packetAdds channel size = to (PACKETS + 3 * channel) 1 ∷ to (BYTES + 3 * channel) size ∷ []
+abbrev pub packet_adds : ℕ → ℕ → List Add
+packet_adds channel size = to (PACKETS + 3 * channel) 1 ∷ to (BYTES + 3 * channel) size ∷ []
 
-abbrev pub readingAdds : End → Reading → List Add
-readingAdds end (refused number) = to (REFUSALS + number) 1 ∷ []
-readingAdds end (control stated) = grantedAdds end stated.windows
-readingAdds end (carried channel size) = packetAdds channel size
-readingAdds end astray = []
+abbrev pub reading_adds : End → Reading → List Add
+reading_adds end (refused number) = to (REFUSALS + number) 1 ∷ []
+reading_adds end (control stated) = granted_adds end stated.windows
+reading_adds end (carried channel size) = packet_adds channel size
+reading_adds end astray = []
 
-abbrev pub messageAdds : End → Reading → List Add
-messageAdds end reading = to (endPlace end) 1 ∷ readingAdds end reading
+abbrev pub message_adds : End → Reading → List Add
+message_adds end reading = to (end_place end) 1 ∷ reading_adds end reading
 
 -- what a record adds
-abbrev pub addsOf : Outcome → List Add
-addsOf skipped = to RECORDS 1 ∷ to SKIPPED 1 ∷ []
-addsOf (message end reading) = to RECORDS 1 ∷ messageAdds end reading
+abbrev pub adds_of : Outcome → List Add
+adds_of skipped = to RECORDS 1 ∷ to SKIPPED 1 ∷ []
+adds_of (message end reading) = to RECORDS 1 ∷ message_adds end reading

@@ -1,10 +1,10 @@
 // What is counted of a capture's records, in a lent slice of numbers.
 ghost use Rattle.std.specs.Prelude.{◌≡◌, ◌+◌};
-ghost use Rattle.ethernet.specs.Layers.{datagramOf};
-ghost use Rattle.reader.specs.Readings.{readControl, readData, packetOf};
-ghost use Rattle.census.specs.Adding.{plus, addAt, addAll};
-ghost use Rattle.census.specs.Outcomes.{channelOf, controlOf, data_of, reading_of, senderOf, outcomeOf};
-ghost use Rattle.census.specs.Places.{REFUSALS, endPlace, windowAdds, windowsFrom, grantedAdds, packetAdds, readingAdds, messageAdds, addsOf};
+ghost use Rattle.ethernet.specs.Layers.{datagram_of};
+ghost use Rattle.reader.specs.Readings.{read_control, read_data, packet_of};
+ghost use Rattle.census.specs.Adding.{plus, add_at, add_all};
+ghost use Rattle.census.specs.Outcomes.{channel_of, control_of, data_of, reading_of, sender_of, outcome_of};
+ghost use Rattle.census.specs.Places.{REFUSALS, end_place, window_adds, windows_from, granted_adds, packet_adds, reading_adds, message_adds, adds_of};
 
 use ethernet::{Kind, Ports};
 use meaning::message::{Channel, End, Window, WindowCell};
@@ -57,7 +57,7 @@ fn more(count: u64, amount: u64) -> u64
 
 // An amount more at a place, if there is such a place.
 fn add(counts: &mut [u64], place: usize, amount: u64)
-    ensures { counts.new ≡ addAt counts.old place amount }
+    ensures { counts.new ≡ add_at counts.old place amount }
 {
     if place < counts.len() {
         counts[place] = more(counts[place], amount);
@@ -66,7 +66,7 @@ fn add(counts: &mut [u64], place: usize, amount: u64)
 
 // Where the datagrams of an end are counted.
 fn end_place(end: End) -> usize
-    ensures { result ≡ endPlace end }
+    ensures { result ≡ end_place end }
 {
     match end {
         End::Ips => IPS,
@@ -76,7 +76,7 @@ fn end_place(end: End) -> usize
 
 // A Flow Window of a channel: only one with the field grants a window.
 fn count_window(counts: &mut [u64], channel: u8, window: Window)
-    ensures { counts.new ≡ addAll (windowAdds channel window) counts.old }
+    ensures { counts.new ≡ add_all (window_adds channel window) counts.old }
 {
     match window {
         Window::Absent => {}
@@ -87,7 +87,7 @@ fn count_window(counts: &mut [u64], channel: u8, window: Window)
 
 // The Flow Windows of a control message.
 fn count_windows(counts: &mut [u64], cells: [WindowCell; CHANNEL_IDS])
-    ensures { counts.new ≡ addAll (windowsFrom 0 cells) counts.old }
+    ensures { counts.new ≡ add_all (windows_from 0 cells) counts.old }
 {
     let mut i: usize = 0;
     while i < CHANNEL_IDS {
@@ -101,14 +101,14 @@ fn count_windows(counts: &mut [u64], cells: [WindowCell; CHANNEL_IDS])
 
 // A datagram that was refused by a number.
 fn count_refusal(counts: &mut [u64], number: u8)
-    ensures { counts.new ≡ addAt counts.old (REFUSALS + number) 1 }
+    ensures { counts.new ≡ add_at counts.old (REFUSALS + number) 1 }
 {
     add(counts, REFUSALS + number as usize, 1);
 }
 
 // The windows that an accepted control message grants: the radio's does.
 fn count_granted(counts: &mut [u64], end: End, cells: [WindowCell; CHANNEL_IDS])
-    ensures { counts.new ≡ addAll (grantedAdds end cells) counts.old }
+    ensures { counts.new ≡ add_all (granted_adds end cells) counts.old }
 {
     match end {
         End::Ips => {}
@@ -117,7 +117,7 @@ fn count_granted(counts: &mut [u64], end: End, cells: [WindowCell; CHANNEL_IDS])
 }
 
 fn count_control(counts: &mut [u64], datagram: &[u8], end: End, id: DatalinkId)
-    ensures { counts.new ≡ addAll (readingAdds end (controlOf (readControl end id datagram.now))) counts.old }
+    ensures { counts.new ≡ add_all (reading_adds end (control_of (read_control end id datagram.now))) counts.old }
 {
     let reading = control::read(datagram, end, id);
     let verdict = reading.verdict;
@@ -134,7 +134,7 @@ fn count_control(counts: &mut [u64], datagram: &[u8], end: End, id: DatalinkId)
 
 // The channel of a data message; none stated is channel 0.
 fn channel_of(channel: Channel) -> u8
-    ensures { result ≡ channelOf channel }
+    ensures { result ≡ channel_of channel }
 {
     match channel {
         Channel::Absent => 0,
@@ -144,7 +144,7 @@ fn channel_of(channel: Channel) -> u8
 
 // A packet of n bytes on a channel.
 fn count_packet(counts: &mut [u64], channel: u8, size: u64)
-    ensures { counts.new ≡ addAll (packetAdds channel size) counts.old }
+    ensures { counts.new ≡ add_all (packet_adds channel size) counts.old }
 {
     let first = 3 * (channel as usize);
     add(counts, PACKETS + first, 1);
@@ -152,7 +152,7 @@ fn count_packet(counts: &mut [u64], channel: u8, size: u64)
 }
 
 fn count_data(counts: &mut [u64], datagram: &[u8], end: End, id: DatalinkId)
-    ensures { counts.new ≡ addAll (readingAdds end (data_of (readData end id datagram.now) (packetOf datagram.now))) counts.old }
+    ensures { counts.new ≡ add_all (reading_adds end (data_of (read_data end id datagram.now) (packet_of datagram.now))) counts.old }
 {
     let carried = data::read_with_packet(datagram, end, id);
     let reading = carried.reading;
@@ -171,7 +171,7 @@ fn count_data(counts: &mut [u64], datagram: &[u8], end: End, id: DatalinkId)
 
 // A datagram of an end, read as CIRI.
 fn count_datagram(counts: &mut [u64], datagram: &[u8], end: End, id: DatalinkId)
-    ensures { counts.new ≡ addAll (readingAdds end (reading_of end id datagram.now)) counts.old }
+    ensures { counts.new ≡ add_all (reading_adds end (reading_of end id datagram.now)) counts.old }
 {
     match header::plane(datagram) {
         PlaneAnswer::Control => count_control(counts, datagram, end, id),
@@ -182,7 +182,7 @@ fn count_datagram(counts: &mut [u64], datagram: &[u8], end: End, id: DatalinkId)
 
 // A message of an end, and what it is read as.
 fn count_message(counts: &mut [u64], frame: &[u8], end: End, id: DatalinkId)
-    ensures { counts.new ≡ addAll (messageAdds end (reading_of end id (datagramOf frame.now))) counts.old }
+    ensures { counts.new ≡ add_all (message_adds end (reading_of end id (datagram_of frame.now))) counts.old }
 {
     add(counts, end_place(end), 1);
     count_datagram(counts, ethernet::datagram(frame), end, id);
@@ -190,7 +190,7 @@ fn count_message(counts: &mut [u64], frame: &[u8], end: End, id: DatalinkId)
 
 // Whose message a record of a kind holds.
 fn sender_of(kind: Kind) -> Sender
-    ensures { result ≡ senderOf kind }
+    ensures { result ≡ sender_of kind }
 {
     match kind {
         Kind::Ips => Sender::Message(End::Ips),
@@ -209,7 +209,7 @@ fn sender_of(kind: Kind) -> Sender
 
 // A record: how many bytes there were, those that were kept, the ports of the two ends, and the configured Datalink ID.
 pub fn count(counts: &mut [u64], frame: &[u8], original: usize, ports: Ports, id: DatalinkId)
-    ensures { counts.new ≡ addAll (addsOf (outcomeOf ports id original frame.now)) counts.old }
+    ensures { counts.new ≡ add_all (adds_of (outcome_of ports id original frame.now)) counts.old }
 {
     add(counts, RECORDS, 1);
     match sender_of(ethernet::kind_of(frame, original, ports)) {

@@ -7,26 +7,26 @@ use Rattle.meaning.specs.declared.message.WindowCell.{WindowCell}
 use Rattle.quantity.specs.declared.count.DatalinkId.{DatalinkId}
 use Rattle.ethernet.specs.declared.Kind.{Kind}
 use Rattle.ethernet.specs.declared.Ports.{Ports}
-use Rattle.census.specs.Adding.{addAll}
-use Rattle.census.specs.Outcomes.{outcomeOf}
-use Rattle.census.specs.Places.{addsOf}
+use Rattle.census.specs.Adding.{add_all}
+use Rattle.census.specs.Outcomes.{outcome_of}
+use Rattle.census.specs.Places.{adds_of}
 
 -- what `count` leaves of the counts
 abbrev pub counted : Ports → DatalinkId → (original : ℕ) (frame counts : List ℕ) → List ℕ
-counted ports id original frame counts = addAll (addsOf (outcomeOf ports id original frame)) counts
+counted ports id original frame counts = add_all (adds_of (outcome_of ports id original frame)) counts
 
 -- "Counts are unsigned 64 bits.": an amount more at a place, up to 2^64 - 1
 abbrev pub more : (place amount : ℕ) → List ℕ → List ℕ
 more place amount counts = set counts place (min 18446744073709551615 (get_or counts place 0 + amount))
 
 -- "the destination tells the direction": the kind of a record with a datagram of an end, and where that is counted
-abbrev pub kindBy : End → Kind
-kindBy End.Ips = Kind.Ips
-kindBy End.Radio = Kind.Radio
+abbrev pub kind_by : End → Kind
+kind_by End.Ips = Kind.Ips
+kind_by End.Radio = Kind.Radio
 
-abbrev pub placeBy : End → ℕ
-placeBy End.Ips = 2
-placeBy End.Radio = 3
+abbrev pub place_by : End → ℕ
+place_by End.Ips = 2
+place_by End.Radio = 3
 
 -- "windows granted": one for each Flow Window with the field, from a channel on
 abbrev pub granted : (channel : ℕ) → Window → List ℕ → List ℕ
@@ -34,6 +34,6 @@ granted channel Window.Absent counts = counts
 granted channel Window.Empty counts = counts
 granted channel (Window.Given window) counts = more (17 + 3 * channel) 1 counts
 
-unfoldable pub grantedFrom : (channel : ℕ) → List WindowCell → List ℕ → List ℕ
-grantedFrom channel [] counts = counts
-grantedFrom channel (cell ∷ cells) counts = grantedFrom (suc channel) cells (granted channel cell.window counts)
+unfoldable pub granted_from : (channel : ℕ) → List WindowCell → List ℕ → List ℕ
+granted_from channel [] counts = counts
+granted_from channel (cell ∷ cells) counts = granted_from (suc channel) cells (granted channel cell.window counts)

@@ -47,11 +47,11 @@ abbrev pub radio : List ℕ → List (ℕ × ℕ) → Row
 radio datagram adds = sent 7 208 datagram adds
 
 -- refused: the record, the end's datagram, and the number's place
-abbrev pub refusedIps : (place : ℕ) → List ℕ → Row
-refusedIps place datagram = ips datagram ((0, 1) ∷ (2, 1) ∷ (place, 1) ∷ [])
+abbrev pub refused_ips : (place : ℕ) → List ℕ → Row
+refused_ips place datagram = ips datagram ((0, 1) ∷ (2, 1) ∷ (place, 1) ∷ [])
 
-abbrev pub refusedRadio : (place : ℕ) → List ℕ → Row
-refusedRadio place datagram = radio datagram ((0, 1) ∷ (3, 1) ∷ (place, 1) ∷ [])
+abbrev pub refused_radio : (place : ℕ) → List ℕ → Row
+refused_radio place datagram = radio datagram ((0, 1) ∷ (3, 1) ∷ (place, 1) ∷ [])
 
 -- a data message of the IPS end that the reader accepts, as far as its kind goes
 abbrev pub carrying : (original type first total flags protocol high low size : ℕ) → List (ℕ × ℕ) → Row
@@ -81,22 +81,22 @@ table =
     ∷ radio (16 ∷ 1 ∷ 0 ∷ 1 ∷ 7 ∷ 5 ∷ 0 ∷ 2 ∷ 0 ∷ 3 ∷ 6 ∷ 0 ∷ 5 ∷ 254 ∷ 0 ∷ 0 ∷ 1 ∷ 0 ∷ 6 ∷ 0 ∷ 1 ∷ 3 ∷ 6 ∷ 0 ∷ 5 ∷ 2 ∷ 0 ∷ 0 ∷ 0 ∷ 1 ∷ []) ((0, 1) ∷ (3, 1) ∷ (23, 1) ∷ (779, 1) ∷ [])
     -- REFUSED: number n at place 3 + n, of control and data messages of both ends
     -- 2: an empty datagram, and version 2; 3: an option past the end, and its frame; 4: a length of 2
-    ∷ refusedIps 5 []
-    ∷ refusedRadio 5 (32 ∷ 1 ∷ 0 ∷ 1 ∷ 7 ∷ [])
-    ∷ refusedIps 6 (16 ∷ 1 ∷ 0 ∷ 2 ∷ 7 ∷ [])
-    ∷ refusedRadio 6 (24 ∷ 1 ∷ 0 ∷ [])
-    ∷ refusedIps 7 (16 ∷ 1 ∷ 0 ∷ 2 ∷ 7 ∷ 7 ∷ [])
+    ∷ refused_ips 5 []
+    ∷ refused_radio 5 (32 ∷ 1 ∷ 0 ∷ 1 ∷ 7 ∷ [])
+    ∷ refused_ips 6 (16 ∷ 1 ∷ 0 ∷ 2 ∷ 7 ∷ [])
+    ∷ refused_radio 6 (24 ∷ 1 ∷ 0 ∷ [])
+    ∷ refused_ips 7 (16 ∷ 1 ∷ 0 ∷ 2 ∷ 7 ∷ 7 ∷ [])
     -- 5: Channel ID 255; 6: a Flow Window of the IPS end; 7: a Datalink Identifier twice; 8: an option after Packet Data
-    ∷ refusedRadio 8 (16 ∷ 1 ∷ 0 ∷ 1 ∷ 7 ∷ 5 ∷ 0 ∷ 2 ∷ 0 ∷ 3 ∷ 6 ∷ 0 ∷ 1 ∷ 255 ∷ [])
-    ∷ refusedIps 9 (16 ∷ 1 ∷ 0 ∷ 1 ∷ 7 ∷ 6 ∷ 0 ∷ 1 ∷ 2 ∷ [])
-    ∷ refusedRadio 10 (16 ∷ 1 ∷ 0 ∷ 1 ∷ 7 ∷ 1 ∷ 0 ∷ 1 ∷ 7 ∷ [])
-    ∷ refusedIps 11 (24 ∷ 128 ∷ 0 ∷ 1 ∷ 9 ∷ 1 ∷ 0 ∷ 1 ∷ 7 ∷ [])
+    ∷ refused_radio 8 (16 ∷ 1 ∷ 0 ∷ 1 ∷ 7 ∷ 5 ∷ 0 ∷ 2 ∷ 0 ∷ 3 ∷ 6 ∷ 0 ∷ 1 ∷ 255 ∷ [])
+    ∷ refused_ips 9 (16 ∷ 1 ∷ 0 ∷ 1 ∷ 7 ∷ 6 ∷ 0 ∷ 1 ∷ 2 ∷ [])
+    ∷ refused_radio 10 (16 ∷ 1 ∷ 0 ∷ 1 ∷ 7 ∷ 1 ∷ 0 ∷ 1 ∷ 7 ∷ [])
+    ∷ refused_ips 11 (24 ∷ 128 ∷ 0 ∷ 1 ∷ 9 ∷ 1 ∷ 0 ∷ 1 ∷ 7 ∷ [])
     -- 9: no Channel Status, and no Packet Data; 10: a Flow Sequence without a Channel Identifier; 11: Datalink ID 8
-    ∷ refusedRadio 12 (16 ∷ 1 ∷ 0 ∷ 1 ∷ 7 ∷ [])
-    ∷ refusedIps 12 (24 ∷ 1 ∷ 0 ∷ 1 ∷ 7 ∷ [])
-    ∷ refusedIps 13 (24 ∷ 1 ∷ 0 ∷ 1 ∷ 7 ∷ 134 ∷ 0 ∷ 5 ∷ 2 ∷ 0 ∷ 0 ∷ 0 ∷ 9 ∷ 128 ∷ 0 ∷ 1 ∷ 9 ∷ [])
-    ∷ refusedRadio 14 (16 ∷ 1 ∷ 0 ∷ 1 ∷ 8 ∷ 5 ∷ 0 ∷ 2 ∷ 0 ∷ 3 ∷ 6 ∷ 0 ∷ 5 ∷ 2 ∷ 0 ∷ 0 ∷ 0 ∷ 1 ∷ [])
-    ∷ refusedRadio 14 (24 ∷ 1 ∷ 0 ∷ 1 ∷ 8 ∷ 128 ∷ 0 ∷ 1 ∷ 9 ∷ [])
+    ∷ refused_radio 12 (16 ∷ 1 ∷ 0 ∷ 1 ∷ 7 ∷ [])
+    ∷ refused_ips 12 (24 ∷ 1 ∷ 0 ∷ 1 ∷ 7 ∷ [])
+    ∷ refused_ips 13 (24 ∷ 1 ∷ 0 ∷ 1 ∷ 7 ∷ 134 ∷ 0 ∷ 5 ∷ 2 ∷ 0 ∷ 0 ∷ 0 ∷ 9 ∷ 128 ∷ 0 ∷ 1 ∷ 9 ∷ [])
+    ∷ refused_radio 14 (16 ∷ 1 ∷ 0 ∷ 1 ∷ 8 ∷ 5 ∷ 0 ∷ 2 ∷ 0 ∷ 3 ∷ 6 ∷ 0 ∷ 5 ∷ 2 ∷ 0 ∷ 0 ∷ 0 ∷ 1 ∷ [])
+    ∷ refused_radio 14 (24 ∷ 1 ∷ 0 ∷ 1 ∷ 8 ∷ 128 ∷ 0 ∷ 1 ∷ 9 ∷ [])
     -- SKIPPED, beside one that isn't
     ∷ carrying 53 8 69 39 0 17 3 232 19 ((0, 1) ∷ (2, 1) ∷ (15, 1) ∷ (16, 3) ∷ [])
     -- shortened by the capture; a VLAN tag; versions 5 and 6; a header of four words

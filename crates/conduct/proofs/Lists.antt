@@ -6,55 +6,55 @@ use native.Mathlib.Omega.{arith}
 use Rattle.meaning.specs.declared.message.Sequence.{Sequence}
 use Rattle.conduct_rules.specs.declared.Flow.{Flow}
 use Rattle.conduct.specs.Outcomes.{Message}
-use Rattle.conduct.specs.Account.{Numbered, statedIn, last_or, flowsBy, sequencesBy, ObeysUnder, Stands, here, later, AllObey, LeastBreach}
+use Rattle.conduct.specs.Account.{Numbered, stated_in, last_or, flows_by, sequences_by, ObeysUnder, Stands, here, later, AllObey, LeastBreach}
 
 -- nothing stands in an empty list
 abbrev Filled : List Numbered → Type 0
 Filled [] = ⊥
 Filled (x ∷ ms) = Unit {0}
 
-stands-in : {before ms : List Numbered} {m : Numbered} → Stands before m ms → Filled ms
-stands-in here = tt
-stands-in (later s) = tt
+stands_in : {before ms : List Numbered} {m : Numbered} → Stands before m ms → Filled ms
+stands_in here = tt
+stands_in (later s) = tt
 
-pub none-stands : (Asked : List Numbered → Message → Type 0) → AllObey Asked []
-none-stands Asked before m s = absurd (stands-in s)
+pub none_stands : (Asked : List Numbered → Message → Type 0) → AllObey Asked []
+none_stands Asked before m s = absurd (stands_in s)
 
 -- the last of two lists
-last-append : {A : Type 0} (none : A) (xs ys : List A) → last_or none (xs ++ ys) ≡ last_or (last_or none xs) ys
-last-append none [] ys = refl
-last-append none (x ∷ xs) ys = last-append x xs ys
+last_append : {A : Type 0} (none : A) (xs ys : List A) → last_or none (xs ++ ys) ≡ last_or (last_or none xs) ys
+last_append none [] ys = refl
+last_append none (x ∷ xs) ys = last_append x xs ys
 
 module _ (channel : ℕ) where
   -- the same question, from a flow and a base on
   abbrev pub ObeysFrom : Flow → Sequence → (before : List Numbered) → Message → Type 0
-  ObeysFrom flow base before stated = ObeysUnder channel (last_or flow (statedIn (flowsBy channel) before)) (last_or base (statedIn (sequencesBy channel) before)) stated
+  ObeysFrom flow base before stated = ObeysUnder channel (last_or flow (stated_in (flows_by channel) before)) (last_or base (stated_in (sequences_by channel) before)) stated
 
   -- what a message leaves of them
-  abbrev pub flowBy : Flow → Message → Flow
-  flowBy flow stated = last_or flow (flowsBy channel stated)
+  abbrev pub flow_by : Flow → Message → Flow
+  flow_by flow stated = last_or flow (flows_by channel stated)
 
   abbrev pub base_by : Sequence → Message → Sequence
-  base_by base stated = last_or base (sequencesBy channel stated)
+  base_by base stated = last_or base (sequences_by channel stated)
 
   module _ (flow : Flow) (base : Sequence) (x : Numbered) where
-    behind-first : (before : List Numbered) (stated : Message) → ObeysFrom (flowBy flow x.message) (base_by base x.message) before stated → ObeysFrom flow base (x ∷ before) stated
-    behind-first before stated k =
-        rw (last-append flow (flowsBy channel x.message) (statedIn (flowsBy channel) before), last-append base (sequencesBy channel x.message) (statedIn (sequencesBy channel) before)) k
+    behind_first : (before : List Numbered) (stated : Message) → ObeysFrom (flow_by flow x.message) (base_by base x.message) before stated → ObeysFrom flow base (x ∷ before) stated
+    behind_first before stated k =
+        rw (last_append flow (flows_by channel x.message) (stated_in (flows_by channel) before), last_append base (sequences_by channel x.message) (stated_in (sequences_by channel) before)) k
 
-    first-behind : (before : List Numbered) (stated : Message) → ObeysFrom flow base (x ∷ before) stated → ObeysFrom (flowBy flow x.message) (base_by base x.message) before stated
-    first-behind before stated k =
-        rw (last-append flow (flowsBy channel x.message) (statedIn (flowsBy channel) before), last-append base (sequencesBy channel x.message) (statedIn (sequencesBy channel) before)) at k
+    first_behind : (before : List Numbered) (stated : Message) → ObeysFrom flow base (x ∷ before) stated → ObeysFrom (flow_by flow x.message) (base_by base x.message) before stated
+    first_behind before stated k =
+        rw (last_append flow (flows_by channel x.message) (stated_in (flows_by channel) before), last_append base (sequences_by channel x.message) (stated_in (sequences_by channel) before)) at k
 
     module _ (ms : List Numbered) where
-      pub all-on : ObeysUnder channel flow base x.message → AllObey (ObeysFrom (flowBy flow x.message) (base_by base x.message)) ms → AllObey (ObeysFrom flow base) (x ∷ ms)
-      all-on o k before m s = go s
+      pub all_on : ObeysUnder channel flow base x.message → AllObey (ObeysFrom (flow_by flow x.message) (base_by base x.message)) ms → AllObey (ObeysFrom flow base) (x ∷ ms)
+      all_on o k before m s = go s
         where
           go : {before : List Numbered} {m : Numbered} → Stands before m (x ∷ ms) → ObeysFrom flow base before m.message
           go here = o
-          go {m = m} (later {before = before} s) = behind-first before m.message (k before m s)
+          go {m = m} (later {before = before} s) = behind_first before m.message (k before m s)
 
-      pub least_on : {number : ℕ} → ObeysUnder channel flow base x.message → LeastBreach (ObeysFrom (flowBy flow x.message) (base_by base x.message)) ms number
+      pub least_on : {number : ℕ} → ObeysUnder channel flow base x.message → LeastBreach (ObeysFrom (flow_by flow x.message) (base_by base x.message)) ms number
           → LeastBreach (ObeysFrom flow base) (x ∷ ms) number
       least_on {number} o k =
           record {
@@ -62,17 +62,17 @@ module _ (channel : ℕ) where
             breach = k.breach;
             stands = later k.stands;
             named = k.named;
-            breaks = λ q. k.breaks (first-behind k.before k.breach.message q);
+            breaks = λ q. k.breaks (first_behind k.before k.breach.message q);
             least = λ before m s n. go s n;
           }
         where
           go : {before : List Numbered} {m : Numbered} → Stands before m (x ∷ ms) → (ObeysFrom flow base before m.message → ⊥) → number ≤ m.number
           go here n = absurd (n o)
-          go {m = m} (later {before = before} s) n = k.least before m s (λ q. n (behind-first before m.message q))
+          go {m = m} (later {before = before} s) n = k.least before m s (λ q. n (behind_first before m.message q))
 
-      pub least-here : (ObeysUnder channel flow base x.message → ⊥) → ((before : List Numbered) (m : Numbered) → Stands before m ms → x.number ≤ m.number)
+      pub least_here : (ObeysUnder channel flow base x.message → ⊥) → ((before : List Numbered) (m : Numbered) → Stands before m ms → x.number ≤ m.number)
           → LeastBreach (ObeysFrom flow base) (x ∷ ms) x.number
-      least-here n rising =
+      least_here n rising =
           record {
             before = [];
             breach = x;

@@ -10,68 +10,68 @@ use Rattle.meaning.specs.declared.message.Channel.{Channel}
 use Rattle.meaning.specs.declared.message.Counted.{Counted}
 use Rattle.meaning.specs.declared.message.End.{End}
 use Rattle.meaning.specs.declared.message.Sequence.{Sequence}
-use Rattle.reader.specs.Readings.{Verdict, readControl, readData, packetOf, planeOf}
+use Rattle.reader.specs.Readings.{Verdict, read_control, read_data, packet_of, plane_of}
 use Rattle.reader.specs.declared.answer.PlaneAnswer.{PlaneAnswer}
-use Rattle.reader.proofs.Planes.{data-of-control, control-of-data}
+use Rattle.reader.proofs.Planes.{data_of_control, control_of_data}
 use Rattle.records.specs.Files.{kept}
 use Rattle.ethernet.specs.declared.Kind.{Kind}
 use Rattle.ethernet.specs.declared.Ports.{Ports}
 use Rattle.ethernet.specs.Kinds.{kind_of}
-use Rattle.ethernet.specs.Layers.{datagramOf}
-use Rattle.conduct.specs.Outcomes.{Message, control, packet, nothing, message, outcomeBy, outcomeOf}
-use Rattle.conduct.specs.Account.{messagesFrom, messagesOf}
+use Rattle.ethernet.specs.Layers.{datagram_of}
+use Rattle.conduct.specs.Outcomes.{Message, control, packet, nothing, message, outcome_by, outcome_of}
+use Rattle.conduct.specs.Account.{messages_from, messages_of}
 
 module _ (ports : Ports) (id : DatalinkId) (original : ℕ) (frame : List ℕ) where
   abbrev datagram : List ℕ
-  datagram = datagramOf frame
+  datagram = datagram_of frame
 
   -- "Datagrams that the reader refuses are passed over."
-  pub radio-refused : (refusal : Refusal) → kind_of ports original frame ≡ Kind.Radio → (readControl End.Radio id datagram).verdict ≡ Verdict.Refused refusal
-      → outcomeOf ports id original frame ≡ nothing
-  unfolding outcomeBy
-  radio-refused refusal k e = rw (k, e)
+  pub radio_refused_lem : (refusal : Refusal) → kind_of ports original frame ≡ Kind.Radio → (read_control End.Radio id datagram).verdict ≡ Verdict.Refused refusal
+      → outcome_of ports id original frame ≡ nothing
+  unfolding outcome_by
+  radio_refused_lem refusal k e = rw (k, e)
 
-  pub ips-refused : (refusal : Refusal) → kind_of ports original frame ≡ Kind.Ips → (readData End.Ips id datagram).verdict ≡ Verdict.Refused refusal
-      → outcomeOf ports id original frame ≡ nothing
-  unfolding outcomeBy
-  ips-refused refusal k e = rw (k, e)
+  pub ips_refused : (refusal : Refusal) → kind_of ports original frame ≡ Kind.Ips → (read_data End.Ips id datagram).verdict ≡ Verdict.Refused refusal
+      → outcome_of ports id original frame ≡ nothing
+  unfolding outcome_by
+  ips_refused refusal k e = rw (k, e)
 
   -- a control message of the IPS end and a data message of the radio are nothing here: a query's sequences are no base
-  pub query-nothing : kind_of ports original frame ≡ Kind.Ips → planeOf datagram ≡ PlaneAnswer.Control → outcomeOf ports id original frame ≡ nothing
-  unfolding outcomeBy
-  query-nothing k p = rw (k, data-of-control End.Ips id datagram p)
+  pub query_nothing : kind_of ports original frame ≡ Kind.Ips → plane_of datagram ≡ PlaneAnswer.Control → outcome_of ports id original frame ≡ nothing
+  unfolding outcome_by
+  query_nothing k p = rw (k, data_of_control End.Ips id datagram p)
 
-  pub radio-data-nothing : kind_of ports original frame ≡ Kind.Radio → planeOf datagram ≡ PlaneAnswer.Data → outcomeOf ports id original frame ≡ nothing
-  unfolding outcomeBy
-  radio-data-nothing k p = rw (k, control-of-data End.Radio id datagram p)
+  pub radio_data_nothing : kind_of ports original frame ≡ Kind.Radio → plane_of datagram ≡ PlaneAnswer.Data → outcome_of ports id original frame ≡ nothing
+  unfolding outcome_by
+  radio_data_nothing k p = rw (k, control_of_data End.Radio id datagram p)
 
   -- what is accepted
-  pub radio-accepted : kind_of ports original frame ≡ Kind.Radio → (readControl End.Radio id datagram).verdict ≡ Verdict.Accepted
-      → outcomeOf ports id original frame ≡ message (control (readControl End.Radio id datagram).message.windows)
-  unfolding outcomeBy
-  radio-accepted k e = rw (k, e)
+  pub radio_accepted : kind_of ports original frame ≡ Kind.Radio → (read_control End.Radio id datagram).verdict ≡ Verdict.Accepted
+      → outcome_of ports id original frame ≡ message (control (read_control End.Radio id datagram).message.windows)
+  unfolding outcome_by
+  radio_accepted k e = rw (k, e)
 
-  module _ (k : kind_of ports original frame ≡ Kind.Ips) (e : (readData End.Ips id datagram).verdict ≡ Verdict.Accepted) where
+  module _ (k : kind_of ports original frame ≡ Kind.Ips) (e : (read_data End.Ips id datagram).verdict ≡ Verdict.Accepted) where
     -- "no Channel Identifier: channel 0", where no sequence is carried
-    pub unnamed-accepted : (readData End.Ips id datagram).message.channel ≡ Channel.Absent → (readData End.Ips id datagram).message.sequence ≡ Counted.Absent
-        → outcomeOf ports id original frame ≡ message (packet 0 (record { 0 = length (packetOf datagram) }) Sequence.Absent)
-    unfolding outcomeBy
-    unnamed-accepted c s = rw (k, e, c, s)
+    pub unnamed_accepted : (read_data End.Ips id datagram).message.channel ≡ Channel.Absent → (read_data End.Ips id datagram).message.sequence ≡ Counted.Absent
+        → outcome_of ports id original frame ≡ message (packet 0 (record { 0 = length (packet_of datagram) }) Sequence.Absent)
+    unfolding outcome_by
+    unnamed_accepted c s = rw (k, e, c, s)
 
-    pub plain-accepted : (channel : ℕ) → (readData End.Ips id datagram).message.channel ≡ Channel.Given channel → (readData End.Ips id datagram).message.sequence ≡ Counted.Absent
-        → outcomeOf ports id original frame ≡ message (packet channel (record { 0 = length (packetOf datagram) }) Sequence.Absent)
-    unfolding outcomeBy
-    plain-accepted channel c s = rw (k, e, c, s)
+    pub plain_accepted : (channel : ℕ) → (read_data End.Ips id datagram).message.channel ≡ Channel.Given channel → (read_data End.Ips id datagram).message.sequence ≡ Counted.Absent
+        → outcome_of ports id original frame ≡ message (packet channel (record { 0 = length (packet_of datagram) }) Sequence.Absent)
+    unfolding outcome_by
+    plain_accepted channel c s = rw (k, e, c, s)
 
-    pub counted-accepted : (channel other : ℕ) (own : FlowSequence) → (readData End.Ips id datagram).message.channel ≡ Channel.Given channel
-        → (readData End.Ips id datagram).message.sequence ≡ Counted.Given other own
-        → outcomeOf ports id original frame ≡ message (packet channel (record { 0 = length (packetOf datagram) }) (Sequence.Given own))
-    unfolding outcomeBy
-    counted-accepted channel other own c s = rw (k, e, c, s)
+    pub counted_accepted : (channel other : ℕ) (own : FlowSequence) → (read_data End.Ips id datagram).message.channel ≡ Channel.Given channel
+        → (read_data End.Ips id datagram).message.sequence ≡ Counted.Given other own
+        → outcome_of ports id original frame ≡ message (packet channel (record { 0 = length (packet_of datagram) }) (Sequence.Given own))
+    unfolding outcome_by
+    counted_accepted channel other own c s = rw (k, e, c, s)
 
 -- "by record number", every record counted: one behind two that are nothing is the third
-pub third-record : (ports : Ports) (id : DatalinkId) (a b c : ℕ) (first second third : List ℕ) (stated : Message) → outcomeOf ports id a first ≡ nothing
-    → outcomeOf ports id b second ≡ nothing → outcomeOf ports id c third ≡ message stated
-    → messagesOf ports id (kept a first ∷ kept b second ∷ kept c third ∷ []) ≡ record { number = 3; message = stated } ∷ []
-unfolding messagesFrom
-third-record ports id a b c first second third stated e f g = rw (e, f, g)
+pub third_record : (ports : Ports) (id : DatalinkId) (a b c : ℕ) (first second third : List ℕ) (stated : Message) → outcome_of ports id a first ≡ nothing
+    → outcome_of ports id b second ≡ nothing → outcome_of ports id c third ≡ message stated
+    → messages_of ports id (kept a first ∷ kept b second ∷ kept c third ∷ []) ≡ record { number = 3; message = stated } ∷ []
+unfolding messages_from
+third_record ports id a b c first second third stated e f g = rw (e, f, g)

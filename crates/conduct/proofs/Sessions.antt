@@ -10,11 +10,11 @@ use Rattle.quantity.specs.Distance.{distance_of, fits_of}
 use Rattle.meaning.specs.declared.message.Sequence.{Sequence}
 use Rattle.meaning.specs.declared.message.Window.{Window}
 use Rattle.conduct_rules.specs.declared.Flow.{Flow}
-use Rattle.conduct_rules.specs.Rules.{obeysWithin, obeysOf}
-use Rattle.conduct_rules.proofs.Exactly.{obeys-is, is-obeyed}
+use Rattle.conduct_rules.specs.Rules.{obeys_within, obeys_of}
+use Rattle.conduct_rules.proofs.Exactly.{obeys_is, is_obeyed}
 use Rattle.conduct.specs.Outcomes.{control, packet}
 use Rattle.conduct.specs.Account.{Numbered, ObeysUnder, Stands, here, later, Passing, Breached}
-use Rattle.conduct.proofs.Lists.{none-stands, all-on, least_on, least-here}
+use Rattle.conduct.proofs.Lists.{none_stands, all_on, least_on, least_here}
 
 -- the radio's control message of a record, with a Flow Window option for channel 0 or without; a data message of channel 0, of n bytes and with a sequence
 abbrev hears : ℕ → Window → Numbered
@@ -27,33 +27,33 @@ abbrev given : ℕ → Window
 given number = Window.Given (record { 0 = number })
 
 module _ (flow : Flow) (base : Sequence) (bytes : ByteCount) (carried : Sequence) where
-  keeps : obeysOf flow base bytes carried ≡ true → ObeysUnder 0 flow base (packet 0 bytes carried)
-  keeps e own = obeys-is flow base bytes carried e
+  keeps : obeys_of flow base bytes carried ≡ true → ObeysUnder 0 flow base (packet 0 bytes carried)
+  keeps e own = obeys_is flow base bytes carried e
 
-  breaks : obeysOf flow base bytes carried ≡ false → ObeysUnder 0 flow base (packet 0 bytes carried) → ⊥
-  breaks e k = clash (sym e ∙ is-obeyed (k refl))
+  breaks : obeys_of flow base bytes carried ≡ false → ObeysUnder 0 flow base (packet 0 bytes carried) → ⊥
+  breaks e k = clash (sym e ∙ is_obeyed (k refl))
 
 -- window 500 is ahead of 4294966960: 40 bytes go to 4294967000, 796 more to 500, and under window 540 another 40
-pub across-the-wrap : Passing 0 (hears 1 (given 500) ∷ sends 2 40 4294967000 ∷ sends 4 796 500 ∷ hears 5 (given 540) ∷ sends 6 40 540 ∷ [])
-unfolding obeysWithin fits_of distance_of
-across-the-wrap =
-    all-on 0 _ _ _ _ tt
-    (all-on 0 _ _ _ _ (keeps _ _ _ _ refl)
-    (all-on 0 _ _ _ _ (keeps _ _ _ _ refl) (all-on 0 _ _ _ _ tt (all-on 0 _ _ _ _ (keeps _ _ _ _ refl) (none-stands _)))))
+pub across_the_wrap : Passing 0 (hears 1 (given 500) ∷ sends 2 40 4294967000 ∷ sends 4 796 500 ∷ hears 5 (given 540) ∷ sends 6 40 540 ∷ [])
+unfolding obeys_within fits_of distance_of
+across_the_wrap =
+    all_on 0 _ _ _ _ tt
+    (all_on 0 _ _ _ _ (keeps _ _ _ _ refl)
+    (all_on 0 _ _ _ _ (keeps _ _ _ _ refl) (all_on 0 _ _ _ _ tt (all_on 0 _ _ _ _ (keeps _ _ _ _ refl) (none_stands _)))))
 
-behind-it : {before : List Numbered} {m : Numbered} → Stands before m (hears 5 (given 540) ∷ sends 6 39 540 ∷ []) → 4 ≤ m.number
-behind-it here = omega arith
-behind-it (later here) = omega arith
+behind_it : {before : List Numbered} {m : Numbered} → Stands before m (hears 5 (given 540) ∷ sends 6 39 540 ∷ []) → 4 ≤ m.number
+behind_it here = omega arith
+behind_it (later here) = omega arith
 
 -- one byte more than fits, which plain numbers don't tell: 501 is far below 4294967000
-pub past-the-window : Breached 0 (hears 1 (given 500) ∷ sends 2 40 4294967000 ∷ sends 4 797 501 ∷ hears 5 (given 540) ∷ sends 6 39 540 ∷ []) 4
-unfolding obeysWithin fits_of distance_of
-past-the-window =
+pub past_the_window : Breached 0 (hears 1 (given 500) ∷ sends 2 40 4294967000 ∷ sends 4 797 501 ∷ hears 5 (given 540) ∷ sends 6 39 540 ∷ []) 4
+unfolding obeys_within fits_of distance_of
+past_the_window =
     least_on 0 _ _ _ _ tt
-    (least_on 0 _ _ _ _ (keeps _ _ _ _ refl) (least-here 0 _ _ (sends 4 797 501) (hears 5 (given 540) ∷ sends 6 39 540 ∷ []) (breaks _ _ _ _ refl) (λ before m s. behind-it s)))
+    (least_on 0 _ _ _ _ (keeps _ _ _ _ refl) (least_here 0 _ _ (sends 4 797 501) (hears 5 (given 540) ∷ sends 6 39 540 ∷ []) (breaks _ _ _ _ refl) (λ before m s. behind_it s)))
 
 -- the radio withdraws the window, and it is used on
-pub withdrawn-window : Breached 0 (hears 1 (given 500) ∷ sends 2 40 4294967000 ∷ hears 3 Window.Empty ∷ sends 4 796 500 ∷ []) 4
-unfolding obeysWithin fits_of distance_of
-withdrawn-window =
-    least_on 0 _ _ _ _ tt (least_on 0 _ _ _ _ (keeps _ _ _ _ refl) (least_on 0 _ _ _ _ tt (least-here 0 _ _ (sends 4 796 500) [] (breaks _ _ _ _ refl) (λ before m s. absurd (none-stands (λ b stated. ⊥) before m s)))))
+pub withdrawn_window : Breached 0 (hears 1 (given 500) ∷ sends 2 40 4294967000 ∷ hears 3 Window.Empty ∷ sends 4 796 500 ∷ []) 4
+unfolding obeys_within fits_of distance_of
+withdrawn_window =
+    least_on 0 _ _ _ _ tt (least_on 0 _ _ _ _ (keeps _ _ _ _ refl) (least_on 0 _ _ _ _ tt (least_here 0 _ _ (sends 4 796 500) [] (breaks _ _ _ _ refl) (λ before m s. absurd (none_stands (λ b stated. ⊥) before m s)))))

@@ -11,7 +11,7 @@ use Rattle.ethernet.specs.Kinds.{kind_of}
 use Rattle.conduct_rules.specs.declared.Flow.{Flow}
 use Rattle.conduct_rules.specs.Rules.{flow_of, Obeys}
 use Rattle.conduct.specs.declared.verdict.Finding.{Finding}
-use Rattle.conduct.specs.Outcomes.{Message, control, packet, Outcome, nothing, undecides, message, outcomeOf}
+use Rattle.conduct.specs.Outcomes.{Message, control, packet, Outcome, nothing, undecides, message, outcome_of}
 
 -- ---- the accepted messages of a capture, in order, each "by record number": from 1 on, every record of the file counted
 
@@ -24,48 +24,48 @@ numbered number nothing = []
 numbered number undecides = []
 numbered number (message stated) = record { number = number; message = stated } ∷ []
 
-unfoldable pub messagesFrom : Ports → DatalinkId → (number : ℕ) → List Report → List Numbered
-messagesFrom ports id number [] = []
-messagesFrom ports id number (kept original frame ∷ reports) = numbered number (outcomeOf ports id original frame) ++ messagesFrom ports id (suc number) reports
-messagesFrom ports id number (refused refusal ∷ reports) = messagesFrom ports id number reports
+unfoldable pub messages_from : Ports → DatalinkId → (number : ℕ) → List Report → List Numbered
+messages_from ports id number [] = []
+messages_from ports id number (kept original frame ∷ reports) = numbered number (outcome_of ports id original frame) ++ messages_from ports id (suc number) reports
+messages_from ports id number (refused refusal ∷ reports) = messages_from ports id number reports
 
-abbrev pub messagesOf : Ports → DatalinkId → List Report → List Numbered
-messagesOf ports id reports = messagesFrom ports id 1 reports
+abbrev pub messages_of : Ports → DatalinkId → List Report → List Numbered
+messages_of ports id reports = messages_from ports id 1 reports
 
 -- ---- what stood before a message
 
 -- what messages state, in order, and the last of it
-abbrev pub statedIn : {A : Type 0} → (Message → List A) → List Numbered → List A
-statedIn states [] = []
-statedIn states (m ∷ ms) = states m.message ++ statedIn states ms
+abbrev pub stated_in : {A : Type 0} → (Message → List A) → List Numbered → List A
+stated_in states [] = []
+stated_in states (m ∷ ms) = states m.message ++ stated_in states ms
 
 abbrev pub last_or : {A : Type 0} → A → List A → A
 last_or none [] = none
 last_or none (x ∷ xs) = last_or x xs
 
 -- a message's Flow Window for a channel
-abbrev pub windowIn : ℕ → List WindowCell → Window
-windowIn channel cells = (get_or cells channel (record { window = Window.Absent })).window
+abbrev pub window_in : ℕ → List WindowCell → Window
+window_in channel cells = (get_or cells channel (record { window = Window.Absent })).window
 
-abbrev pub flowsBy : ℕ → Message → List Flow
-flowsBy channel (control cells) = flow_of (windowIn channel cells) ∷ []
-flowsBy channel (packet own bytes carried) = []
+abbrev pub flows_by : ℕ → Message → List Flow
+flows_by channel (control cells) = flow_of (window_in channel cells) ∷ []
+flows_by channel (packet own bytes carried) = []
 
 -- "the window last seen in the recording": the flow is what the latest radio control message before made of it, none seen yet being a case of its own
-abbrev pub flowBefore : ℕ → List Numbered → Flow
-flowBefore channel before = last_or Flow.Unseen (statedIn (flowsBy channel) before)
+abbrev pub flow_before : ℕ → List Numbered → Flow
+flow_before channel before = last_or Flow.Unseen (stated_in (flows_by channel) before)
 
-abbrev pub ifGiven : Sequence → List Sequence
-ifGiven Sequence.Absent = []
-ifGiven (Sequence.Given sequence) = Sequence.Given sequence ∷ []
+abbrev pub if_given : Sequence → List Sequence
+if_given Sequence.Absent = []
+if_given (Sequence.Given sequence) = Sequence.Given sequence ∷ []
 
-abbrev pub sequencesBy : ℕ → Message → List Sequence
-sequencesBy channel (control cells) = []
-sequencesBy channel (packet own bytes carried) = cond (eqb own channel) (ifGiven carried) []
+abbrev pub sequences_by : ℕ → Message → List Sequence
+sequences_by channel (control cells) = []
+sequences_by channel (packet own bytes carried) = cond (eqb own channel) (if_given carried) []
 
 -- "the last sequence carried": that of the last data message of the channel that has one
-abbrev pub baseBefore : ℕ → List Numbered → Sequence
-baseBefore channel before = last_or Sequence.Absent (statedIn (sequencesBy channel) before)
+abbrev pub base_before : ℕ → List Numbered → Sequence
+base_before channel before = last_or Sequence.Absent (stated_in (sequences_by channel) before)
 
 -- ---- the verdict
 
@@ -76,7 +76,7 @@ ObeysUnder channel flow base (packet own bytes carried) = own ≡ channel → Ob
 
 -- by what stood before it
 abbrev pub ObeysAfter : ℕ → (before : List Numbered) → Message → Type 0
-ObeysAfter channel before stated = ObeysUnder channel (flowBefore channel before) (baseBefore channel before) stated
+ObeysAfter channel before stated = ObeysUnder channel (flow_before channel before) (base_before channel before) stated
 
 -- a message of a list, with those before it
 pub data Stands : (before : List Numbered) → Numbered → List Numbered → Type 0 where
@@ -113,6 +113,6 @@ pub data Unclear (ports : Ports) : List Report → Type 0 where
 
 -- what a finding says of a channel
 abbrev pub Says : Ports → DatalinkId → List Report → ℕ → Finding → Type 0
-Says ports id reports channel Finding.Passes = (Unclear ports reports → ⊥) × Passing channel (messagesOf ports id reports)
-Says ports id reports channel (Finding.Breach number) = (Unclear ports reports → ⊥) × Breached channel (messagesOf ports id reports) number
+Says ports id reports channel Finding.Passes = (Unclear ports reports → ⊥) × Passing channel (messages_of ports id reports)
+Says ports id reports channel (Finding.Breach number) = (Unclear ports reports → ⊥) × Breached channel (messages_of ports id reports) number
 Says ports id reports channel Finding.Undecided = Unclear ports reports

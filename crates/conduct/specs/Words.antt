@@ -7,11 +7,11 @@ use Rattle.meaning.specs.declared.message.Sequence.{Sequence}
 use Rattle.meaning.specs.declared.message.WindowCell.{WindowCell}
 use Rattle.records.specs.Files.{Report, kept, refused}
 use Rattle.ethernet.specs.declared.Ports.{Ports}
-use Rattle.conduct_rules.specs.Rules.{obeysOf}
-use Rattle.conduct_rules.specs.Kept.{flowWord, flowIn, baseAfter, baseIn, breachAfter}
+use Rattle.conduct_rules.specs.Rules.{obeys_of}
+use Rattle.conduct_rules.specs.Kept.{flow_word, flow_in, base_after, base_in, breach_after}
 use Rattle.conduct.specs.declared.verdict.Finding.{Finding}
-use Rattle.conduct.specs.Outcomes.{control, packet, Outcome, nothing, undecides, message, outcomeOf}
-use Rattle.conduct.specs.Account.{windowIn}
+use Rattle.conduct.specs.Outcomes.{control, packet, Outcome, nothing, undecides, message, outcome_of}
+use Rattle.conduct.specs.Account.{window_in}
 
 -- ---- where each stands: whether the capture is undecided; then for each Channel ID its first breach, its flow and its base
 abbrev pub UNDECIDED : ℕ
@@ -38,39 +38,39 @@ word words place = get_or words place 0
 -- ---- what a record makes of the words
 
 -- a radio control message: the flow of the first so many Channel IDs
-unfoldable pub heardUpTo : ℕ → List WindowCell → List ℕ → List ℕ
-heardUpTo zero cells words = words
-heardUpTo (suc channel) cells words = set (heardUpTo channel cells words) (FLOW + EACH * channel) (flowWord (windowIn channel cells))
+unfoldable pub heard_up_to : ℕ → List WindowCell → List ℕ → List ℕ
+heard_up_to zero cells words = words
+heard_up_to (suc channel) cells words = set (heard_up_to channel cells words) (FLOW + EACH * channel) (flow_word (window_in channel cells))
 
 -- whether a data message obeys, by what the words hold of its channel
-abbrev pub obeyedIn : List ℕ → (channel : ℕ) → ByteCount → Sequence → Bool
-obeyedIn words channel bytes carried = obeysOf (flowIn (word words (FLOW + EACH * channel))) (baseIn (word words (BASE + EACH * channel))) bytes carried
+abbrev pub obeyed_in : List ℕ → (channel : ℕ) → ByteCount → Sequence → Bool
+obeyed_in words channel bytes carried = obeys_of (flow_in (word words (FLOW + EACH * channel))) (base_in (word words (BASE + EACH * channel))) bytes carried
 
 -- a data message: its breach, then its base
-unfoldable pub packetJudged : (number channel : ℕ) → ByteCount → Sequence → List ℕ → List ℕ
-packetJudged number channel bytes carried words =
-    set (set words (BREACH + EACH * channel) (breachAfter (word words (BREACH + EACH * channel)) number (obeyedIn words channel bytes carried)))
+unfoldable pub packet_judged : (number channel : ℕ) → ByteCount → Sequence → List ℕ → List ℕ
+packet_judged number channel bytes carried words =
+    set (set words (BREACH + EACH * channel) (breach_after (word words (BREACH + EACH * channel)) number (obeyed_in words channel bytes carried)))
     (BASE + EACH * channel)
-    (baseAfter (word words (BASE + EACH * channel)) carried)
+    (base_after (word words (BASE + EACH * channel)) carried)
 
 abbrev pub undecided : List ℕ → List ℕ
 undecided words = set words UNDECIDED 1
 
-abbrev pub judgedBy : (number : ℕ) → Outcome → List ℕ → List ℕ
-judgedBy number nothing words = words
-judgedBy number undecides words = undecided words
-judgedBy number (message (control cells)) words = heardUpTo CHANNEL-IDS cells words
-judgedBy number (message (packet channel bytes carried)) words = packetJudged number channel bytes carried words
+abbrev pub judged_by : (number : ℕ) → Outcome → List ℕ → List ℕ
+judged_by number nothing words = words
+judged_by number undecides words = undecided words
+judged_by number (message (control cells)) words = heard_up_to CHANNEL-IDS cells words
+judged_by number (message (packet channel bytes carried)) words = packet_judged number channel bytes carried words
 
 -- ---- what is found of a channel
-abbrev pub findingBy : (undecided breach : ℕ) → Finding
-findingBy undecided breach = cond (eqb undecided 0) (cond (eqb breach 0) Finding.Passes (Finding.Breach breach)) Finding.Undecided
+abbrev pub finding_by : (undecided breach : ℕ) → Finding
+finding_by undecided breach = cond (eqb undecided 0) (cond (eqb breach 0) Finding.Passes (Finding.Breach breach)) Finding.Undecided
 
-abbrev pub findingOf : List ℕ → (channel : ℕ) → Finding
-findingOf words channel = findingBy (word words UNDECIDED) (word words (BREACH + EACH * channel))
+abbrev pub finding_of : List ℕ → (channel : ℕ) → Finding
+finding_of words channel = finding_by (word words UNDECIDED) (word words (BREACH + EACH * channel))
 
 -- ---- all records of a capture, one after another, by what `judge` and `undecide` leave
-unfoldable pub judgedAll : Ports → DatalinkId → (number : ℕ) → List Report → List ℕ → List ℕ
-judgedAll ports id number [] words = words
-judgedAll ports id number (kept original frame ∷ reports) words = judgedAll ports id (suc number) reports (judgedBy number (outcomeOf ports id original frame) words)
-judgedAll ports id number (refused refusal ∷ reports) words = judgedAll ports id number reports (undecided words)
+unfoldable pub judged_all : Ports → DatalinkId → (number : ℕ) → List Report → List ℕ → List ℕ
+judged_all ports id number [] words = words
+judged_all ports id number (kept original frame ∷ reports) words = judged_all ports id (suc number) reports (judged_by number (outcome_of ports id original frame) words)
+judged_all ports id number (refused refusal ∷ reports) words = judged_all ports id number reports (undecided words)

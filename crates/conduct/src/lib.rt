@@ -1,9 +1,9 @@
 // Judging another maker's session from its capture: for each channel, whether every data message obeyed, in a lent slice of words.
 ghost use Rattle.std.specs.Prelude.{◌≡◌, ◌+◌, ◌*◌, length, get_or, set, replicate};
-ghost use Rattle.ethernet.specs.Layers.{datagramOf};
+ghost use Rattle.ethernet.specs.Layers.{datagram_of};
 ghost use Rattle.quantity.specs.Limits.{CHANNEL-IDS};
-ghost use Rattle.conduct.specs.Outcomes.{channelOf, sequenceOf, heardIn, sentIn, outcomeOf, seenIn, seenOf, oneMore, talliedBy};
-ghost use Rattle.conduct.specs.Words.{heardUpTo, packetJudged, undecided, judgedBy, findingBy, findingOf};
+ghost use Rattle.conduct.specs.Outcomes.{channel_of, sequence_of, heard_in, sent_in, outcome_of, seen_in, seen_of, one_more_of, tallied_by};
+ghost use Rattle.conduct.specs.Words.{heard_up_to, packet_judged, undecided, judged_by, finding_by, finding_of};
 
 pub mod verdict;
 
@@ -64,7 +64,7 @@ pub fn start(words: &mut [u64])
 
 // A radio control message: each channel's flow is what it states of it.
 fn hear(words: &mut [u64], cells: [WindowCell; CHANNEL_IDS])
-    ensures { words.new ≡ heardUpTo CHANNEL-IDS cells words.old }
+    ensures { words.new ≡ heard_up_to CHANNEL-IDS cells words.old }
 {
     let mut i: usize = 0;
     while i < CHANNEL_IDS {
@@ -78,7 +78,7 @@ fn hear(words: &mut [u64], cells: [WindowCell; CHANNEL_IDS])
 
 // A data message: whether it obeys by what is kept of its channel, and the base that it leaves.
 fn judge_packet(words: &mut [u64], number: u64, channel: u8, bytes: ByteCount, carried: Sequence)
-    ensures { words.new ≡ packetJudged number channel bytes carried words.old }
+    ensures { words.new ≡ packet_judged number channel bytes carried words.old }
 {
     let first = EACH * (channel as usize);
     let breach = word(words, BREACH + first);
@@ -94,7 +94,7 @@ fn judge_packet(words: &mut [u64], number: u64, channel: u8, bytes: ByteCount, c
 }
 
 fn judge_radio(words: &mut [u64], number: u64, datagram: &[u8], id: DatalinkId)
-    ensures { words.new ≡ judgedBy number (heardIn id datagram.now) words.old }
+    ensures { words.new ≡ judged_by number (heard_in id datagram.now) words.old }
 {
     let reading = control::read(datagram, End::Radio, id);
     let verdict = reading.verdict;
@@ -111,7 +111,7 @@ fn judge_radio(words: &mut [u64], number: u64, datagram: &[u8], id: DatalinkId)
 
 // The channel of a data message; none stated is channel 0.
 fn channel_of(channel: Channel) -> u8
-    ensures { result ≡ channelOf channel }
+    ensures { result ≡ channel_of channel }
 {
     match channel {
         Channel::Absent => 0,
@@ -120,7 +120,7 @@ fn channel_of(channel: Channel) -> u8
 }
 
 fn sequence_of(counted: Counted) -> Sequence
-    ensures { result ≡ sequenceOf counted }
+    ensures { result ≡ sequence_of counted }
 {
     match counted {
         Counted::Absent => Sequence::Absent,
@@ -129,8 +129,8 @@ fn sequence_of(counted: Counted) -> Sequence
 }
 
 fn judge_ips(words: &mut [u64], number: u64, datagram: &[u8], id: DatalinkId) -> Seen
-    ensures words { words.new ≡ judgedBy number (sentIn id datagram.now) words.old }
-    ensures seen { result ≡ seenIn (sentIn id datagram.now) }
+    ensures words { words.new ≡ judged_by number (sent_in id datagram.now) words.old }
+    ensures seen { result ≡ seen_in (sent_in id datagram.now) }
 {
     let carried = data::read_with_packet(datagram, End::Ips, id);
     let reading = carried.reading;
@@ -171,8 +171,8 @@ pub fn judge(
     ports: Ports,
     id: DatalinkId,
 ) -> Seen
-    ensures words { words.new ≡ judgedBy number (outcomeOf ports id original frame.now) words.old }
-    ensures seen { result ≡ seenOf ports id original frame.now }
+    ensures words { words.new ≡ judged_by number (outcome_of ports id original frame.now) words.old }
+    ensures seen { result ≡ seen_of ports id original frame.now }
 {
     match ethernet::kind_of(frame, original, ports) {
         Kind::Ips => judge_ips(words, number, ethernet::datagram(frame), id),
@@ -200,7 +200,7 @@ pub fn judge(
 
 // One more, up to the most that a word holds.
 fn one_more(count: u64) -> u64
-    ensures { result ≡ oneMore count }
+    ensures { result ≡ one_more_of count }
 {
     if count < u64::MAX {
         return count + 1;
@@ -210,7 +210,7 @@ fn one_more(count: u64) -> u64
 
 // The counts with a record more.
 pub fn tallied(tally: Tally, seen: Seen) -> Tally
-    ensures { result ≡ talliedBy tally seen }
+    ensures { result ≡ tallied_by tally seen }
 {
     match seen {
         Seen::Skipped => Tally {
@@ -226,7 +226,7 @@ pub fn tallied(tally: Tally, seen: Seen) -> Tally
 }
 
 fn finding_by(undecided: u64, breach: u64) -> Finding
-    ensures { result ≡ findingBy undecided breach }
+    ensures { result ≡ finding_by undecided breach }
 {
     if undecided != 0 {
         return Finding::Undecided;
@@ -239,7 +239,7 @@ fn finding_by(undecided: u64, breach: u64) -> Finding
 
 // What is found of a channel by the records judged so far.
 pub fn finding(words: &[u64], channel: u8) -> Finding
-    ensures { result ≡ findingOf words.now channel }
+    ensures { result ≡ finding_of words.now channel }
 {
     finding_by(
         word(words, UNDECIDED),

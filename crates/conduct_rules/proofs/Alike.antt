@@ -4,21 +4,21 @@ use Rattle.quantity.specs.declared.count.ByteCount.{ByteCount}
 use Rattle.quantity.specs.declared.count.FlowSequence.{FlowSequence}
 use Rattle.meaning.specs.declared.message.Sequence.{Sequence}
 use Rattle.meaning.specs.declared.message.Window.{Window}
-use Rattle.conduct_rules.specs.Rules.{flow_of, obeysOf}
-use Rattle.conduct_rules.specs.Kept.{flowWord, flowIn, baseIn}
-use Rattle.conduct_rules.proofs.Exactly.{window-alike}
+use Rattle.conduct_rules.specs.Rules.{flow_of, obeys_of}
+use Rattle.conduct_rules.specs.Kept.{flow_word, flow_in, base_in}
+use Rattle.conduct_rules.proofs.Exactly.{window_alike}
 
-pub flow-alike : (window : Window) (last : Sequence) (bytes : ByteCount) (carried : Sequence) → obeysOf (flowIn (flowWord window)) last bytes carried ≡ obeysOf (flow_of window) last bytes carried
-unfolding flowIn
-flow-alike Window.Absent last bytes carried = refl
-flow-alike Window.Empty last bytes carried = refl
-flow-alike (Window.Given window) last bytes carried =
+pub flow_alike : (window : Window) (last : Sequence) (bytes : ByteCount) (carried : Sequence) → obeys_of (flow_in (flow_word window)) last bytes carried ≡ obeys_of (flow_of window) last bytes carried
+unfolding flow_in
+flow_alike Window.Absent last bytes carried = refl
+flow_alike Window.Empty last bytes carried = refl
+flow_alike (Window.Given window) last bytes carried =
     let back : 3 + window.0 - 3 ≡ window.0 = omega arith in
     rw (ne_eqb (3 + window.0) 0 (λ e. omega arith), ne_eqb (3 + window.0) 1 (λ e. omega arith), ne_eqb (3 + window.0) 2 (λ e. omega arith), back)
-    (window-alike window.0 last bytes carried)
+    (window_alike window.0 last bytes carried)
 
-pub base_back : (own : FlowSequence) → own.0 < 2 ^ 32 → baseIn (1 + own.0) ≡ Sequence.Given own
-unfolding baseIn
+pub base_back : (own : FlowSequence) → own.0 < 2 ^ 32 → base_in (1 + own.0) ≡ Sequence.Given own
+unfolding base_in
 base_back own h =
     let back : (1 + own.0 - 1) % 2 ^ 32 ≡ own.0 = omega arith in
     rw (ne_eqb (1 + own.0) 0 (λ e. omega arith), back)

@@ -3,7 +3,7 @@ use Rattle.std.proofs.Common.{◌≡◌, ℕ, Bool, true, false, List, [], ◌�
 use Rattle.meaning.specs.declared.message.Sequence.{Sequence}
 use Rattle.meaning.specs.declared.message.Window.{Window}
 use Rattle.conduct_rules.specs.declared.Flow.{Flow}
-use Rattle.conduct_rules.specs.Rules.{flow_of, obeysWithin, obeysOf}
+use Rattle.conduct_rules.specs.Rules.{flow_of, obeys_within, obeys_of}
 use Rattle.quantity.specs.Distance.{distance_of, fits_of}
 
 -- a data message: the flow of its channel, the last sequence there, its bytes, the sequence that it carries, and whether it obeys
@@ -28,7 +28,7 @@ window number = flow_of (Window.Given (record { 0 = number }))
 
 abbrev pub Holds : List Row → Type 0
 Holds [] = Unit {0}
-Holds (r ∷ rows) = (obeysOf r.flow r.last (record { 0 = r.bytes }) r.carried ≡ r.obeys) × Holds rows
+Holds (r ∷ rows) = (obeys_of r.flow r.last (record { 0 = r.bytes }) r.carried ≡ r.obeys) × Holds rows
 
 pub rows : List Row
 rows =
@@ -69,7 +69,7 @@ rows =
     ∷ row (flow_of Window.Absent) none 0 none true
     ∷ []
 
-pub rows-hold : Holds rows
-unfolding obeysWithin fits_of distance_of rows row
-rows-hold =
+pub rows_hold : Holds rows
+unfolding obeys_within fits_of distance_of rows row
+rows_hold =
     (refl, (refl, (refl, (refl, (refl, (refl, (refl, (refl, (refl, (refl, (refl, (refl, (refl, (refl, (refl, (refl, (refl, (refl, (refl, (refl, (refl, (refl, (refl, (refl, (refl, tt)))))))))))))))))))))))))

@@ -7,10 +7,10 @@ use Rattle.facts.proofs.Tests.{clash, is_true, by_le}
 use Rattle.quantity.specs.declared.count.FlowSequence.{FlowSequence}
 use Rattle.quantity.specs.declared.count.FlowWindow.{FlowWindow}
 use Rattle.quantity.specs.declared.count.ByteCount.{ByteCount}
-use Rattle.quantity.specs.Distance.{low_of, distance_of, fits_of, advanceOf}
+use Rattle.quantity.specs.Distance.{low_of, distance_of, fits_of, advance_of}
 use Rattle.meaning.specs.declared.message.Sequence.{Sequence}
 use Rattle.conduct_rules.specs.declared.Flow.{Flow}
-use Rattle.conduct_rules.specs.Rules.{Base, carriedLast, ownLess, Obeys, free, within, less_of, baseFor, obeysWithin, obeysOf}
+use Rattle.conduct_rules.specs.Rules.{Base, carried_last, own_less, Obeys, free, within, less_of, base_for, obeys_within, obeys_of}
 
 -- ---- its own less its bytes
 
@@ -19,61 +19,61 @@ sub_is : (a b : ℕ) → pos a -ℤ pos b ≡ sub_ℕ a b
 sub_is a zero = rw (le-ltb a 0 (omega arith)) (ap pos (omega arith))
 sub_is a (suc b) = refl
 
-pub less-is : (own : FlowSequence) (bytes : ByteCount) → (less_of own bytes).0 ≡ low_of (pos own.0 -ℤ pos bytes.0)
-less-is own bytes =
+pub less_is : (own : FlowSequence) (bytes : ByteCount) → (less_of own bytes).0 ≡ low_of (pos own.0 -ℤ pos bytes.0)
+less_is own bytes =
     rw (sub_is own.0 bytes.0)
     (by_le bytes.0 own.0 (λ h. rw (le-ltb own.0 bytes.0 h) (omega arith)) (λ h. rw (lt-ltb own.0 bytes.0 h) (omega arith)))
 
-base-is : (last : Sequence) (own : FlowSequence) (bytes : ByteCount) → Base last own bytes (baseFor last own bytes)
-base-is Sequence.Absent own bytes = ownLess (less-is own bytes)
-base-is (Sequence.Given base) own bytes = carriedLast
+base_is : (last : Sequence) (own : FlowSequence) (bytes : ByteCount) → Base last own bytes (base_for last own bytes)
+base_is Sequence.Absent own bytes = own_less (less_is own bytes)
+base_is (Sequence.Given base) own bytes = carried_last
 
-base-one : {last : Sequence} {own base : FlowSequence} {bytes : ByteCount} → Base last own bytes base → base ≡ baseFor last own bytes
-base-one carriedLast = refl
-base-one {own = own} {bytes = bytes} (ownLess e) = ap {B = FlowSequence} (λ (n : ℕ). record { 0 = n }) (e ∙ sym (less-is own bytes))
+base_one : {last : Sequence} {own base : FlowSequence} {bytes : ByteCount} → Base last own bytes base → base ≡ base_for last own bytes
+base_one carried_last = refl
+base_one {own = own} {bytes = bytes} (own_less e) = ap {B = FlowSequence} (λ (n : ℕ). record { 0 = n }) (e ∙ sym (less_is own bytes))
 
 -- ---- under a window
 
 module _ (window : FlowWindow) (base : FlowSequence) (bytes : ByteCount) (own : FlowSequence) where
-  within-is : obeysWithin window base bytes own ≡ true → (own.0 ≡ (base.0 + bytes.0) % 2 ^ 32) × (pos bytes.0 ≤ℤ distance_of base window)
-  unfolding obeysWithin fits_of
-  within-is e =
-      let both = (and-eq-true_iff (eqb own.0 (advanceOf base bytes).0) (fits_of base window bytes)).0 e in
-      (eqb-true own.0 (advanceOf base bytes).0 both.0, record { le = rw both.1 tt })
+  within_is : obeys_within window base bytes own ≡ true → (own.0 ≡ (base.0 + bytes.0) % 2 ^ 32) × (pos bytes.0 ≤ℤ distance_of base window)
+  unfolding obeys_within fits_of
+  within_is e =
+      let both = (and-eq-true_iff (eqb own.0 (advance_of base bytes).0) (fits_of base window bytes)).0 e in
+      (eqb-true own.0 (advance_of base bytes).0 both.0, record { le = rw both.1 tt })
 
-  is_within : own.0 ≡ (base.0 + bytes.0) % 2 ^ 32 → pos bytes.0 ≤ℤ distance_of base window → obeysWithin window base bytes own ≡ true
-  unfolding obeysWithin fits_of
-  is_within e h = (and-eq-true_iff (eqb own.0 (advanceOf base bytes).0) (fits_of base window bytes)).1 (eq-eqb own.0 (advanceOf base bytes).0 e, is_true (le_z (pos bytes.0) (distance_of base window)) h.le)
+  is_within : own.0 ≡ (base.0 + bytes.0) % 2 ^ 32 → pos bytes.0 ≤ℤ distance_of base window → obeys_within window base bytes own ≡ true
+  unfolding obeys_within fits_of
+  is_within e h = (and-eq-true_iff (eqb own.0 (advance_of base bytes).0) (fits_of base window bytes)).1 (eq-eqb own.0 (advance_of base bytes).0 e, is_true (le_z (pos bytes.0) (distance_of base window)) h.le)
 
 -- ---- the test passes exactly where the message obeys
 
-pub obeys-is : (flow : Flow) (last : Sequence) (bytes : ByteCount) (carried : Sequence) → obeysOf flow last bytes carried ≡ true → Obeys flow last bytes carried
-obeys-is Flow.Unseen last bytes carried e = clash e
-obeys-is Flow.Free last bytes Sequence.Absent e = free
-obeys-is Flow.Free last bytes (Sequence.Given own) e = clash e
-obeys-is Flow.NoWindow last bytes carried e = clash e
-obeys-is (Flow.InForce window) last bytes Sequence.Absent e = clash e
-obeys-is (Flow.InForce window) last bytes (Sequence.Given own) e =
-    let k = within-is window (baseFor last own bytes) bytes own e in within (base-is last own bytes) k.0 k.1
+pub obeys_is : (flow : Flow) (last : Sequence) (bytes : ByteCount) (carried : Sequence) → obeys_of flow last bytes carried ≡ true → Obeys flow last bytes carried
+obeys_is Flow.Unseen last bytes carried e = clash e
+obeys_is Flow.Free last bytes Sequence.Absent e = free
+obeys_is Flow.Free last bytes (Sequence.Given own) e = clash e
+obeys_is Flow.NoWindow last bytes carried e = clash e
+obeys_is (Flow.InForce window) last bytes Sequence.Absent e = clash e
+obeys_is (Flow.InForce window) last bytes (Sequence.Given own) e =
+    let k = within_is window (base_for last own bytes) bytes own e in within (base_is last own bytes) k.0 k.1
 
-pub is-obeyed : {flow : Flow} {last : Sequence} {bytes : ByteCount} {carried : Sequence} → Obeys flow last bytes carried → obeysOf flow last bytes carried ≡ true
-is-obeyed free = refl
-is-obeyed (within {window} {last} {bytes} {own} {base} k e h) = rw (← (base-one k)) (is_within window base bytes own e h)
+pub is_obeyed : {flow : Flow} {last : Sequence} {bytes : ByteCount} {carried : Sequence} → Obeys flow last bytes carried → obeys_of flow last bytes carried ≡ true
+is_obeyed free = refl
+is_obeyed (within {window} {last} {bytes} {own} {base} k e h) = rw (← (base_one k)) (is_within window base bytes own e h)
 
 -- ---- a window counts modulo 2^32; a sequence that obeys is a number of 32 bits
 
-pub window-alike : (number : ℕ) (last : Sequence) (bytes : ByteCount) (carried : Sequence)
-    → obeysOf (Flow.InForce (record { 0 = number % 2 ^ 32 })) last bytes carried ≡ obeysOf (Flow.InForce (record { 0 = number })) last bytes carried
-unfolding obeysWithin fits_of distance_of
-window-alike number last bytes Sequence.Absent = refl
-window-alike number last bytes (Sequence.Given own) =
-    let base : ℕ = (baseFor last own bytes).0 in
+pub window_alike : (number : ℕ) (last : Sequence) (bytes : ByteCount) (carried : Sequence)
+    → obeys_of (Flow.InForce (record { 0 = number % 2 ^ 32 })) last bytes carried ≡ obeys_of (Flow.InForce (record { 0 = number })) last bytes carried
+unfolding obeys_within fits_of distance_of
+window_alike number last bytes Sequence.Absent = refl
+window_alike number last bytes (Sequence.Given own) =
+    let base : ℕ = (base_for last own bytes).0 in
     let same : (number % 2 ^ 32 + (2 ^ 32 - base)) % 2 ^ 32 ≡ (number + (2 ^ 32 - base)) % 2 ^ 32 = omega arith in
     rw same refl
 
-pub obeyed-narrow : (flow : Flow) (last : Sequence) (bytes : ByteCount) (own : FlowSequence) → obeysOf flow last bytes (Sequence.Given own) ≡ true → own.0 < 2 ^ 32
-obeyed-narrow Flow.Unseen last bytes own e = clash e
-obeyed-narrow Flow.Free last bytes own e = clash e
-obeyed-narrow Flow.NoWindow last bytes own e = clash e
-obeyed-narrow (Flow.InForce window) last bytes own e =
-    let k = (within-is window (baseFor last own bytes) bytes own e).0 in omega arith
+pub obeyed_narrow : (flow : Flow) (last : Sequence) (bytes : ByteCount) (own : FlowSequence) → obeys_of flow last bytes (Sequence.Given own) ≡ true → own.0 < 2 ^ 32
+obeyed_narrow Flow.Unseen last bytes own e = clash e
+obeyed_narrow Flow.Free last bytes own e = clash e
+obeyed_narrow Flow.NoWindow last bytes own e = clash e
+obeyed_narrow (Flow.InForce window) last bytes own e =
+    let k = (within_is window (base_for last own bytes) bytes own e).0 in omega arith

@@ -1,6 +1,6 @@
 // What is kept of a channel while a capture is judged, as words of 64 bits: its flow, its base and its first breach.
 ghost use Rattle.std.specs.Prelude.{◌≡◌};
-ghost use Rattle.conduct_rules.specs.Kept.{flowWord, flowIn, baseAfter, baseIn, breachAfter};
+ghost use Rattle.conduct_rules.specs.Kept.{flow_word, flow_in, base_after, base_in, breach_after};
 
 use crate::Flow;
 use meaning::message::{Sequence, Window};
@@ -19,7 +19,7 @@ const IN_FORCE: u64 = 3;
 const COUNT_VALUES: u64 = 4294967296;
 
 pub fn flow_word(window: Window) -> u64
-    ensures { result ≡ flowWord window }
+    ensures { result ≡ flow_word window }
 {
     match window {
         Window::Absent => FREE,
@@ -29,7 +29,7 @@ pub fn flow_word(window: Window) -> u64
 }
 
 pub fn flow_in(number: u64) -> Flow
-    ensures { result ≡ flowIn number }
+    ensures { result ≡ flow_in number }
 {
     if number == UNSEEN {
         return Flow::Unseen;
@@ -45,7 +45,7 @@ pub fn flow_in(number: u64) -> Flow
 
 // A message without a Flow Sequence leaves the base.
 pub fn base_after(number: u64, carried: Sequence) -> u64
-    ensures { result ≡ baseAfter number carried }
+    ensures { result ≡ base_after number carried }
 {
     match carried {
         Sequence::Absent => number,
@@ -54,7 +54,7 @@ pub fn base_after(number: u64, carried: Sequence) -> u64
 }
 
 pub fn base_in(number: u64) -> Sequence
-    ensures { result ≡ baseIn number }
+    ensures { result ≡ base_in number }
 {
     if number == 0 {
         return Sequence::Absent;
@@ -64,7 +64,7 @@ pub fn base_in(number: u64) -> Sequence
 
 // A breach stands, whatever follows.
 pub fn breach_after(breach: u64, number: u64, obeyed: bool) -> u64
-    ensures { result ≡ breachAfter breach number obeyed }
+    ensures { result ≡ breach_after breach number obeyed }
 {
     if breach != 0 {
         return breach;

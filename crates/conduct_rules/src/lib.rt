@@ -1,6 +1,6 @@
 // Whether a data message obeys, by what was seen of its channel before it.
 ghost use Rattle.std.specs.Prelude.{◌≡◌};
-ghost use Rattle.conduct_rules.specs.Rules.{less_of, baseFor, obeysFree, obeysWithin, obeysInForce, obeysOf};
+ghost use Rattle.conduct_rules.specs.Rules.{less_of, base_for, obeys_free, obeys_within, obeys_in_force, obeys_of};
 
 pub mod kept;
 
@@ -31,7 +31,7 @@ fn less(sequence: FlowSequence, bytes: ByteCount) -> FlowSequence
 
 // What a packet is counted from: the last sequence carried; for the first, its own less its bytes.
 fn base_for(last: Sequence, own: FlowSequence, bytes: ByteCount) -> FlowSequence
-    ensures { result ≡ baseFor last own bytes }
+    ensures { result ≡ base_for last own bytes }
 {
     match last {
         Sequence::Absent => less(own, bytes),
@@ -41,7 +41,7 @@ fn base_for(last: Sequence, own: FlowSequence, bytes: ByteCount) -> FlowSequence
 
 // Under a window: the sequence after the packet, and a packet that fits.
 fn obeys_within(window: FlowWindow, base: FlowSequence, bytes: ByteCount, own: FlowSequence) -> bool
-    ensures { result ≡ obeysWithin window base bytes own }
+    ensures { result ≡ obeys_within window base bytes own }
 {
     let after = count::advance(base, bytes);
     if own.0 == after.0 {
@@ -51,7 +51,7 @@ fn obeys_within(window: FlowWindow, base: FlowSequence, bytes: ByteCount, own: F
 }
 
 fn obeys_in_force(window: FlowWindow, last: Sequence, bytes: ByteCount, carried: Sequence) -> bool
-    ensures { result ≡ obeysInForce window last bytes carried }
+    ensures { result ≡ obeys_in_force window last bytes carried }
 {
     match carried {
         Sequence::Absent => false,
@@ -61,7 +61,7 @@ fn obeys_in_force(window: FlowWindow, last: Sequence, bytes: ByteCount, carried:
 
 // On a free channel only a Flow Sequence is a breach.
 fn obeys_free(carried: Sequence) -> bool
-    ensures { result ≡ obeysFree carried }
+    ensures { result ≡ obeys_free carried }
 {
     match carried {
         Sequence::Absent => true,
@@ -71,7 +71,7 @@ fn obeys_free(carried: Sequence) -> bool
 
 // A data message of so many bytes, by the flow of its channel, the last sequence carried there before, and its own.
 pub fn obeys(flow: Flow, last: Sequence, bytes: ByteCount, carried: Sequence) -> bool
-    ensures { result ≡ obeysOf flow last bytes carried }
+    ensures { result ≡ obeys_of flow last bytes carried }
 {
     match flow {
         Flow::Unseen => false,

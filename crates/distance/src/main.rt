@@ -2,7 +2,7 @@
 use libc::{STDERR_FILENO, STDOUT_FILENO};
 use lines::Found;
 
-// How many bytes are held at once. A line that has no room is no two numbers (`long-bad` of counting's laws), and is
+// How many bytes are held at once. A line that has no room is no two numbers (`long_bad` of counting's laws), and is
 // answered as an empty line is.
 const ROOM: usize = 65536;
 

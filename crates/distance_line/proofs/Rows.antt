@@ -4,9 +4,9 @@ use mathlib.Core.Path.{◌≡◌, refl}
 use Prim.Native.Nat.{ℕ}
 use Rattle.bytes.specs.Bytes.{indexOf, index_after}
 use Rattle.quantity.specs.Distance.{distance_of}
-use Rattle.text.specs.Laying.{lastDigits, decimalText, signedText}
-use Rattle.text.specs.Numbers.{digitOf, step_of, followOf, by_size, plain_of, parseOf}
-use Rattle.text.specs.Words.{head_of, tailOf}
+use Rattle.text.specs.Laying.{last_digits_lem, decimal_text, signed_text}
+use Rattle.text.specs.Numbers.{digit_of, step_of, follow_of, by_size, plain_of, parse_of}
+use Rattle.text.specs.Words.{head_of, tail_of}
 use Rattle.distance_line.specs.Answer.{pair_of, read_of, spaced, row_of, answer_of}
 
 -- a line, and its answer
@@ -36,6 +36,6 @@ abbrev pub Answers : List (List ℕ × List ℕ) → Type 0
 Answers [] = Unit {0}
 Answers (row ∷ rows) = (answer_of row.0 ≡ row.1) × Answers rows
 
-pub table-answers : Answers table
-unfolding indexOf index_after distance_of lastDigits decimalText signedText digitOf step_of followOf by_size plain_of parseOf head_of tailOf pair_of read_of spaced row_of answer_of
-table-answers = (refl, (refl, (refl, (refl, (refl, (refl, (refl, (refl, (refl, (refl, (refl, (refl, (refl, (refl, (refl, tt)))))))))))))))
+pub table_answers : Answers table
+unfolding indexOf index_after distance_of last_digits_lem decimal_text signed_text digit_of step_of follow_of by_size plain_of parse_of head_of tail_of pair_of read_of spaced row_of answer_of
+table_answers = (refl, (refl, (refl, (refl, (refl, (refl, (refl, (refl, (refl, (refl, (refl, (refl, (refl, (refl, (refl, tt)))))))))))))))

@@ -6,9 +6,9 @@ use Rattle.quantity.specs.declared.count.FlowWindow.{FlowWindow}
 use Rattle.quantity.specs.Distance.{distance_of}
 use Rattle.text.specs.declared.Number.{Number}
 use Rattle.text.specs.declared.Number.TheVariants as number
-use Rattle.text.specs.Laying.{decimalText, signedText}
-use Rattle.text.specs.Numbers.{parseOf}
-use Rattle.text.specs.Words.{head_of, tailOf, word_of, beyondOf}
+use Rattle.text.specs.Laying.{decimal_text, signed_text}
+use Rattle.text.specs.Numbers.{parse_of}
+use Rattle.text.specs.Words.{head_of, tail_of, word_of, beyond_of}
 use Rattle.distance_line.specs.declared.Read.{Read}
 use Rattle.distance_line.specs.declared.Read.TheVariants.{Bad, Numbers}
 
@@ -33,15 +33,15 @@ pair_of (number.Value sequence) (number.Value window) rest =
 
 -- what a line stands for
 unfoldable pub read_of : List ℕ → Read
-read_of line = pair_of (parseOf MOST (head_of line)) (parseOf MOST (word_of (tailOf line))) (beyondOf (tailOf line))
+read_of line = pair_of (parse_of MOST (head_of line)) (parse_of MOST (word_of (tail_of line))) (beyond_of (tail_of line))
 
 -- a number and a space
 unfoldable pub spaced : ℕ → List ℕ
-spaced n = decimalText n ++ (32 ∷ [])
+spaced n = decimal_text n ++ (32 ∷ [])
 
 -- sequence, window and distance
 unfoldable pub row_of : FlowSequence → FlowWindow → List ℕ
-row_of sequence window = spaced sequence.0 ++ spaced window.0 ++ signedText (distance_of sequence window)
+row_of sequence window = spaced sequence.0 ++ spaced window.0 ++ signed_text (distance_of sequence window)
 
 -- the letters of `bad`
 abbrev pub bad : List ℕ

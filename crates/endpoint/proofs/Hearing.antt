@@ -10,136 +10,136 @@ use Rattle.quantity.specs.Refusals.{OUTSIDE-LIMITS, EARLIER-PACE}
 use Rattle.meaning.specs.declared.message.End.TheVariants as ends
 use Rattle.meaning.specs.declared.message.Context.{Context}
 use Rattle.meaning.specs.declared.message.Control.{Control}
-use Rattle.reader.specs.Readings.{ControlReading, DataReading, readControl, readData, planeOf}
+use Rattle.reader.specs.Readings.{ControlReading, DataReading, read_control, read_data, plane_of}
 use Rattle.reader.specs.declared.answer.PlaneAnswer.{PlaneAnswer}
 use Rattle.writer.specs.declared.answer.WriteAnswer.{WriteAnswer}
-use Rattle.writer.specs.Written.{controlWritten, Outcome}
+use Rattle.writer.specs.Written.{control_written, Outcome}
 use Rattle.pacer.specs.declared.Pacer.{Pacer}
 use Rattle.pacer.specs.declared.PaceAnswer.{PaceAnswer}
-use Rattle.pacer.specs.Pacing.{isEarlier, isDue, isSilent, asked, heardAt, moved_to, answer_of}
+use Rattle.pacer.specs.Pacing.{is_earlier, is_due, is_silent, asked, heard_at, moved_to, answer_of}
 use Rattle.ips_state.specs.State.{State}
-use Rattle.ips_state.specs.Limits.{stateFits}
+use Rattle.ips_state.specs.Limits.{state_fits}
 use Rattle.ips_radio.specs.declared.RadioAnswer.{RadioAnswer}
-use Rattle.ips_radio.specs.Heard.{dueOf}
-use Rattle.ips_query.specs.Query.{queryOf}
-use Rattle.ips_query.proofs.Queries.{query-allowed}
-use Rattle.ips_run.specs.Run.{radio, pace, query, receivedIn, inTime}
-use Rattle.ips_calls.specs.Radio.{handedInUnder, handedIn}
-use Rattle.ips_calls.specs.Pace.{refusedPace, paceAnswerUnder, paceAnswer}
-use Rattle.ips_calls.specs.Replies.{ofRadio, ofPace, ofQuery}
-use Rattle.ips_calls.proofs.Querying.{query-unfit, query-written}
-use Rattle.ips_words.specs.Words.{HEAD, state_of, stateIn, putPacer}
-use Rattle.ips_words_radio.specs.HeardWords.{heardWords, silencedWords, receivedWords, pacedWords}
-use Rattle.ips_words_radio.proofs.Hearing.{head-there}
-use Rattle.ips_words_radio.proofs.Heard.{heard-length, silenced-length}
-use Rattle.endpoint.specs.Lent.{lent, afterInUnder}
+use Rattle.ips_radio.specs.Heard.{due_of}
+use Rattle.ips_query.specs.Query.{query_of}
+use Rattle.ips_query.proofs.Queries.{query_allowed}
+use Rattle.ips_run.specs.Run.{radio, pace, query, received_in, in_time}
+use Rattle.ips_calls.specs.Radio.{handed_in_under, handed_in}
+use Rattle.ips_calls.specs.Pace.{refused_pace, pace_answer_under, pace_answer}
+use Rattle.ips_calls.specs.Replies.{of_radio, of_pace, of_query}
+use Rattle.ips_calls.proofs.Querying.{query_unfit, query_written_lem}
+use Rattle.ips_words.specs.Words.{HEAD, state_of, state_in, put_pacer}
+use Rattle.ips_words_radio.specs.HeardWords.{heard_words, silenced_words, received_words, paced_words}
+use Rattle.ips_words_radio.proofs.Hearing.{head_there}
+use Rattle.ips_words_radio.proofs.Heard.{heard_length, silenced_length}
+use Rattle.endpoint.specs.Lent.{lent, after_in_under}
 use Rattle.endpoint.specs.Calls.{PerformedInWithAny}
-use Rattle.endpoint.specs.Radio.{MessageHeard, DataPassed, ControlRead, DataRead, DatagramRead, refusedRadio}
+use Rattle.endpoint.specs.Radio.{MessageHeard, DataPassed, ControlRead, DataRead, DatagramRead, refused_radio}
 use Rattle.endpoint.proofs.Placing.{says_so}
 
 -- ---- the endpoint's own words are there after a message and after a silence
-pub heard-room : (message : Control) (words heard : List ℕ) → stateFits (stateIn words) ≡ true → heard ≡ heardWords message words → HEAD ≤ length heard
-heard-room message words heard fits e = rw e (omega (arith, heard-length message words fits, head-there words fits))
+pub heard_room : (message : Control) (words heard : List ℕ) → state_fits (state_in words) ≡ true → heard ≡ heard_words message words → HEAD ≤ length heard
+heard_room message words heard fits e = rw e (omega (arith, heard_length message words fits, head_there words fits))
 
-pub silent-room : (silent : Bool) (words fallen : List ℕ) → stateFits (stateIn words) ≡ true → fallen ≡ cond silent (silencedWords words) words → HEAD ≤ length fallen
-silent-room true words fallen fits e = rw e (omega (arith, silenced-length words fits, head-there words fits))
-silent-room false words fallen fits e = rw e (head-there words fits)
+pub silent_room : (silent : Bool) (words fallen : List ℕ) → state_fits (state_in words) ≡ true → fallen ≡ cond silent (silenced_words words) words → HEAD ≤ length fallen
+silent_room true words fallen fits e = rw e (omega (arith, silenced_length words fits, head_there words fits))
+silent_room false words fallen fits e = rw e (head_there words fits)
 
 -- ---- an accepted control message
-pub message-heard : (time : ℕ) (message : Control) (words : List ℕ) → stateFits (stateIn words) ≡ true → (before : Context) → before ≡ (state_of words).context
-    → (due : Bool) → due ≡ dueOf before message.context → (r : RadioAnswer) → r ≡ cond due RadioAnswer.Due RadioAnswer.Accepted
-    → (paced : Pacer) → paced ≡ (state_of words).pacer → (heard : List ℕ) → heard ≡ heardWords message words → (moved : Pacer) → moved ≡ heardAt time paced
-    → (words' : List ℕ) → words' ≡ putPacer heard moved → MessageHeard time message words r words'
+pub message_heard : (time : ℕ) (message : Control) (words : List ℕ) → state_fits (state_in words) ≡ true → (before : Context) → before ≡ (state_of words).context
+    → (due : Bool) → due ≡ due_of before message.context → (r : RadioAnswer) → r ≡ cond due RadioAnswer.Due RadioAnswer.Accepted
+    → (paced : Pacer) → paced ≡ (state_of words).pacer → (heard : List ℕ) → heard ≡ heard_words message words → (moved : Pacer) → moved ≡ heard_at time paced
+    → (words' : List ℕ) → words' ≡ put_pacer heard moved → MessageHeard time message words r words'
 unfolding state_of
-message-heard time message words fits before e due told r is paced p heard h moved m words' put =
-    record { answer-is = is ∙ rw (told, says_so words fits (λ (s : State). s.context) before e); words_are = put ∙ rw (h, m, p) }
+message_heard time message words fits before e due told r is paced p heard h moved m words' put =
+    record { answer_is = is ∙ rw (told, says_so words fits (λ (s : State). s.context) before e); words_are = put ∙ rw (h, m, p) }
 
 -- ---- an accepted data message
-pub data-passed : (time : ℕ) (words : List ℕ) (paced : Pacer) → paced ≡ (state_of words).pacer → (moved : Pacer) → moved ≡ moved_to time paced
-    → (words' : List ℕ) → words' ≡ putPacer words moved → DataPassed time words RadioAnswer.Accepted words'
+pub data_passed : (time : ℕ) (words : List ℕ) (paced : Pacer) → paced ≡ (state_of words).pacer → (moved : Pacer) → moved ≡ moved_to time paced
+    → (words' : List ℕ) → words' ≡ put_pacer words moved → DataPassed time words RadioAnswer.Accepted words'
 unfolding state_of
-data-passed time words paced p moved m words' put = record { answer-is = refl; words_are = put ∙ rw (m, p) }
+data_passed time words paced p moved m words' put = record { answer_is = refl; words_are = put ∙ rw (m, p) }
 
 -- ---- a datagram, read by its plane
-module _ (time : ℕ) (words datagram : List ℕ) (r : RadioAnswer) (plane : PlaneAnswer) (told : plane ≡ planeOf datagram) (words' : List ℕ) where
-  pub read-control : plane ≡ PlaneAnswer.Control → (reading : ControlReading) → reading ≡ readControl ends.Radio (stateIn words).datalink.id datagram
+module _ (time : ℕ) (words datagram : List ℕ) (r : RadioAnswer) (plane : PlaneAnswer) (told : plane ≡ plane_of datagram) (words' : List ℕ) where
+  pub read_control_lem : plane ≡ PlaneAnswer.Control → (reading : ControlReading) → reading ≡ read_control ends.Radio (state_in words).datalink.id datagram
       → ControlRead time reading words r words' → DatagramRead time datagram words r words'
-  unfolding receivedIn
-  read-control p reading read h = record { answer-is = rw (sym told ∙ p, ← read) h.answer-is; words_are = rw (sym told ∙ p, ← read) h.words_are }
+  unfolding received_in
+  read_control_lem p reading read h = record { answer_is = rw (sym told ∙ p, ← read) h.answer_is; words_are = rw (sym told ∙ p, ← read) h.words_are }
 
-  pub read-data : plane ≡ PlaneAnswer.Data → (reading : DataReading) → reading ≡ readData ends.Radio (stateIn words).datalink.id datagram
+  pub read_data_lem : plane ≡ PlaneAnswer.Data → (reading : DataReading) → reading ≡ read_data ends.Radio (state_in words).datalink.id datagram
       → DataRead time reading words r words' → DatagramRead time datagram words r words'
-  unfolding receivedIn
-  read-data p reading read h = record { answer-is = rw (sym told ∙ p, ← read) h.answer-is; words_are = rw (sym told ∙ p, ← read) h.words_are }
+  unfolding received_in
+  read_data_lem p reading read h = record { answer_is = rw (sym told ∙ p, ← read) h.answer_is; words_are = rw (sym told ∙ p, ← read) h.words_are }
 
-  pub read-refused : (refusal : Refusal) → plane ≡ PlaneAnswer.Refused refusal → r ≡ RadioAnswer.Refused refusal → words' ≡ words → DatagramRead time datagram words r words'
-  unfolding receivedIn
-  read-refused refusal p is same = record { answer-is = rw (sym told ∙ p) is; words_are = rw (sym told ∙ p) same }
+  pub read_refused : (refusal : Refusal) → plane ≡ PlaneAnswer.Refused refusal → r ≡ RadioAnswer.Refused refusal → words' ≡ words → DatagramRead time datagram words r words'
+  unfolding received_in
+  read_refused refusal p is same = record { answer_is = rw (sym told ∙ p) is; words_are = rw (sym told ∙ p) same }
 
 -- ---- a radio message handed in
 module _ (time : ℕ) (words datagram : List ℕ) (r : RadioAnswer) where
-  handed : (words' : List ℕ) → r ≡ (handedIn time (stateIn words) datagram).answer
-      → words' ≡ cond (inTime time (stateIn words)) (receivedWords time (receivedIn (stateIn words).datalink.id datagram) words) words
-      → PerformedInWithAny (radio time datagram) words (ofRadio r) words'
-  unfolding afterInUnder
-  handed words' answer-is words_are memory = record { reply-is = ap ofRadio answer-is; lent_is = ap (λ (ws : List ℕ). lent ws memory) words_are }
+  handed : (words' : List ℕ) → r ≡ (handed_in time (state_in words) datagram).answer
+      → words' ≡ cond (in_time time (state_in words)) (received_words time (received_in (state_in words).datalink.id datagram) words) words
+      → PerformedInWithAny (radio time datagram) words (of_radio r) words'
+  unfolding after_in_under
+  handed words' answer_is words_are memory = record { reply_is = ap of_radio answer_is; lent_is = ap (λ (ws : List ℕ). lent ws memory) words_are }
 
-  pub handed-unfit : stateFits (stateIn words) ≡ false → r ≡ refusedRadio OUTSIDE-LIMITS → PerformedInWithAny (radio time datagram) words (ofRadio r) words
-  unfolding handedInUnder
-  handed-unfit e is = handed words (rw e is) (rw e)
+  pub handed_unfit : state_fits (state_in words) ≡ false → r ≡ refused_radio OUTSIDE-LIMITS → PerformedInWithAny (radio time datagram) words (of_radio r) words
+  unfolding handed_in_under
+  handed_unfit e is = handed words (rw e is) (rw e)
 
-  module _ (fits : stateFits (stateIn words) ≡ true) (paced : Pacer) (p : paced ≡ (state_of words).pacer) (early : Bool) (told : early ≡ isEarlier time paced) where
-    earlier-is : isEarlier time (stateIn words).pacer ≡ early
-    earlier-is = rw (← (says_so words fits (λ (s : State). s.pacer) paced p)) (sym told)
+  module _ (fits : state_fits (state_in words) ≡ true) (paced : Pacer) (p : paced ≡ (state_of words).pacer) (early : Bool) (told : early ≡ is_earlier time paced) where
+    earlier_is : is_earlier time (state_in words).pacer ≡ early
+    earlier_is = rw (← (says_so words fits (λ (s : State). s.pacer) paced p)) (sym told)
 
-    pub handed-earlier : early ≡ true → r ≡ refusedRadio EARLIER-PACE → PerformedInWithAny (radio time datagram) words (ofRadio r) words
-    unfolding handedInUnder
-    handed-earlier e is = handed words (rw (fits, earlier-is ∙ e) is) (rw (fits, earlier-is ∙ e))
+    pub handed_earlier : early ≡ true → r ≡ refused_radio EARLIER-PACE → PerformedInWithAny (radio time datagram) words (of_radio r) words
+    unfolding handed_in_under
+    handed_earlier e is = handed words (rw (fits, earlier_is ∙ e) is) (rw (fits, earlier_is ∙ e))
 
-    pub handed-read : early ≡ false → (words' : List ℕ) → DatagramRead time datagram words r words' → PerformedInWithAny (radio time datagram) words (ofRadio r) words'
-    unfolding handedInUnder
-    handed-read e words' h = handed words' (rw (fits, earlier-is ∙ e) h.answer-is) (rw (fits, earlier-is ∙ e) h.words_are)
+    pub handed_read : early ≡ false → (words' : List ℕ) → DatagramRead time datagram words r words' → PerformedInWithAny (radio time datagram) words (of_radio r) words'
+    unfolding handed_in_under
+    handed_read e words' h = handed words' (rw (fits, earlier_is ∙ e) h.answer_is) (rw (fits, earlier_is ∙ e) h.words_are)
 
 -- ---- the pacer asked
 module _ (time : ℕ) (words : List ℕ) (r : PaceAnswer) where
-  paced-so : (words' : List ℕ) → r ≡ paceAnswer time (stateIn words) → words' ≡ cond (inTime time (stateIn words)) (pacedWords time words) words
-      → PerformedInWithAny (pace time) words (ofPace r) words'
-  unfolding afterInUnder
-  paced-so words' answer-is words_are memory = record { reply-is = ap ofPace answer-is; lent_is = ap (λ (ws : List ℕ). lent ws memory) words_are }
+  paced_so : (words' : List ℕ) → r ≡ pace_answer time (state_in words) → words' ≡ cond (in_time time (state_in words)) (paced_words time words) words
+      → PerformedInWithAny (pace time) words (of_pace r) words'
+  unfolding after_in_under
+  paced_so words' answer_is words_are memory = record { reply_is = ap of_pace answer_is; lent_is = ap (λ (ws : List ℕ). lent ws memory) words_are }
 
-  pub paced-unfit : stateFits (stateIn words) ≡ false → r ≡ refusedPace OUTSIDE-LIMITS → PerformedInWithAny (pace time) words (ofPace r) words
-  unfolding paceAnswerUnder
-  paced-unfit e is = paced-so words (rw e is) (rw e)
+  pub paced_unfit : state_fits (state_in words) ≡ false → r ≡ refused_pace OUTSIDE-LIMITS → PerformedInWithAny (pace time) words (of_pace r) words
+  unfolding pace_answer_under
+  paced_unfit e is = paced_so words (rw e is) (rw e)
 
-  module _ (fits : stateFits (stateIn words) ≡ true) (paced : Pacer) (p : paced ≡ (state_of words).pacer) (early : Bool) (told : early ≡ isEarlier time paced) where
-    says-pacer : paced ≡ (stateIn words).pacer
-    says-pacer = says_so words fits (λ (s : State). s.pacer) paced p
+  module _ (fits : state_fits (state_in words) ≡ true) (paced : Pacer) (p : paced ≡ (state_of words).pacer) (early : Bool) (told : early ≡ is_earlier time paced) where
+    says_pacer : paced ≡ (state_in words).pacer
+    says_pacer = says_so words fits (λ (s : State). s.pacer) paced p
 
-    too-early : isEarlier time (stateIn words).pacer ≡ early
-    too-early = rw (← says-pacer) (sym told)
+    too_early : is_earlier time (state_in words).pacer ≡ early
+    too_early = rw (← says_pacer) (sym told)
 
-    pub paced-earlier : early ≡ true → r ≡ refusedPace EARLIER-PACE → PerformedInWithAny (pace time) words (ofPace r) words
-    unfolding paceAnswerUnder
-    paced-earlier e is = paced-so words (rw (fits, too-early ∙ e) is) (rw (fits, too-early ∙ e))
+    pub paced_earlier : early ≡ true → r ≡ refused_pace EARLIER-PACE → PerformedInWithAny (pace time) words (of_pace r) words
+    unfolding pace_answer_under
+    paced_earlier e is = paced_so words (rw (fits, too_early ∙ e) is) (rw (fits, too_early ∙ e))
 
-    pub paced-answered : early ≡ false → (due : Bool) → due ≡ isDue time paced → (silent : Bool) → silent ≡ isSilent time paced → r ≡ answer_of due silent
-        → (fallen : List ℕ) → fallen ≡ cond silent (silencedWords words) words → (moved : Pacer) → moved ≡ asked time paced → (words' : List ℕ) → words' ≡ putPacer fallen moved
-        → PerformedInWithAny (pace time) words (ofPace r) words'
-    unfolding paceAnswerUnder pacedWords state_of
-    paced-answered e due d silent s is fallen f moved m words' put =
-        paced-so words' (rw (fits, too-early ∙ e, ← says-pacer, ← d, ← s) is)
-        (rw (fits, too-early ∙ e)
+    pub paced_answered : early ≡ false → (due : Bool) → due ≡ is_due time paced → (silent : Bool) → silent ≡ is_silent time paced → r ≡ answer_of due silent
+        → (fallen : List ℕ) → fallen ≡ cond silent (silenced_words words) words → (moved : Pacer) → moved ≡ asked time paced → (words' : List ℕ) → words' ≡ put_pacer fallen moved
+        → PerformedInWithAny (pace time) words (of_pace r) words'
+    unfolding pace_answer_under paced_words state_of
+    paced_answered e due d silent s is fallen f moved m words' put =
+        paced_so words' (rw (fits, too_early ∙ e, ← says_pacer, ← d, ← s) is)
+        (rw (fits, too_early ∙ e)
         (put
-        ∙ ap₂ putPacer (f ∙ ap (λ (b : Bool). cond b (silencedWords words) words) (s ∙ ap (λ (x : Pacer). isSilent time x) p)) (m ∙ ap (asked time) p)))
+        ∙ ap₂ put_pacer (f ∙ ap (λ (b : Bool). cond b (silenced_words words) words) (s ∙ ap (λ (x : Pacer). is_silent time x) p)) (m ∙ ap (asked time) p)))
 
 -- ---- a query
 module _ (words out : List ℕ) (r : WriteAnswer) where
-  pub asked-unfit : stateFits (stateIn words) ≡ false → r ≡ WriteAnswer.Refused (record { number = OUTSIDE-LIMITS; place = 0 }) → PerformedInWithAny (query out) words (ofQuery r out) words
-  unfolding afterInUnder
-  asked-unfit e is memory = record { reply-is = (query-unfit (stateIn words) out r memory e is).reply-is; lent_is = refl }
+  pub asked_unfit : state_fits (state_in words) ≡ false → r ≡ WriteAnswer.Refused (record { number = OUTSIDE-LIMITS; place = 0 }) → PerformedInWithAny (query out) words (of_query r out) words
+  unfolding after_in_under
+  asked_unfit e is memory = record { reply_is = (query_unfit (state_in words) out r memory e is).reply_is; lent_is = refl }
 
-  pub asked-written : stateFits (stateIn words) ≡ true → (out' : List ℕ) → Outcome true (controlWritten (queryOf (stateIn words))) out r out'
-      → PerformedInWithAny (query out) words (ofQuery r out') words
-  unfolding afterInUnder
-  asked-written e out' written memory =
-      record { reply-is = (query-written (stateIn words) out r memory e (queryOf (stateIn words)) refl out' (rw (query-allowed (stateIn words)) written)).reply-is; lent_is = refl }
+  pub asked_written : state_fits (state_in words) ≡ true → (out' : List ℕ) → Outcome true (control_written (query_of (state_in words))) out r out'
+      → PerformedInWithAny (query out) words (of_query r out') words
+  unfolding after_in_under
+  asked_written e out' written memory =
+      record { reply_is = (query_written_lem (state_in words) out r memory e (query_of (state_in words)) refl out' (rw (query_allowed (state_in words)) written)).reply_is; lent_is = refl }

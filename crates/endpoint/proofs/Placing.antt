@@ -9,45 +9,45 @@ use lib.ListN.{length, take, drop}
 use lib.Seq.{drop-drop}
 use Rattle.quantity.specs.Limits.{MOST-CHANNELS}
 use Rattle.ips_channel.specs.declared.state.Channel.{Channel}
-use Rattle.ips_state.specs.State.{State, channelAt}
-use Rattle.ips_state.specs.Limits.{stateFits}
+use Rattle.ips_state.specs.State.{State, channel_at}
+use Rattle.ips_state.specs.Limits.{state_fits}
 use Rattle.ips_state.proofs.Places.{fit}
-use Rattle.ips_words.specs.Words.{SLOT, slot, slotStart, channelIn, channelWords, state_of, stateIn, putSlot, putChannel, Loadable}
-use Rattle.ips_words.proofs.Whole.{slot-length, says, fit-readable, fit-room, fit-channel, fit-loadable}
+use Rattle.ips_words.specs.Words.{SLOT, slot, slot_start, channel_in, channel_words, state_of, state_in, put_slot, put_channel, Loadable}
+use Rattle.ips_words.proofs.Whole.{slot_length, says, fit_readable, fit_room, fit_channel, fit_loadable}
 use Rattle.endpoint.specs.Calls.{Placed}
 
 -- ---- the endpoint's own words
-module _ (words : List ℕ) (fits : stateFits (stateIn words) ≡ true) where
-  pub says_so : {A : Type 0} (field : State → A) (x : A) → x ≡ field (state_of words) → x ≡ field (stateIn words)
-  says_so field x e = e ∙ ap field (sym (says words (fit-readable words fits)))
+module _ (words : List ℕ) (fits : state_fits (state_in words) ≡ true) where
+  pub says_so : {A : Type 0} (field : State → A) (x : A) → x ≡ field (state_of words) → x ≡ field (state_in words)
+  says_so field x e = e ∙ ap field (sym (says words (fit_readable words fits)))
 
 -- ---- a channel's
 module _ (words : List ℕ) (index : ℕ) (p : Placed words index) where
   pub few : index < MOST-CHANNELS
-  few = omega (arith, p.within, (fit (stateIn words) p.fits).few)
+  few = omega (arith, p.within, (fit (state_in words) p.fits).few)
 
-  pub slot-ends : slotStart index + SLOT ≤ length words
-  slot-ends = fit-room words p.fits index p.within
+  pub slot_ends : slot_start index + SLOT ≤ length words
+  slot_ends = fit_room words p.fits index p.within
 
   abbrev part : List ℕ
-  part = take (slotStart index + SLOT - slotStart index) (drop (slotStart index) words)
+  part = take (slot_start index + SLOT - slot_start index) (drop (slot_start index) words)
 
-  size_is : slotStart index + SLOT - slotStart index ≡ SLOT
+  size_is : slot_start index + SLOT - slot_start index ≡ SLOT
   size_is = omega arith
 
-  part-is : part ≡ slot words index
+  part_is : part ≡ slot words index
   unfolding slot
-  part-is = rw size_is
+  part_is = rw size_is
 
-  pub part-long : length part ≡ SLOT
-  part-long = rw part-is (slot-length words index slot-ends)
+  pub part_long : length part ≡ SLOT
+  part_long = rw part_is (slot_length words index slot_ends)
 
-  pub part-loadable : Loadable part
-  part-loadable = rw part-is (fit-loadable words p.fits index p.within)
+  pub part_loadable : Loadable part
+  part_loadable = rw part_is (fit_loadable words p.fits index p.within)
 
-  pub part-loaded : (c : Channel) → c ≡ channelIn part → c ≡ channelAt (stateIn words) index
-  part-loaded c e = e ∙ rw (part-is, fit-channel words p.fits index p.within)
+  pub part_loaded : (c : Channel) → c ≡ channel_in part → c ≡ channel_at (state_in words) index
+  part_loaded c e = e ∙ rw (part_is, fit_channel words p.fits index p.within)
 
-  pub part-saved : (c : Channel) (saved : List ℕ) → saved ≡ channelWords c → put_mid (slotStart index) (slotStart index + SLOT - slotStart index) words saved ≡ putChannel words index c
-  unfolding putChannel putSlot
-  part-saved c saved e = rw (size_is, e, drop-drop)
+  pub part_saved : (c : Channel) (saved : List ℕ) → saved ≡ channel_words c → put_mid (slot_start index) (slot_start index + SLOT - slot_start index) words saved ≡ put_channel words index c
+  unfolding put_channel put_slot
+  part_saved c saved e = rw (size_is, e, drop-drop)

@@ -1,7 +1,7 @@
 // A fresh start, and the words that it asks for.
 ghost use Rattle.std.specs.Prelude.{◌≡◌};
 ghost use Rattle.ips_words_start.specs.Start.{StartedIn};
-ghost use Rattle.endpoint.specs.Shown.{wordsNeeded};
+ghost use Rattle.endpoint.specs.Shown.{words_needed};
 
 use ips_state::StartAnswer;
 use ips_words::layout::{HEAD, SLOT};
@@ -12,7 +12,7 @@ pub const MOST_WORDS: usize = HEAD + SLOT * MOST_CHANNELS;
 
 // How many words a state of so many channels asks for; 0 where no state has so many.
 pub fn words_for(channels: usize) -> usize
-    ensures { result ≡ wordsNeeded channels }
+    ensures { result ≡ words_needed channels }
 {
     if channels < FEWEST_CHANNELS {
         return 0;

@@ -1,13 +1,13 @@
 // Offer, Next and Withdraw on the state in lent words.
 ghost use Rattle.std.specs.Prelude.{◌≡◌};
-ghost use Rattle.store.specs.Packets.{packetFor};
+ghost use Rattle.store.specs.Packets.{packet_for};
 ghost use Rattle.ips_channel_rules.specs.Rules as rules;
 ghost use Rattle.ips_channel_calls.specs.Calls.{offered, asked, withdrawn};
 ghost use Rattle.ips_run.specs.Run.{on};
-ghost use Rattle.ips_calls.specs.Replies.{ofChannel};
+ghost use Rattle.ips_calls.specs.Replies.{of_channel};
 ghost use Rattle.ips_words_survey.specs.Places.{Located};
-ghost use Rattle.endpoint.specs.Lent.{lent, worldIn};
-ghost use Rattle.endpoint.specs.Calls.{PerformedIn, PerformedInAt, MovedAt, offerRefused, nextRefused};
+ghost use Rattle.endpoint.specs.Lent.{lent, world_in};
+ghost use Rattle.endpoint.specs.Calls.{PerformedIn, PerformedInAt, MovedAt, offer_refused, next_refused};
 
 use crate::channel;
 use ips_channel_calls::asking::NextAnswer;
@@ -20,7 +20,7 @@ use quantity::count::ByteCount;
 use quantity::refusal::Refusal;
 
 fn offer_refused(answer: OfferAnswer) -> bool
-    ensures { result ≡ offerRefused answer }
+    ensures { result ≡ offer_refused answer }
 {
     match answer {
         OfferAnswer::Taken => false,
@@ -44,9 +44,9 @@ pub fn offer_at(
     expiry: u64,
     time: u64,
 ) -> PacketOffered
-    requires { Located (worldIn (lent words.old memory.old)) found }
-    ensures performed_in_at { PerformedInAt (rules.offer (packetFor packet.now expiry) time) (lent words.old memory.old) found.index (offered result.answer) (lent words.new memory.new) }
-    ensures moved_at { MovedAt (rules.offer (packetFor packet.now expiry) time) (worldIn (lent words.old memory.old)) found.index result.moved }
+    requires { Located (world_in (lent words.old memory.old)) found }
+    ensures performed_in_at { PerformedInAt (rules.offer (packet_for packet.now expiry) time) (lent words.old memory.old) found.index (offered result.answer) (lent words.new memory.new) }
+    ensures moved_at { MovedAt (rules.offer (packet_for packet.now expiry) time) (world_in (lent words.old memory.old)) found.index result.moved }
 {
     let index = found.index;
     let start = found.start;
@@ -73,7 +73,7 @@ pub fn offer(
     expiry: u64,
     time: u64,
 ) -> OfferAnswer
-    ensures { PerformedIn (on id (rules.offer (packetFor packet.now expiry) time)) (lent words.old memory.old) (ofChannel (offered result)) (lent words.new memory.new) }
+    ensures { PerformedIn (on id (rules.offer (packet_for packet.now expiry) time)) (lent words.old memory.old) (of_channel (offered result)) (lent words.new memory.new) }
 {
     match place::find(words, id, memory.len()) {
         Place::At(found) => offer_at(words, memory, found, packet, expiry, time).answer,
@@ -82,7 +82,7 @@ pub fn offer(
 }
 
 fn next_refused(answer: NextAnswer) -> bool
-    ensures { result ≡ nextRefused answer }
+    ensures { result ≡ next_refused answer }
 {
     match answer {
         NextAnswer::Sent(_) => false,
@@ -107,9 +107,9 @@ fn next_at(
     time: u64,
     out: &mut [u8],
 ) -> PacketAsked
-    requires { Located (worldIn (lent words.old memory.old)) found }
+    requires { Located (world_in (lent words.old memory.old)) found }
     ensures performed_in_at { PerformedInAt (rules.next time out.old) (lent words.old memory.old) found.index (asked result.answer out.new) (lent words.new memory.new) }
-    ensures moved_at { MovedAt (rules.next time out.old) (worldIn (lent words.old memory.old)) found.index result.moved }
+    ensures moved_at { MovedAt (rules.next time out.old) (world_in (lent words.old memory.old)) found.index result.moved }
 {
     let index = found.index;
     let start = found.start;
@@ -130,7 +130,7 @@ fn next_at(
 
 // Asks for the next packet's message: 19, 12, then as the channel answers.
 pub fn next(words: &mut [u64], memory: &mut [u8], id: u8, time: u64, out: &mut [u8]) -> NextAnswer
-    ensures { PerformedIn (on id (rules.next time out.old)) (lent words.old memory.old) (ofChannel (asked result out.new)) (lent words.new memory.new) }
+    ensures { PerformedIn (on id (rules.next time out.old)) (lent words.old memory.old) (of_channel (asked result out.new)) (lent words.new memory.new) }
 {
     match place::find(words, id, memory.len()) {
         Place::At(found) => next_at(words, memory, found, time, out).answer,
@@ -146,9 +146,9 @@ struct PacketsWithdrawn {
 }
 
 fn withdraw_at(words: &mut [u64], memory: &mut [u8], found: Found) -> PacketsWithdrawn
-    requires { Located (worldIn (lent words.old memory.old)) found }
+    requires { Located (world_in (lent words.old memory.old)) found }
     ensures performed_in_at { PerformedInAt rules.withdraw (lent words.old memory.old) found.index (withdrawn result.answer) (lent words.new memory.new) }
-    ensures moved_at { MovedAt rules.withdraw (worldIn (lent words.old memory.old)) found.index result.moved }
+    ensures moved_at { MovedAt rules.withdraw (world_in (lent words.old memory.old)) found.index result.moved }
 {
     let index = found.index;
     let start = found.start;
@@ -167,7 +167,7 @@ fn withdraw_at(words: &mut [u64], memory: &mut [u8], found: Found) -> PacketsWit
 
 // Withdraws all packets that wait on a channel: 19, 12.
 pub fn withdraw(words: &mut [u64], memory: &mut [u8], id: u8) -> WithdrawAnswer
-    ensures { PerformedIn (on id rules.withdraw) (lent words.old memory.old) (ofChannel (withdrawn result)) (lent words.new memory.new) }
+    ensures { PerformedIn (on id rules.withdraw) (lent words.old memory.old) (of_channel (withdrawn result)) (lent words.new memory.new) }
 {
     match place::find(words, id, memory.len()) {
         Place::At(found) => withdraw_at(words, memory, found).answer,

@@ -1,7 +1,7 @@
 // The channel at an index of the configuration, loaded from its words and saved to them. Number 19 was tested.
 ghost use Rattle.std.specs.Prelude.{◌≡◌};
-ghost use Rattle.ips_state.specs.State.{channelAt};
-ghost use Rattle.ips_words.specs.Words.{stateIn, putChannel};
+ghost use Rattle.ips_state.specs.State.{channel_at};
+ghost use Rattle.ips_words.specs.Words.{state_in, put_channel};
 ghost use Rattle.endpoint.specs.Calls.{Placed};
 
 use ips_channel::state::Channel;
@@ -10,7 +10,7 @@ use ips_words::slot;
 
 pub(crate) fn load(words: &[u64], index: usize) -> Channel
     requires { Placed words.now index }
-    ensures { result ≡ channelAt (stateIn words.now) index }
+    ensures { result ≡ channel_at (state_in words.now) index }
 {
     let from = HEAD + SLOT * index;
     let to = from + SLOT;
@@ -19,7 +19,7 @@ pub(crate) fn load(words: &[u64], index: usize) -> Channel
 
 pub(crate) fn save(words: &mut [u64], index: usize, channel: Channel)
     requires { Placed words.old index }
-    ensures { words.new ≡ putChannel words.old index channel }
+    ensures { words.new ≡ put_channel words.old index channel }
 {
     let from = HEAD + SLOT * index;
     let to = from + SLOT;

@@ -1,11 +1,11 @@
 // The pacer asked: is a query due, and is the radio silent.
 ghost use Rattle.std.specs.Prelude.{◌≡◌, true, cond};
-ghost use Rattle.ips_state.specs.Limits.{stateFits};
+ghost use Rattle.ips_state.specs.Limits.{state_fits};
 ghost use Rattle.ips_run.specs.Run as run;
-ghost use Rattle.ips_calls.specs.Pace.{refusedPace};
-ghost use Rattle.ips_calls.specs.Replies.{ofPace};
-ghost use Rattle.ips_words.specs.Words.{stateIn};
-ghost use Rattle.ips_words_radio.specs.HeardWords.{silencedWords};
+ghost use Rattle.ips_calls.specs.Pace.{refused_pace};
+ghost use Rattle.ips_calls.specs.Replies.{of_pace};
+ghost use Rattle.ips_words.specs.Words.{state_in};
+ghost use Rattle.ips_words_radio.specs.HeardWords.{silenced_words};
 ghost use Rattle.endpoint.specs.Calls.{PerformedInWithAny};
 
 use ips_words::head;
@@ -15,14 +15,14 @@ use quantity::refusal;
 use quantity::refusal::Refusal;
 
 fn refused(number: u8) -> PaceAnswer
-    ensures { result ≡ refusedPace number }
+    ensures { result ≡ refused_pace number }
 {
     PaceAnswer::Refused(Refusal { number, place: 0 })
 }
 
 fn fall_silent(words: &mut [u64], silent: bool)
-    requires { stateFits (stateIn words.old) ≡ true }
-    ensures { words.new ≡ cond silent (silencedWords words.old) words.old }
+    requires { state_fits (state_in words.old) ≡ true }
+    ensures { words.new ≡ cond silent (silenced_words words.old) words.old }
 {
     if silent {
         ips_words_radio::silence(words);
@@ -31,7 +31,7 @@ fn fall_silent(words: &mut [u64], silent: bool)
 
 // 19, then 21. Packets stay waiting, so no memory is asked for.
 pub fn pace(words: &mut [u64], time: u64) -> PaceAnswer
-    ensures { PerformedInWithAny (run.pace time) words.old (ofPace result) words.new }
+    ensures { PerformedInWithAny (run.pace time) words.old (of_pace result) words.new }
 {
     let survey = survey::survey_words(words, 0);
     if !survey.fits {

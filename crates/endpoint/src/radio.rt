@@ -1,11 +1,11 @@
 // A radio message handed in.
 ghost use Rattle.std.specs.Prelude.{◌≡◌, true};
-ghost use Rattle.ips_state.specs.Limits.{stateFits};
+ghost use Rattle.ips_state.specs.Limits.{state_fits};
 ghost use Rattle.ips_run.specs.Run as run;
-ghost use Rattle.ips_calls.specs.Replies.{ofRadio};
-ghost use Rattle.ips_words.specs.Words.{stateIn};
+ghost use Rattle.ips_calls.specs.Replies.{of_radio};
+ghost use Rattle.ips_words.specs.Words.{state_in};
 ghost use Rattle.endpoint.specs.Calls.{PerformedInWithAny};
-ghost use Rattle.endpoint.specs.Radio.{MessageHeard, DataPassed, ControlRead, DataRead, DatagramRead, refusedRadio};
+ghost use Rattle.endpoint.specs.Radio.{MessageHeard, DataPassed, ControlRead, DataRead, DatagramRead, refused_radio};
 
 use ips_radio::RadioAnswer;
 use ips_words::head;
@@ -17,7 +17,7 @@ use reader::answer::{ControlReading, DataReading, PlaneAnswer, Verdict};
 use reader::header;
 
 fn accepted(words: &mut [u64], time: u64, message: Control) -> RadioAnswer
-    requires { stateFits (stateIn words.old) ≡ true }
+    requires { state_fits (state_in words.old) ≡ true }
     ensures { MessageHeard time message words.old result words.new }
 {
     let kept = head::context(words);
@@ -32,7 +32,7 @@ fn accepted(words: &mut [u64], time: u64, message: Control) -> RadioAnswer
 }
 
 fn control(words: &mut [u64], time: u64, reading: ControlReading) -> RadioAnswer
-    requires { stateFits (stateIn words.old) ≡ true }
+    requires { state_fits (state_in words.old) ≡ true }
     ensures { ControlRead time reading words.old result words.new }
 {
     let verdict = reading.verdict;
@@ -46,7 +46,7 @@ fn control(words: &mut [u64], time: u64, reading: ControlReading) -> RadioAnswer
 
 // An accepted radio data message moves the pacer's clock, and changes nothing else.
 fn passed(words: &mut [u64], time: u64) -> RadioAnswer
-    requires { stateFits (stateIn words.old) ≡ true }
+    requires { state_fits (state_in words.old) ≡ true }
     ensures { DataPassed time words.old result words.new }
 {
     let paced = head::pacer(words);
@@ -55,7 +55,7 @@ fn passed(words: &mut [u64], time: u64) -> RadioAnswer
 }
 
 fn data(words: &mut [u64], time: u64, reading: DataReading) -> RadioAnswer
-    requires { stateFits (stateIn words.old) ≡ true }
+    requires { state_fits (state_in words.old) ≡ true }
     ensures { DataRead time reading words.old result words.new }
 {
     let verdict = reading.verdict;
@@ -68,7 +68,7 @@ fn data(words: &mut [u64], time: u64, reading: DataReading) -> RadioAnswer
 
 // As for reading.
 fn read(words: &mut [u64], time: u64, datagram: &[u8]) -> RadioAnswer
-    requires { stateFits (stateIn words.old) ≡ true }
+    requires { state_fits (state_in words.old) ≡ true }
     ensures { DatagramRead time datagram.now words.old result words.new }
 {
     let datalink = head::datalink(words);
@@ -88,14 +88,14 @@ fn read(words: &mut [u64], time: u64, datagram: &[u8]) -> RadioAnswer
 }
 
 fn refused(number: u8) -> RadioAnswer
-    ensures { result ≡ refusedRadio number }
+    ensures { result ≡ refused_radio number }
 {
     RadioAnswer::Refused(Refusal { number, place: 0 })
 }
 
 // 19, 21, then as for reading.
 pub fn hand_in(words: &mut [u64], time: u64, datagram: &[u8]) -> RadioAnswer
-    ensures { PerformedInWithAny (run.radio time datagram.now) words.old (ofRadio result) words.new }
+    ensures { PerformedInWithAny (run.radio time datagram.now) words.old (of_radio result) words.new }
 {
     let survey = survey::survey_words(words, 0);
     if !survey.fits {

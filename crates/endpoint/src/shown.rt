@@ -1,7 +1,7 @@
 // What the words say of a channel, of the Link Instance and the Context that are kept, and of the pacer. Nothing is changed.
 ghost use Rattle.std.specs.Prelude.{◌≡◌};
-ghost use Rattle.ips_words.specs.Words.{stateIn};
-ghost use Rattle.endpoint.specs.Shown.{shownOf, keptOf, pacerOf};
+ghost use Rattle.ips_words.specs.Words.{state_in};
+ghost use Rattle.endpoint.specs.Shown.{shown_of, kept_of, pacer_of};
 
 use crate::channel;
 use ips_channel::state;
@@ -36,7 +36,7 @@ pub enum PacerAnswer {
 
 // 19, then 12.
 pub fn find_channel(words: &[u64], id: u8) -> ChannelShown
-    ensures { result ≡ shownOf (stateIn words.now) id }
+    ensures { result ≡ shown_of (state_in words.now) id }
 {
     let survey = survey::survey_words(words, id);
     let total = survey.total;
@@ -65,7 +65,7 @@ pub fn find_channel(words: &[u64], id: u8) -> ChannelShown
 
 // 19, or the Link Instance as last given and the Context of the last accepted control message.
 pub fn kept(words: &[u64]) -> KeptAnswer
-    ensures { result ≡ keptOf (stateIn words.now) }
+    ensures { result ≡ kept_of (state_in words.now) }
 {
     let survey = survey::survey_words(words, 0);
     if !survey.fits {
@@ -81,7 +81,7 @@ pub fn kept(words: &[u64]) -> KeptAnswer
 
 // 19, or the pacer: HelloTime and silence limit, its clock, the last query due, the last accepted control message.
 pub fn pacer(words: &[u64]) -> PacerAnswer
-    ensures { result ≡ pacerOf (stateIn words.now) }
+    ensures { result ≡ pacer_of (state_in words.now) }
 {
     let survey = survey::survey_words(words, 0);
     if !survey.fits {

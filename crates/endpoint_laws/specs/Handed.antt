@@ -8,21 +8,21 @@ use Rattle.meaning.specs.declared.message.Datalink.{Datalink}
 use Rattle.meaning.specs.declared.message.Channel.TheVariants as channels
 use Rattle.meaning.specs.declared.message.Expiration.TheVariants as expirations
 use Rattle.meaning.specs.declared.message.Counted.{Counted}
-use Rattle.reader.specs.Readings.{Verdict, DataReading, readData, packetOf}
+use Rattle.reader.specs.Readings.{Verdict, DataReading, read_data, packet_of}
 use Rattle.store.specs.Packets.{Packet}
 use Rattle.flow.specs.declared.Flow.{Flow}
 use Rattle.ips_channel.specs.declared.state.Channel.{Channel}
-use Rattle.ips_state.specs.Memory.{World, channelIn}
-use Rattle.endpoint_laws.specs.Given.{Configured, notDueIn}
+use Rattle.ips_state.specs.Memory.{World, channel_in}
+use Rattle.endpoint_laws.specs.Given.{Configured, not_due_in}
 
 -- "Sending under a window adds n to the sequence modulo 2^32, and the message carries the sum. A free channel's sequence stands still."
 pub data SequenceRead (c : Channel) (id n : ℕ) : Counted → Type 0 where
   read_none : c.flow ≡ Flow.Free → SequenceRead c id n Counted.Absent
-  read-sum : {window : FlowWindow} → c.flow ≡ Flow.InForce window → SequenceRead c id n (Counted.Given id (record { 0 = (c.sequence.0 + n) % 4294967296 }))
+  read_sum : {window : FlowWindow} → c.flow ≡ Flow.InForce window → SequenceRead c id n (Counted.Given id (record { 0 = (c.sequence.0 + n) % 4294967296 }))
 
 -- a reader of the IPS end's messages, configured with the state's Datalink ID
-abbrev pub readingIn : World → ByteCount → List ℕ → DataReading
-readingIn w count out = readData ends.Ips w.state.datalink.id (take count.0 out)
+abbrev pub reading_in : World → ByteCount → List ℕ → DataReading
+reading_in w count out = read_data ends.Ips w.state.datalink.id (take count.0 out)
 
 -- "a data message with the first waiting packet", of those that are not due; "bytes behind the message stay"
 pub record HandedOver (w : World) (id time : ℕ) (count : ByteCount) (out out' : List ℕ) : Type 0 where
@@ -30,11 +30,11 @@ pub record HandedOver (w : World) (id time : ℕ) (count : ByteCount) (out out' 
   pub named : Configured w id index
   pub first : Packet
   pub behind : List Packet
-  pub waits : notDueIn w index time ≡ first ∷ behind
-  pub accepted : (readingIn w count out').verdict ≡ Verdict.Accepted
-  pub datalink : (readingIn w count out').message.datalink ≡ Datalink.Given w.state.datalink.id
-  pub sequence : SequenceRead (channelIn w index) id (length first.bytes) (readingIn w count out').message.sequence
-  pub channel : (readingIn w count out').message.channel ≡ channels.Given id
-  pub no-expiration : (readingIn w count out').message.expiration ≡ expirations.Absent
-  pub packet : packetOf (take count.0 out') ≡ first.bytes
+  pub waits : not_due_in w index time ≡ first ∷ behind
+  pub accepted : (reading_in w count out').verdict ≡ Verdict.Accepted
+  pub datalink : (reading_in w count out').message.datalink ≡ Datalink.Given w.state.datalink.id
+  pub sequence : SequenceRead (channel_in w index) id (length first.bytes) (reading_in w count out').message.sequence
+  pub channel : (reading_in w count out').message.channel ≡ channels.Given id
+  pub no_expiration_lem : (reading_in w count out').message.expiration ≡ expirations.Absent
+  pub packet : packet_of (take count.0 out') ≡ first.bytes
   pub rest : drop count.0 out' ≡ drop count.0 out

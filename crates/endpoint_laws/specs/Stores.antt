@@ -4,14 +4,14 @@ use Rattle.std.specs.Prelude.{ℕ, zero, suc, ◌-◌, List, [], ◌∷◌, ◌+
 use Rattle.store.specs.Packets.{Packet}
 
 -- n stores, one behind the other
-abbrev pub endToEnd : (ℕ → List ℕ) → ℕ → List ℕ
-endToEnd stores zero = []
-endToEnd stores (suc n) = endToEnd stores n ++ stores n
+abbrev pub end_to_end : (ℕ → List ℕ) → ℕ → List ℕ
+end_to_end stores zero = []
+end_to_end stores (suc n) = end_to_end stores n ++ stores n
 
 -- packets one behind the other, and zeros up to the size
-abbrev pub bytesIn : List Packet → List ℕ
-bytesIn [] = []
-bytesIn (p ∷ ps) = p.bytes ++ bytesIn ps
+abbrev pub bytes_in : List Packet → List ℕ
+bytes_in [] = []
+bytes_in (p ∷ ps) = p.bytes ++ bytes_in ps
 
 abbrev pub holding : ℕ → List Packet → List ℕ
-holding size ps = bytesIn ps ++ replicate (size - length (bytesIn ps)) 0
+holding size ps = bytes_in ps ++ replicate (size - length (bytes_in ps)) 0

@@ -16,20 +16,20 @@ module _ (from to : ℕ) (l : List ℕ) where
       ∙ ap (drop from) (take-add from (to - from) l)
       ∙ drop_at (take from l) (take (to - from) (drop from l)) from (length-take-le from l (omega arith)))
 
-  pub slice-crossed : to < from → [] ≡ slice from to l
+  pub slice_crossed : to < from → [] ≡ slice from to l
   unfolding slice
-  slice-crossed h = sym (drop_of_length-le (take to l) {i = from} (simp length-take (omega arith)))
+  slice_crossed h = sym (drop_of_length-le (take to l) {i = from} (simp length-take (omega arith)))
 
-  pub slice-long : length l ≤ to → slice from to l ≡ drop from l
+  pub slice_long : length l ≤ to → slice from to l ≡ drop from l
   unfolding slice
-  slice-long h = ap (drop from) (take_all to l h)
+  slice_long h = ap (drop from) (take_all to l h)
 
-  pub slice-past : length l ≤ to → length l < from → [] ≡ slice from to l
-  slice-past h g = sym (slice-long h ∙ drop_of_length-le l {i = from} (omega arith))
+  pub slice_past : length l ≤ to → length l < from → [] ≡ slice from to l
+  slice_past h g = sym (slice_long h ∙ drop_of_length-le l {i = from} (omega arith))
 
-  pub slice-rest : length l ≤ to → from ≤ length l → take (length l - from) (drop from l) ≡ slice from to l
-  slice-rest h g = take_all (length l - from) (drop from l) (simp length-drop (omega arith)) ∙ sym (slice-long h)
+  pub slice_rest : length l ≤ to → from ≤ length l → take (length l - from) (drop from l) ≡ slice from to l
+  slice_rest h g = take_all (length l - from) (drop from l) (simp length-drop (omega arith)) ∙ sym (slice_long h)
 
-  pub slice-most : length (slice from to l) ≤ length l - from
+  pub slice_most : length (slice from to l) ≤ length l - from
   unfolding slice
-  slice-most = simp (length-drop, length-take) (omega arith)
+  slice_most = simp (length-drop, length-take) (omega arith)

@@ -1,8 +1,8 @@
 // What an Ethernet record of a capture holds: its kind, and the datagram that it carries over IPv4 and UDP.
 ghost use Rattle.std.specs.Prelude.{◌≡◌, ◌<◌, get_or, drop};
 ghost use Rattle.bytes.specs.Bytes.{slice};
-ghost use Rattle.ethernet.specs.Layers.{word_at, headerSize, isFragment, carried_of, datagramOf};
-ghost use Rattle.ethernet.specs.Kinds.{udpKind, ipv4Kind, kind_of};
+ghost use Rattle.ethernet.specs.Layers.{word_at, header_size, is_fragment, carried_of, datagram_of};
+ghost use Rattle.ethernet.specs.Kinds.{udp_kind, ipv4_kind, kind_of};
 
 // The header of Ethernet: two addresses of 6 bytes, and the EtherType.
 const ETHERNET_HEADER: usize = 14;
@@ -91,7 +91,7 @@ fn packet(frame: &[u8]) -> &[u8]
 
 // How many bytes the header of IPv4 says that it has, options included.
 fn header_size(packet: &[u8]) -> usize
-    ensures { result ≡ headerSize packet.now }
+    ensures { result ≡ header_size packet.now }
 {
     byte(packet, 0) as usize % 16 * 4
 }
@@ -105,7 +105,7 @@ fn carried(packet: &[u8]) -> &[u8]
 
 // Whether more fragments follow, or some came before.
 fn is_fragment(packet: &[u8]) -> bool
-    ensures { result ≡ isFragment packet.now }
+    ensures { result ≡ is_fragment packet.now }
 {
     let field = word(packet, 6);
     if field / 8192 % 2 == 1 {
@@ -116,7 +116,7 @@ fn is_fragment(packet: &[u8]) -> bool
 
 // The kind by what IPv4 carries.
 fn udp_kind(carried: &[u8], ports: Ports) -> Kind
-    ensures { result ≡ udpKind ports carried.now }
+    ensures { result ≡ udp_kind ports carried.now }
 {
     let size = word(carried, 4);
     if size < UDP_HEADER {
@@ -137,7 +137,7 @@ fn udp_kind(carried: &[u8], ports: Ports) -> Kind
 
 // The kind by what stands behind the header of Ethernet.
 fn ipv4_kind(packet: &[u8], ports: Ports) -> Kind
-    ensures { result ≡ ipv4Kind ports packet.now }
+    ensures { result ≡ ipv4_kind ports packet.now }
 {
     if packet.len() < IPV4_HEADER {
         return Kind::NotIpv4;
@@ -184,7 +184,7 @@ pub fn kind_of(frame: &[u8], original: usize, ports: Ports) -> Kind
 // The datagram of a record of the two last kinds, as that stretch of the record: behind the header of UDP, up to its
 // length. What stands behind it, padding too, is left out.
 pub fn datagram(frame: &[u8]) -> &[u8]
-    ensures { result.now ≡ datagramOf frame.now }
+    ensures { result.now ≡ datagram_of frame.now }
 {
     let carried = carried(packet(frame));
     part(carried, UDP_HEADER, word(carried, 4))

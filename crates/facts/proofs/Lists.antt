@@ -7,8 +7,8 @@ use lib.ListN.{length, take, drop, length-drop, length-map}
 use lib.Seq.{take_all}
 
 -- what owning an array of structs tells of its list
-pub length-mapped : {X Y : Type 0} (f : X → Y) (l : List X) (n : ℕ) → length (map f l) ≡ n → length l ≡ n
-length-mapped f l n e = sym (length-map l f) ∙ e
+pub length_mapped : {X Y : Type 0} (f : X → Y) (l : List X) (n : ℕ) → length (map f l) ≡ n → length l ≡ n
+length_mapped f l n e = sym (length-map l f) ∙ e
 
 -- a part up to the end is what is left
 pub rest_part : {A : Type 0} (n : ℕ) (s : List A) → take (length s - n) (drop n s) ≡ drop n s

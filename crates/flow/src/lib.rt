@@ -1,6 +1,6 @@
 // How a channel counts: what may go by its flow state, and what it counts and carries then.
 ghost use Rattle.std.specs.Prelude.{◌≡◌, cond};
-ghost use Rattle.flow.specs.Counting.{firstFlow, mayGo, sequenceOn, carriedBy, flowAfter};
+ghost use Rattle.flow.specs.Counting.{first_flow, may_go, sequence_on, carried_by, flow_after};
 
 use meaning::message::{Sequence, Window};
 use quantity::count;
@@ -16,7 +16,7 @@ pub enum Flow {
 
 // Plain channels are always free; fresh flow-controlled ones have no window.
 pub fn first(controlled: bool) -> Flow
-    ensures { result ≡ firstFlow controlled }
+    ensures { result ≡ first_flow controlled }
 {
     if controlled {
         Flow::NoWindow
@@ -27,7 +27,7 @@ pub fn first(controlled: bool) -> Flow
 
 // Whether a packet of this length may go.
 pub fn may_go(flow: Flow, sequence: FlowSequence, bytes: ByteCount) -> bool
-    ensures { result ≡ mayGo flow sequence bytes }
+    ensures { result ≡ may_go flow sequence bytes }
 {
     match flow {
         Flow::Free => true,
@@ -38,7 +38,7 @@ pub fn may_go(flow: Flow, sequence: FlowSequence, bytes: ByteCount) -> bool
 
 // The sequence after a packet of this length went: a free channel's stands still.
 pub fn counted(flow: Flow, sequence: FlowSequence, bytes: ByteCount) -> FlowSequence
-    ensures { result ≡ sequenceOn flow sequence bytes }
+    ensures { result ≡ sequence_on flow sequence bytes }
 {
     match flow {
         Flow::Free => sequence,
@@ -49,7 +49,7 @@ pub fn counted(flow: Flow, sequence: FlowSequence, bytes: ByteCount) -> FlowSequ
 
 // The Flow Sequence of the message: only if a window is in force.
 pub fn carried(flow: Flow, sequence: FlowSequence) -> Sequence
-    ensures { result ≡ carriedBy flow sequence }
+    ensures { result ≡ carried_by flow sequence }
 {
     match flow {
         Flow::Free => Sequence::Absent,
@@ -60,7 +60,7 @@ pub fn carried(flow: Flow, sequence: FlowSequence) -> Sequence
 
 // The flow state that a Flow Window option leaves, or its absence: the old one plays no part.
 fn stated(window: Window) -> Flow
-    ensures { result ≡ flowAfter window }
+    ensures { result ≡ flow_after window }
 {
     match window {
         Window::Absent => Flow::Free,
@@ -71,7 +71,7 @@ fn stated(window: Window) -> Flow
 
 // The flow state after an accepted radio control message: a plain channel's stays free.
 pub fn heard(controlled: bool, before: Flow, window: Window) -> Flow
-    ensures { result ≡ cond controlled (flowAfter window) before }
+    ensures { result ≡ cond controlled (flow_after window) before }
 {
     if controlled { stated(window) } else { before }
 }

@@ -3,14 +3,14 @@
 use Rattle.std.specs.Prelude.{ℕ, ◌+◌, Bool, cond, ◌&&◌, List, [], ◌∷◌, map, ◌≡◌, eqb, leb, length, take, drop}
 use Rattle.quantity.specs.Limits.{MOST-AT-ONCE}
 use Rattle.quantity.specs.Refusals.{OUTSIDE-LIMITS, NOT-A-HANDFUL}
-use Rattle.store.specs.Packets.{Packet, packetFor}
+use Rattle.store.specs.Packets.{Packet, packet_for}
 use Rattle.ips_channel_rules.specs.Rules.{offer}
 use Rattle.ips_channel_calls.specs.declared.offering.OfferAnswer.{OfferAnswer}
-use Rattle.ips_channel_calls.specs.Calls.{offerAnswer, number_of}
-use Rattle.ips_state.specs.Memory.{World, worldFits}
+use Rattle.ips_channel_calls.specs.Calls.{offer_answer, number_of}
+use Rattle.ips_state.specs.Memory.{World, world_fits}
 use Rattle.ips_run.specs.Calling.{calling}
 use Rattle.ips_run.specs.Run.{Call, on}
-use Rattle.endpoint.specs.Lent.{Lent, worldIn, afterIn}
+use Rattle.endpoint.specs.Lent.{Lent, world_in, after_in}
 use Rattle.handful.specs.declared.HandfulAnswer.{HandfulAnswer}
 
 -- what is delivered
@@ -26,62 +26,62 @@ pub record Offer : Type 0 where
   pub id : ℕ
   pub packet : Packet
 
-abbrev pub offerFor : (id expiry : ℕ) (bytes : List ℕ) → Offer
-offerFor id expiry bytes = record { id = id; packet = packetFor bytes expiry }
+abbrev pub offer_for : (id expiry : ℕ) (bytes : List ℕ) → Offer
+offer_for id expiry bytes = record { id = id; packet = packet_for bytes expiry }
 
 -- each takes as many bytes as its length says, and the next one begins behind them
 unfoldable pub cut : (channels expiries lengths packets : List ℕ) → List Offer
 cut [] expiries lengths packets = []
 cut (id ∷ channels) [] lengths packets = []
 cut (id ∷ channels) (expiry ∷ expiries) [] packets = []
-cut (id ∷ channels) (expiry ∷ expiries) (n ∷ lengths) packets = offerFor id expiry (take n packets) ∷ cut channels expiries lengths (drop n packets)
+cut (id ∷ channels) (expiry ∷ expiries) (n ∷ lengths) packets = offer_for id expiry (take n packets) ∷ cut channels expiries lengths (drop n packets)
 
-abbrev pub offersOf : Handful → List Offer
-offersOf h = cut h.channels h.expiries h.lengths h.packets
+abbrev pub offers_of : Handful → List Offer
+offers_of h = cut h.channels h.expiries h.lengths h.packets
 
 -- ---- "offering one by one in that order": each is an Offer of document 01 on the state and the memory as the one before left them
 abbrev pub call_of : (time : ℕ) → Offer → Call
 call_of time o = on o.id (offer o.packet time)
 
-abbrev pub answerTo : (time : ℕ) → Offer → World → OfferAnswer
-answerTo time o w = offerAnswer (calling o.id (offer o.packet time) w).answer
+abbrev pub answer_to : (time : ℕ) → Offer → World → OfferAnswer
+answer_to time o w = offer_answer (calling o.id (offer o.packet time) w).answer
 
-abbrev pub answersTo : (time : ℕ) → List Offer → Lent → List OfferAnswer
-answersTo time [] l = []
-answersTo time (o ∷ os) l = answerTo time o (worldIn l) ∷ answersTo time os (afterIn (call_of time o) l)
+abbrev pub answers_to : (time : ℕ) → List Offer → Lent → List OfferAnswer
+answers_to time [] l = []
+answers_to time (o ∷ os) l = answer_to time o (world_in l) ∷ answers_to time os (after_in (call_of time o) l)
 
-abbrev pub leftBy : (time : ℕ) → List Offer → Lent → Lent
-leftBy time [] l = l
-leftBy time (o ∷ os) l = leftBy time os (afterIn (call_of time o) l)
+abbrev pub left_by : (time : ℕ) → List Offer → Lent → Lent
+left_by time [] l = l
+left_by time (o ∷ os) l = left_by time os (after_in (call_of time o) l)
 
 -- ---- "Refusals: 24 for more than 32, for lists (answers too) of unequal count, or for lengths whose sum isn't the buffer's length"
 unfoldable pub sum_of : List ℕ → ℕ
 sum_of [] = 0
 sum_of (n ∷ ns) = n + sum_of ns
 
-unfoldable pub isHandful : Handful → (answers : ℕ) → Bool
-isHandful h answers =
+unfoldable pub is_handful : Handful → (answers : ℕ) → Bool
+is_handful h answers =
     leb (length h.channels) MOST-AT-ONCE
     && (eqb (length h.expiries) (length h.channels)
     && (eqb (length h.lengths) (length h.channels) && (eqb answers (length h.channels) && eqb (sum_of h.lengths) (length h.packets))))
 
-abbrev pub refusedHandful : ℕ → HandfulAnswer
-refusedHandful number = HandfulAnswer.Refused (record { number = number; place = 0 })
+abbrev pub refused_handful : ℕ → HandfulAnswer
+refused_handful number = HandfulAnswer.Refused (record { number = number; place = 0 })
 
 -- "right after 19"
-abbrev pub handfulAnswer : Handful → (answers : ℕ) → World → HandfulAnswer
-handfulAnswer h answers w = cond (worldFits w) (cond (isHandful h answers) HandfulAnswer.Offered (refusedHandful NOT-A-HANDFUL)) (refusedHandful OUTSIDE-LIMITS)
+abbrev pub handful_answer : Handful → (answers : ℕ) → World → HandfulAnswer
+handful_answer h answers w = cond (world_fits w) (cond (is_handful h answers) HandfulAnswer.Offered (refused_handful NOT-A-HANDFUL)) (refused_handful OUTSIDE-LIMITS)
 
 -- the offers that it stands for: "with nothing taken" where it is refused
 abbrev pub stands_for : Handful → (answers : ℕ) → World → List Offer
-stands_for h answers w = cond (worldFits w && isHandful h answers) (offersOf h) []
+stands_for h answers w = cond (world_fits w && is_handful h answers) (offers_of h) []
 
 -- "an answer for each", a byte: the lent answers afterwards; refused as a whole, every byte of them as it was
-abbrev pub answersAfter : Handful → Lent → (answers : List ℕ) → List ℕ
-answersAfter h l answers = cond (worldFits (worldIn l) && isHandful h (length answers)) (map number_of (answersTo h.time (offersOf h) l)) answers
+abbrev pub answers_after : Handful → Lent → (answers : List ℕ) → List ℕ
+answers_after h l answers = cond (world_fits (world_in l) && is_handful h (length answers)) (map number_of (answers_to h.time (offers_of h) l)) answers
 
 -- THE CONTRACT OF A HANDFUL
 pub record HandedIn (h : Handful) (l : Lent) (answers : List ℕ) (x : HandfulAnswer) (l' : Lent) (answers' : List ℕ) : Type 0 where
-  pub answer-is : x ≡ handfulAnswer h (length answers) (worldIn l)
-  pub lent_is : l' ≡ leftBy h.time (stands_for h (length answers) (worldIn l)) l
-  pub answers-are : answers' ≡ answersAfter h l answers
+  pub answer_is : x ≡ handful_answer h (length answers) (world_in l)
+  pub lent_is : l' ≡ left_by h.time (stands_for h (length answers) (world_in l)) l
+  pub answers_are : answers' ≡ answers_after h l answers

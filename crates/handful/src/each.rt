@@ -1,12 +1,12 @@
 // The packets of a handful, offered one by one. Numbers 19 and 24 were tested, and 19 holds on.
 ghost use Rattle.std.specs.Prelude.{◌≡◌, true};
 ghost use Rattle.ips_channel_calls.specs.Calls.{offered, number_of};
-ghost use Rattle.ips_state.specs.Memory.{worldFits};
-ghost use Rattle.ips_calls.specs.Replies.{ofChannel};
-ghost use Rattle.endpoint.specs.Lent.{lent, worldIn};
+ghost use Rattle.ips_state.specs.Memory.{world_fits};
+ghost use Rattle.ips_calls.specs.Replies.{of_channel};
+ghost use Rattle.endpoint.specs.Lent.{lent, world_in};
 ghost use Rattle.endpoint.specs.Calls.{PerformedIn};
-ghost use Rattle.handful.specs.Handful.{offerFor, call_of};
-ghost use Rattle.handful.specs.Offering.{movedIn, Tested, OfferedEach};
+ghost use Rattle.handful.specs.Handful.{offer_for, call_of};
+ghost use Rattle.handful.specs.Offering.{moved_in, Tested, OfferedEach};
 
 use crate::place;
 use endpoint::call::PacketOffered;
@@ -37,9 +37,9 @@ fn offer_one(
     expiry: u64,
     time: u64,
 ) -> PacketOffered
-    requires { worldFits (worldIn (lent words.old memory.old)) ≡ true }
-    ensures performed_in { PerformedIn (call_of time (offerFor id expiry packet.now)) (lent words.old memory.old) (ofChannel (offered result.answer)) (lent words.new memory.new) }
-    ensures moved_value { result.moved ≡ record { 0 = movedIn time (offerFor id expiry packet.now) (worldIn (lent words.old memory.old)) } }
+    requires { world_fits (world_in (lent words.old memory.old)) ≡ true }
+    ensures performed_in { PerformedIn (call_of time (offer_for id expiry packet.now)) (lent words.old memory.old) (of_channel (offered result.answer)) (lent words.new memory.new) }
+    ensures moved_value { result.moved ≡ record { 0 = moved_in time (offer_for id expiry packet.now) (world_in (lent words.old memory.old)) } }
 {
     match place::locate(words, id) {
         Place::At(found) => call::offer_at(words, memory, found, packet, expiry, time),

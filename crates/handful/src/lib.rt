@@ -4,7 +4,7 @@
 // its number of refusal. Number 19 is tested once. Refused as a whole, by 19 or 24, it leaves every word, the memory and the answers as they were.
 ghost use Rattle.std.specs.Prelude.{◌≡◌};
 ghost use Rattle.endpoint.specs.Lent.{lent};
-ghost use Rattle.handful.specs.Handful.{HandedIn, refusedHandful};
+ghost use Rattle.handful.specs.Handful.{HandedIn, refused_handful};
 
 mod each;
 mod judged;
@@ -21,7 +21,7 @@ pub enum HandfulAnswer {
 }
 
 fn refused(number: u8) -> HandfulAnswer
-    ensures { result ≡ refusedHandful number }
+    ensures { result ≡ refused_handful number }
 {
     HandfulAnswer::Refused(Refusal { number, place: 0 })
 }

@@ -4,23 +4,23 @@ use mathlib.Core.List.{List, [], ◌∷◌, ◌++◌}
 use mathlib.Core.Path.{◌≡◌, refl, ap, ◌∙◌}
 use lib.ListN.{take, drop, replicate}
 use Rattle.facts.specs.Tables.{tabulate}
-use Rattle.wire.specs.Numbers.{numberFrom}
-use Rattle.store.specs.Packets.{lasting, joined, isFull}
+use Rattle.wire.specs.Numbers.{number_from}
+use Rattle.store.specs.Packets.{lasting, joined, is_full}
 use Rattle.store.specs.Waiting as stores
-use Rattle.store.specs.Waiting.{waiting, total, packetsOf, entry_of, listed, queueOf, store_of, allWithinUnder, wellFormedUnder}
-use Rattle.ipv6.specs.Ipv6.{isIpv6}
-use Rattle.ips_channel_rules.specs.Rules.{offerAt}
-use Rattle.ips_channel.specs.Channel.{conditionOf, withCondition}
-use Rattle.ips_channel_calls.specs.Calls.{channelAfter, storeAfter}
-use Rattle.ips_state.specs.State.{channelAt, withChannel}
-use Rattle.ips_state.specs.Limits.{channelFitsUnder, allFitUnder, ids, distinct, channelsFitUnder, namesFit, headFits, stateFitsUnder, sizes, indexOf}
-use Rattle.ips_state.specs.Memory.{memoryFits, start_of, storeAt, withStore}
-use Rattle.ips_run.specs.Calling.{callingUnder}
-use Rattle.ips_words.specs.Words.{slot, statusOf, flow_of, instanceOf, context_of, entriesIn, queueIn, state_of, spelled, all_spelled, headSpelled, readable, stateIn, entryWords, channelWords, putSlot, putChannel}
+use Rattle.store.specs.Waiting.{waiting, total, packets_of, entry_of, listed, queue_of, store_of, all_within_under, well_formed_under}
+use Rattle.ipv6.specs.Ipv6.{is_ipv6}
+use Rattle.ips_channel_rules.specs.Rules.{offer_at}
+use Rattle.ips_channel.specs.Channel.{condition_of, with_condition}
+use Rattle.ips_channel_calls.specs.Calls.{channel_after, store_after}
+use Rattle.ips_state.specs.State.{channel_at, with_channel}
+use Rattle.ips_state.specs.Limits.{channel_fits_under, all_fit_under, ids, distinct, channels_fit_under, names_fit, head_fits, state_fits_under, sizes, indexOf}
+use Rattle.ips_state.specs.Memory.{memory_fits, start_of, store_at, with_store}
+use Rattle.ips_run.specs.Calling.{calling_under}
+use Rattle.ips_words.specs.Words.{slot, status_of, flow_of, instance_of, context_of, entries_in, queue_in, state_of, spelled, all_spelled, head_spelled, readable, state_in, entry_words, channel_words, put_slot, put_channel}
 use Rattle.ips_words.specs.Words as words
-use Rattle.endpoint.specs.Lent.{Lent, lent, worldIn, wordsCalledUnder, afterInUnder}
+use Rattle.endpoint.specs.Lent.{Lent, lent, world_in, words_called_under, after_in_under}
 use Rattle.handful.specs.declared.HandfulAnswer.{HandfulAnswer}
-use Rattle.handful.specs.Handful.{Handful, cut, leftBy, sum_of, isHandful, handfulAnswer, stands_for, answersAfter, HandedIn}
+use Rattle.handful.specs.Handful.{Handful, cut, left_by, sum_of, is_handful, handful_answer, stands_for, answers_after, HandedIn}
 
 -- words for one plain channel, 0, fresh, with a store of 1,500 bytes
 abbrev fresh : Lent
@@ -45,18 +45,18 @@ abbrev before : List ℕ
 before = 77 ∷ 77 ∷ 77 ∷ 77 ∷ 77 ∷ []
 
 -- the answer; each packet's own; the words of channel 0 that say its latest time, how many wait, and length and expiry of each; the memory
-computed : (handfulAnswer five 5 (worldIn fresh) ≡ HandfulAnswer.Offered) × (answersAfter five fresh before ≡ 0 ∷ 13 ∷ 12 ∷ 16 ∷ 0 ∷ [])
-    × (take 6 (drop 22 (leftBy 100 (stands_for five 5 (worldIn fresh)) fresh).words) ≡ 100 ∷ 2 ∷ 40 ∷ 200 ∷ 40 ∷ 101 ∷ [])
-    × ((leftBy 100 (stands_for five 5 (worldIn fresh)) fresh).memory ≡ packet 1 ++ (packet 5 ++ replicate 1420 0))
-unfolding stateFitsUnder headFits namesFit channelsFitUnder allFitUnder channelFitsUnder ids distinct wellFormedUnder allWithinUnder waiting total memoryFits sizes stateIn readable headSpelled all_spelled spelled state_of tabulate words.channelIn slot statusOf flow_of instanceOf context_of queueIn entriesIn lasting joined isFull stores.cut packetsOf entry_of listed queueOf store_of isIpv6 numberFrom offerAt conditionOf withCondition channelAfter storeAfter channelAt withChannel indexOf start_of storeAt withStore callingUnder entryWords channelWords putSlot putChannel wordsCalledUnder afterInUnder cut sum_of isHandful
+computed : (handful_answer five 5 (world_in fresh) ≡ HandfulAnswer.Offered) × (answers_after five fresh before ≡ 0 ∷ 13 ∷ 12 ∷ 16 ∷ 0 ∷ [])
+    × (take 6 (drop 22 (left_by 100 (stands_for five 5 (world_in fresh)) fresh).words) ≡ 100 ∷ 2 ∷ 40 ∷ 200 ∷ 40 ∷ 101 ∷ [])
+    × ((left_by 100 (stands_for five 5 (world_in fresh)) fresh).memory ≡ packet 1 ++ (packet 5 ++ replicate 1420 0))
+unfolding state_fits_under head_fits names_fit channels_fit_under all_fit_under channel_fits_under ids distinct well_formed_under all_within_under waiting total memory_fits sizes state_in readable head_spelled all_spelled spelled state_of tabulate words.channel_in slot status_of flow_of instance_of context_of queue_in entries_in lasting joined is_full stores.cut packets_of entry_of listed queue_of store_of is_ipv6 number_from offer_at condition_of with_condition channel_after store_after channel_at with_channel indexOf start_of store_at with_store calling_under entry_words channel_words put_slot put_channel words_called_under after_in_under cut sum_of is_handful
 computed = (refl, refl, refl, refl)
 
-pub five-handed : {x : HandfulAnswer} {l : Lent} {answers : List ℕ} → HandedIn five fresh before x l answers
+pub five_handed : {x : HandfulAnswer} {l : Lent} {answers : List ℕ} → HandedIn five fresh before x l answers
     → (x ≡ HandfulAnswer.Offered) × (answers ≡ 0 ∷ 13 ∷ 12 ∷ 16 ∷ 0 ∷ []) × (take 6 (drop 22 l.words) ≡ 100 ∷ 2 ∷ 40 ∷ 200 ∷ 40 ∷ 101 ∷ [])
     × (l.memory ≡ packet 1 ++ (packet 5 ++ replicate 1420 0))
-five-handed h = (
-  h.answer-is ∙ computed.0,
-  h.answers-are ∙ computed.1,
+five_handed h = (
+  h.answer_is ∙ computed.0,
+  h.answers_are ∙ computed.1,
   ap (λ (m : Lent). take 6 (drop 22 m.words)) h.lent_is ∙ computed.2,
   ap (λ (m : Lent). m.memory) h.lent_is ∙ computed.3,
 )

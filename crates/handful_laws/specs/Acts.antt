@@ -1,13 +1,13 @@
 -- Demand 3's "any sequence of calls, .. refused ones among them, each taking the state and the lent memory as the one before left them", with handfuls among the calls.
 use Rattle.std.specs.Prelude.{ℕ, List, [], ◌∷◌, ◌++◌, map}
 use Rattle.ips_run.specs.Run.{Call}
-use Rattle.ips_run.specs.Demand.{bytesIn}
+use Rattle.ips_run.specs.Demand.{bytes_in}
 use Rattle.ips_calls.specs.Replies.{EndpointReply}
 use Rattle.endpoint.specs.Lent.{Lent}
 use Rattle.endpoint.specs.Calls.{PerformedIn}
 use Rattle.handful.specs.declared.HandfulAnswer.{HandfulAnswer}
 use Rattle.handful.specs.Handful.{Handful, HandedIn}
-use Rattle.handful_laws.specs.Plain.{offersIn, saidBy}
+use Rattle.handful_laws.specs.Plain.{offers_in, said_by}
 
 -- a call of document 01, or a handful with the answers lent for it
 pub data Act : Type 0 where
@@ -28,29 +28,29 @@ pub data RanActs : Lent → List Act → List ActReply → Lent → Type 0 where
       → HandedIn h l answers x l' answers' → RanActs l' acts xs last → RanActs l (several h answers ∷ acts) (each x answers' ∷ xs) last
 
 -- ---- the calls that acts stand for: a handful for its offers in their order, and refused, "with nothing taken", for none
-abbrev pub callsBy : Act → ActReply → List Call
-callsBy (single c) x = c ∷ []
-callsBy (several h answers) (one x) = []
-callsBy (several h answers) (each HandfulAnswer.Offered answers') = offersIn h
-callsBy (several h answers) (each (HandfulAnswer.Refused refusal) answers') = []
+abbrev pub calls_by : Act → ActReply → List Call
+calls_by (single c) x = c ∷ []
+calls_by (several h answers) (one x) = []
+calls_by (several h answers) (each HandfulAnswer.Offered answers') = offers_in h
+calls_by (several h answers) (each (HandfulAnswer.Refused refusal) answers') = []
 
 abbrev pub calls_of : List Act → List ActReply → List Call
 calls_of [] xs = []
 calls_of (act ∷ acts) [] = []
-calls_of (act ∷ acts) (x ∷ xs) = callsBy act x ++ calls_of acts xs
+calls_of (act ∷ acts) (x ∷ xs) = calls_by act x ++ calls_of acts xs
 
 -- ---- the replies to those calls: of a handful what each byte says
-abbrev pub repliesBy : ActReply → List EndpointReply
-repliesBy (one x) = x ∷ []
-repliesBy (each HandfulAnswer.Offered answers') = map saidBy answers'
-repliesBy (each (HandfulAnswer.Refused refusal) answers') = []
+abbrev pub replies_by : ActReply → List EndpointReply
+replies_by (one x) = x ∷ []
+replies_by (each HandfulAnswer.Offered answers') = map said_by answers'
+replies_by (each (HandfulAnswer.Refused refusal) answers') = []
 
-abbrev pub repliesIn : List ActReply → List EndpointReply
-repliesIn [] = []
-repliesIn (x ∷ xs) = repliesBy x ++ repliesIn xs
+abbrev pub replies_in : List ActReply → List EndpointReply
+replies_in [] = []
+replies_in (x ∷ xs) = replies_by x ++ replies_in xs
 
 -- ---- what is called: a datagram of the radio is made of bytes; of a handful nothing is asked
 abbrev pub BytesInActs : List Act → Type 0
 BytesInActs [] = Unit {0}
-BytesInActs (single c ∷ acts) = bytesIn c × BytesInActs acts
+BytesInActs (single c ∷ acts) = bytes_in c × BytesInActs acts
 BytesInActs (several h answers ∷ acts) = BytesInActs acts

@@ -5,10 +5,10 @@ use Rattle.facts.specs.Tables.{tabulate}
 use Rattle.ips_channel_rules.specs.Rules.{offer}
 use Rattle.ips_channel_calls.specs.declared.offering.OfferAnswer.{OfferAnswer}
 use Rattle.ips_channel_calls.specs.Calls.{offered}
-use Rattle.ips_state.specs.Memory.{worldFits}
+use Rattle.ips_state.specs.Memory.{world_fits}
 use Rattle.ips_run.specs.Run.{Call, on}
-use Rattle.ips_calls.specs.Replies.{EndpointReply, ofChannel}
-use Rattle.endpoint.specs.Lent.{Lent, worldIn}
+use Rattle.ips_calls.specs.Replies.{EndpointReply, of_channel}
+use Rattle.endpoint.specs.Lent.{Lent, world_in}
 use Rattle.handful.specs.declared.HandfulAnswer.{HandfulAnswer}
 use Rattle.handful.specs.Handful.{Handful, Offer}
 
@@ -19,16 +19,16 @@ abbrev pub summed : List ℕ → ℕ
 summed lengths = foldr (λ (n rest : ℕ). n + rest) 0 lengths
 
 -- the packet at an index: behind all those before it, as many bytes as its length says
-abbrev pub packetAt : Handful → ℕ → List ℕ
-packetAt h i = take (get_or h.lengths i 0) (drop (summed (take i h.lengths)) h.packets)
+abbrev pub packet_at : Handful → ℕ → List ℕ
+packet_at h i = take (get_or h.lengths i 0) (drop (summed (take i h.lengths)) h.packets)
 
 -- "with their channels and expiries, one time for all": the call that it stands for
 abbrev pub call_at : Handful → ℕ → Call
-call_at h i = on (get_or h.channels i 0) (offer (record { bytes = packetAt h i; expiry = get_or h.expiries i 0 }) h.time)
+call_at h i = on (get_or h.channels i 0) (offer (record { bytes = packet_at h i; expiry = get_or h.expiries i 0 }) h.time)
 
 -- and all of them, in their order
-abbrev pub offersIn : Handful → List Call
-offersIn h = tabulate (length h.channels) (call_at h)
+abbrev pub offers_in : Handful → List Call
+offers_in h = tabulate (length h.channels) (call_at h)
 
 -- some packets joined again
 abbrev pub rejoined : List Offer → List ℕ
@@ -36,34 +36,34 @@ rejoined offers = foldr (λ (o : Offer) (rest : List ℕ). o.packet.bytes ++ res
 
 -- ---- "an answer for each": 0, or a refusal's number; the numbers that an offer is refused by are 12 to 17, and 19
 pub data Said : ℕ → OfferAnswer → Type 0 where
-  says-taken : Said 0 OfferAnswer.Taken
-  says-number : (n : ℕ) → 12 ≤ n → n ≤ 17 → Said n (OfferAnswer.Refused (record { number = n; place = 0 }))
-  says-nineteen : Said 19 (OfferAnswer.Refused (record { number = 19; place = 0 }))
+  says_taken : Said 0 OfferAnswer.Taken
+  says_number : (n : ℕ) → 12 ≤ n → n ≤ 17 → Said n (OfferAnswer.Refused (record { number = n; place = 0 }))
+  says_nineteen : Said 19 (OfferAnswer.Refused (record { number = 19; place = 0 }))
 
 -- so a byte says a single offer's reply
-abbrev pub saidBy : ℕ → EndpointReply
-saidBy zero = ofChannel (offered OfferAnswer.Taken)
-saidBy (suc n) = ofChannel (offered (OfferAnswer.Refused (record { number = suc n; place = 0 })))
+abbrev pub said_by : ℕ → EndpointReply
+said_by zero = of_channel (offered OfferAnswer.Taken)
+said_by (suc n) = of_channel (offered (OfferAnswer.Refused (record { number = suc n; place = 0 })))
 
 -- ---- "24 for more than 32, for lists (answers too) of unequal count, or for lengths whose sum isn't the buffer's length"
 pub data Faulty (h : Handful) (answers : ℕ) : Type 0 where
-  more-than-32 : 32 < length h.channels → Faulty h answers
-  expiries-differ : (length h.expiries ≡ length h.channels → ⊥) → Faulty h answers
+  more_than_32 : 32 < length h.channels → Faulty h answers
+  expiries_differ : (length h.expiries ≡ length h.channels → ⊥) → Faulty h answers
   lengths_differ : (length h.lengths ≡ length h.channels → ⊥) → Faulty h answers
-  answers-differ : (answers ≡ length h.channels → ⊥) → Faulty h answers
-  sum-differs : (summed h.lengths ≡ length h.packets → ⊥) → Faulty h answers
+  answers_differ : (answers ≡ length h.channels → ⊥) → Faulty h answers
+  sum_differs : (summed h.lengths ≡ length h.packets → ⊥) → Faulty h answers
 
 -- where there is no such fault
 pub record Proper (h : Handful) (answers : ℕ) : Type 0 where
   pub few : length h.channels ≤ 32
-  pub expiries-count : length h.expiries ≡ length h.channels
-  pub lengths-count : length h.lengths ≡ length h.channels
-  pub answers-count : answers ≡ length h.channels
+  pub expiries_count : length h.expiries ≡ length h.channels
+  pub lengths_count : length h.lengths ≡ length h.channels
+  pub answers_count : answers ≡ length h.channels
   pub whole : summed h.lengths ≡ length h.packets
 
 -- "24 .., right after 19": each answer is given exactly when, and there is no other
 pub record HandedExactly (h : Handful) (l : Lent) (answers : ℕ) (x : HandfulAnswer) : Type 0 where
-  pub nineteen : (x ≡ HandfulAnswer.Refused (record { number = 19; place = 0 })) ↔ (worldFits (worldIn l) ≡ false)
-  pub twenty-four : (x ≡ HandfulAnswer.Refused (record { number = 24; place = 0 })) ↔ ((worldFits (worldIn l) ≡ true) × Faulty h answers)
-  pub otherwise : (x ≡ HandfulAnswer.Offered) ↔ ((worldFits (worldIn l) ≡ true) × (Faulty h answers → ⊥))
+  pub nineteen : (x ≡ HandfulAnswer.Refused (record { number = 19; place = 0 })) ↔ (world_fits (world_in l) ≡ false)
+  pub twenty_four : (x ≡ HandfulAnswer.Refused (record { number = 24; place = 0 })) ↔ ((world_fits (world_in l) ≡ true) × Faulty h answers)
+  pub otherwise : (x ≡ HandfulAnswer.Offered) ↔ ((world_fits (world_in l) ≡ true) × (Faulty h answers → ⊥))
   pub no_other : (x ≡ HandfulAnswer.Refused (record { number = 19; place = 0 })) ⊎ ((x ≡ HandfulAnswer.Refused (record { number = 24; place = 0 })) ⊎ (x ≡ HandfulAnswer.Offered))

@@ -10,9 +10,9 @@ use Rattle.ips_calls.specs.Calls.{Performed}
 use Rattle.ips_calls.specs.Start.{Started}
 
 -- any call: the reply has the bytes of the output, the world the state and the memory
-pub calls-coincide : {c : Call} {w : World} {x x' : EndpointReply} {w' w'' : World} → Performed c w x w' → Performed c w x' w'' → (x ≡ x') × (w' ≡ w'')
-calls-coincide h k = (h.reply-is ∙ sym k.reply-is, h.world_is ∙ sym k.world_is)
+pub calls_coincide : {c : Call} {w : World} {x x' : EndpointReply} {w' w'' : World} → Performed c w x w' → Performed c w x' w'' → (x ≡ x') × (w' ≡ w'')
+calls_coincide h k = (h.reply_is ∙ sym k.reply_is, h.world_is ∙ sym k.world_is)
 
-pub starts-coincide : {k : Configuration} {room : Bool} {w : World} {answer answer' : StartAnswer} {w' w'' : World} → Started k room w answer w' → Started k room w answer' w''
+pub starts_coincide : {k : Configuration} {room : Bool} {w : World} {answer answer' : StartAnswer} {w' w'' : World} → Started k room w answer w' → Started k room w answer' w''
     → (answer ≡ answer') × (w' ≡ w'')
-starts-coincide h k = (h.answer-is ∙ sym k.answer-is, h.world_is ∙ sym k.world_is)
+starts_coincide h k = (h.answer_is ∙ sym k.answer_is, h.world_is ∙ sym k.world_is)

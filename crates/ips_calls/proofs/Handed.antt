@@ -8,19 +8,19 @@ use Rattle.quantity.specs.declared.refusal.Refusal.{Refusal}
 use Rattle.writer.specs.declared.answer.WriteAnswer.{WriteAnswer}
 use Rattle.ips_channel_calls.specs.declared.asking.NextAnswer.{NextAnswer}
 use Rattle.ips_channel_calls.specs.Calls.{asked}
-use Rattle.ips_calls.specs.Replies.{ofChannel, ofQuery, handedOut}
+use Rattle.ips_calls.specs.Replies.{of_channel, of_query, handed_out}
 
-pub sent-handed : (count : ByteCount) (out : List ℕ) → handedOut (ofChannel (asked (NextAnswer.Sent count) out)) ≡ take count.0 out ∷ []
-sent-handed count out = refl
+pub sent_handed : (count : ByteCount) (out : List ℕ) → handed_out (of_channel (asked (NextAnswer.Sent count) out)) ≡ take count.0 out ∷ []
+sent_handed count out = refl
 
-pub query-handed : (count : ByteCount) (out : List ℕ) → handedOut (ofQuery (WriteAnswer.Wrote count) out) ≡ take count.0 out ∷ []
-query-handed count out = refl
+pub query_handed : (count : ByteCount) (out : List ℕ) → handed_out (of_query (WriteAnswer.Wrote count) out) ≡ take count.0 out ∷ []
+query_handed count out = refl
 
 -- a packet that isn't sent stays, whatever the output holds
-pub nothing-handed : (out : List ℕ)
-    → (handedOut (ofChannel (asked NextAnswer.NothingWaiting out)) ≡ [])
-    × ((handedOut (ofChannel (asked NextAnswer.NotOperational out)) ≡ []) × (handedOut (ofChannel (asked NextAnswer.WindowShut out)) ≡ []))
-nothing-handed out = (refl, (refl, refl))
+pub nothing_handed : (out : List ℕ)
+    → (handed_out (of_channel (asked NextAnswer.NothingWaiting out)) ≡ [])
+    × ((handed_out (of_channel (asked NextAnswer.NotOperational out)) ≡ []) × (handed_out (of_channel (asked NextAnswer.WindowShut out)) ≡ []))
+nothing_handed out = (refl, (refl, refl))
 
-pub refused-handed : (refusal : Refusal) (out : List ℕ) → (handedOut (ofChannel (asked (NextAnswer.Refused refusal) out)) ≡ []) × (handedOut (ofQuery (WriteAnswer.Refused refusal) out) ≡ [])
-refused-handed refusal out = (refl, refl)
+pub refused_handed : (refusal : Refusal) (out : List ℕ) → (handed_out (of_channel (asked (NextAnswer.Refused refusal) out)) ≡ []) × (handed_out (of_query (WriteAnswer.Refused refusal) out) ≡ [])
+refused_handed refusal out = (refl, refl)

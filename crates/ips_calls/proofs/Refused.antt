@@ -7,146 +7,146 @@ use lib.ListN.{length}
 use Rattle.facts.proofs.Tests.{clash}
 use Rattle.quantity.specs.declared.refusal.Refusal.{Refusal}
 use Rattle.meaning.specs.declared.message.End.TheVariants as ends
-use Rattle.reader.specs.Readings.{Verdict, readControl, readData, planeOf}
+use Rattle.reader.specs.Readings.{Verdict, read_control, read_data, plane_of}
 use Rattle.reader.specs.declared.answer.PlaneAnswer.{PlaneAnswer}
 use Rattle.writer.specs.declared.answer.WriteAnswer.{WriteAnswer}
-use Rattle.writer.specs.Written.{noRoom}
+use Rattle.writer.specs.Written.{no_room_of}
 use Rattle.store.specs.Packets.{Packet}
 use Rattle.ips_channel_rules.specs.Rules.{ChannelCall, offer, next, withdraw, Taken, taken, Tried, nothingWaiting, notOperational, windowShut, sent, Emptied, emptied, Answer, refused, answered, Terms}
 use Rattle.ips_channel_calls.specs.declared.offering.OfferAnswer.{OfferAnswer}
 use Rattle.ips_channel_calls.specs.declared.asking.NextAnswer.{NextAnswer}
-use Rattle.ips_channel_calls.specs.Calls.{offerAnswer, nextAnswer, withdrawAnswer, outputAfter, Reply, offered, asked, withdrawn}
+use Rattle.ips_channel_calls.specs.Calls.{offer_answer, next_answer, withdraw_answer, output_after, Reply, offered, asked, withdrawn}
 use Rattle.pacer.specs.declared.PaceAnswer.{PaceAnswer}
-use Rattle.pacer.specs.Pacing.{isEarlier, isDue, isSilent, answer_of}
+use Rattle.pacer.specs.Pacing.{is_earlier, is_due, is_silent, answer_of}
 use Rattle.ips_state.specs.State.{Configuration, State}
-use Rattle.ips_state.specs.Limits.{stateFits, waitsFit}
-use Rattle.ips_state.specs.Memory.{World, indexIn}
-use Rattle.ips_run.specs.Calling.{termsIn, calling}
-use Rattle.ips_run.specs.Run.{on, pace, query, afterUnder}
-use Rattle.ips_run.proofs.Exact.{refused-world, pace-late}
-use Rattle.ips_radio.specs.Heard.{dueOf}
+use Rattle.ips_state.specs.Limits.{state_fits, waits_fit}
+use Rattle.ips_state.specs.Memory.{World, index_in}
+use Rattle.ips_run.specs.Calling.{terms_in, calling}
+use Rattle.ips_run.specs.Run.{on, pace, query, after_under}
+use Rattle.ips_run.proofs.Exact.{refused_world, pace_late}
+use Rattle.ips_radio.specs.Heard.{due_of}
 use Rattle.ips_channel_calls.specs.declared.offering.WithdrawAnswer.{WithdrawAnswer}
 use Rattle.ips_radio.specs.declared.RadioAnswer.{RadioAnswer}
 use Rattle.ips_state.specs.declared.StartAnswer.{StartAnswer}
-use Rattle.ips_calls.specs.Radio.{AfterRadio, byVerdict, heardControl, passedOn, handedInUnder, handedIn}
-use Rattle.ips_calls.specs.Pace.{paceAnswerUnder, paceAnswer}
-use Rattle.ips_calls.specs.Query.{queryBytes}
-use Rattle.ips_calls.specs.Replies.{ofChannel, ofPace, ofQuery}
+use Rattle.ips_calls.specs.Radio.{AfterRadio, by_verdict, heard_control, passed_on, handed_in_under, handed_in}
+use Rattle.ips_calls.specs.Pace.{pace_answer_under, pace_answer}
+use Rattle.ips_calls.specs.Query.{query_bytes}
+use Rattle.ips_calls.specs.Replies.{of_channel, of_pace, of_query}
 use Rattle.ips_calls.specs.Calls.{Performed}
-use Rattle.ips_calls.specs.Start.{startFits, Started}
-use Rattle.ips_calls.proofs.Querying.{query-gives}
+use Rattle.ips_calls.specs.Start.{start_fits_of, Started}
+use Rattle.ips_calls.proofs.Querying.{query_gives}
 
 -- ---- the answers told: only a refusal of the rules is told as one
-offer-told : (a : Answer Taken) (refusal : Refusal) → offerAnswer a ≡ OfferAnswer.Refused refusal → a ≡ refused refusal.number
-offer-told (refused number) refusal e = let n : number ≡ refusal.number = cc in rw n
-offer-told (answered taken) refusal e = clash (cc)
+offer_told : (a : Answer Taken) (refusal : Refusal) → offer_answer a ≡ OfferAnswer.Refused refusal → a ≡ refused refusal.number
+offer_told (refused number) refusal e = let n : number ≡ refusal.number = cc in rw n
+offer_told (answered taken) refusal e = clash (cc)
 
-next-told : (k : Terms) (a : Answer Tried) (refusal : Refusal) → nextAnswer k a ≡ NextAnswer.Refused refusal → a ≡ refused refusal.number
-next-told k (refused number) refusal e = let n : number ≡ refusal.number = cc in rw n
-next-told k (answered nothingWaiting) refusal e = clash (cc)
-next-told k (answered notOperational) refusal e = clash (cc)
-next-told k (answered windowShut) refusal e = clash (cc)
-next-told k (answered (sent packet sequence)) refusal e = clash (cc)
+next_told : (k : Terms) (a : Answer Tried) (refusal : Refusal) → next_answer k a ≡ NextAnswer.Refused refusal → a ≡ refused refusal.number
+next_told k (refused number) refusal e = let n : number ≡ refusal.number = cc in rw n
+next_told k (answered nothingWaiting) refusal e = clash (cc)
+next_told k (answered notOperational) refusal e = clash (cc)
+next_told k (answered windowShut) refusal e = clash (cc)
+next_told k (answered (sent packet sequence)) refusal e = clash (cc)
 
-withdraw-told : (a : Answer Emptied) (refusal : Refusal) → withdrawAnswer a ≡ WithdrawAnswer.Refused refusal → a ≡ refused refusal.number
-withdraw-told (refused number) refusal e = let n : number ≡ refusal.number = cc in rw n
-withdraw-told (answered emptied) refusal e = clash (cc)
+withdraw_told : (a : Answer Emptied) (refusal : Refusal) → withdraw_answer a ≡ WithdrawAnswer.Refused refusal → a ≡ refused refusal.number
+withdraw_told (refused number) refusal e = let n : number ≡ refusal.number = cc in rw n
+withdraw_told (answered emptied) refusal e = clash (cc)
 
-pub one-reply : {x y : Reply} → ofChannel x ≡ ofChannel y → x ≡ y
-one-reply e = cc
+pub one_reply : {x y : Reply} → of_channel x ≡ of_channel y → x ≡ y
+one_reply e = cc
 
 module _ (w : World) (id : ℕ) (refusal : Refusal) (w' : World) where
   -- any call that the rules refuse
-  refused-same : (c : ChannelCall) (x : Reply) → Performed (on id c) w (ofChannel x) w' → (calling id c w).answer ≡ refused refusal.number → w' ≡ w
-  unfolding afterUnder
-  refused-same c x h e = h.world_is ∙ refused-world id c w refusal.number e
+  refused_same : (c : ChannelCall) (x : Reply) → Performed (on id c) w (of_channel x) w' → (calling id c w).answer ≡ refused refusal.number → w' ≡ w
+  unfolding after_under
+  refused_same c x h e = h.world_is ∙ refused_world id c w refusal.number e
 
-  pub offer-refused-same : (p : Packet) (time : ℕ) (answer : OfferAnswer) → Performed (on id (offer p time)) w (ofChannel (offered answer)) w' → answer ≡ OfferAnswer.Refused refusal → w' ≡ w
-  offer-refused-same p time answer h e =
-      let is : offerAnswer (calling id (offer p time) w).answer ≡ OfferAnswer.Refused refusal = cc (one-reply h.reply-is) in
-      refused-same (offer p time) (offered answer) h (offer-told _ refusal is)
+  pub offer_refused_same : (p : Packet) (time : ℕ) (answer : OfferAnswer) → Performed (on id (offer p time)) w (of_channel (offered answer)) w' → answer ≡ OfferAnswer.Refused refusal → w' ≡ w
+  offer_refused_same p time answer h e =
+      let is : offer_answer (calling id (offer p time) w).answer ≡ OfferAnswer.Refused refusal = cc (one_reply h.reply_is) in
+      refused_same (offer p time) (offered answer) h (offer_told _ refusal is)
 
-  pub next-refused-same : (time : ℕ) (out out' : List ℕ) (answer : NextAnswer) → Performed (on id (next time out)) w (ofChannel (asked answer out')) w' → answer ≡ NextAnswer.Refused refusal
+  pub next_refused_same : (time : ℕ) (out out' : List ℕ) (answer : NextAnswer) → Performed (on id (next time out)) w (of_channel (asked answer out')) w' → answer ≡ NextAnswer.Refused refusal
       → (w' ≡ w) × (out' ≡ out)
-  next-refused-same time out out' answer h e =
-      let k = termsIn w (indexIn w id) in
+  next_refused_same time out out' answer h e =
+      let k = terms_in w (index_in w id) in
       let a = (calling id (next time out) w).answer in
-      let is : nextAnswer k a ≡ NextAnswer.Refused refusal = cc (one-reply h.reply-is) in
-      let told = next-told k a refusal is in
-      let bytes : out' ≡ outputAfter k a out = cc (one-reply h.reply-is) in
-      (refused-same (next time out) (asked answer out') h told, bytes ∙ rw told)
+      let is : next_answer k a ≡ NextAnswer.Refused refusal = cc (one_reply h.reply_is) in
+      let told = next_told k a refusal is in
+      let bytes : out' ≡ output_after k a out = cc (one_reply h.reply_is) in
+      (refused_same (next time out) (asked answer out') h told, bytes ∙ rw told)
 
-  pub withdraw-refused-same : (answer : WithdrawAnswer) → Performed (on id withdraw) w (ofChannel (withdrawn answer)) w' → answer ≡ WithdrawAnswer.Refused refusal → w' ≡ w
-  withdraw-refused-same answer h e =
-      let is : withdrawAnswer (calling id withdraw w).answer ≡ WithdrawAnswer.Refused refusal = cc (one-reply h.reply-is) in
-      refused-same withdraw (withdrawn answer) h (withdraw-told _ refusal is)
+  pub withdraw_refused_same : (answer : WithdrawAnswer) → Performed (on id withdraw) w (of_channel (withdrawn answer)) w' → answer ≡ WithdrawAnswer.Refused refusal → w' ≡ w
+  withdraw_refused_same answer h e =
+      let is : withdraw_answer (calling id withdraw w).answer ≡ WithdrawAnswer.Refused refusal = cc (one_reply h.reply_is) in
+      refused_same withdraw (withdrawn answer) h (withdraw_told _ refusal is)
 
 -- ---- a radio message
 module _ (s : State) where
-  control-same : (verdict : Verdict) (accepted : AfterRadio) (refusal : Refusal) → (accepted.answer ≡ RadioAnswer.Refused refusal → ⊥)
-      → (byVerdict verdict s accepted).answer ≡ RadioAnswer.Refused refusal → (byVerdict verdict s accepted).state ≡ s
-  control-same Verdict.Accepted accepted refusal other e = absurd (other e)
-  control-same Verdict.OtherPlane accepted refusal other e = refl
-  control-same (Verdict.Refused why) accepted refusal other e = refl
+  control_same : (verdict : Verdict) (accepted : AfterRadio) (refusal : Refusal) → (accepted.answer ≡ RadioAnswer.Refused refusal → ⊥)
+      → (by_verdict verdict s accepted).answer ≡ RadioAnswer.Refused refusal → (by_verdict verdict s accepted).state ≡ s
+  control_same Verdict.Accepted accepted refusal other e = absurd (other e)
+  control_same Verdict.OtherPlane accepted refusal other e = refl
+  control_same (Verdict.Refused why) accepted refusal other e = refl
 
-  pub not-refused : (due : Bool) (refusal : Refusal) → cond due RadioAnswer.Due RadioAnswer.Accepted ≡ RadioAnswer.Refused refusal → ⊥
-  not-refused true refusal e = clash (cc)
-  not-refused false refusal e = clash (cc)
+  pub not_refused : (due : Bool) (refusal : Refusal) → cond due RadioAnswer.Due RadioAnswer.Accepted ≡ RadioAnswer.Refused refusal → ⊥
+  not_refused true refusal e = clash (cc)
+  not_refused false refusal e = clash (cc)
 
   module _ (time : ℕ) (datagram : List ℕ) where
-    pub radio-refused-same : (refusal : Refusal) → (handedIn time s datagram).answer ≡ RadioAnswer.Refused refusal → (handedIn time s datagram).state ≡ s
-    unfolding handedInUnder
-    radio-refused-same refusal e = go (stateFits s) refl (isEarlier time s.pacer) refl (planeOf datagram) refl
+    pub radio_refused_same : (refusal : Refusal) → (handed_in time s datagram).answer ≡ RadioAnswer.Refused refusal → (handed_in time s datagram).state ≡ s
+    unfolding handed_in_under
+    radio_refused_same refusal e = go (state_fits s) refl (is_earlier time s.pacer) refl (plane_of datagram) refl
       where
-        go : (fits : Bool) → stateFits s ≡ fits → (early : Bool) → isEarlier time s.pacer ≡ early → (plane : PlaneAnswer) → planeOf datagram ≡ plane
-            → (handedIn time s datagram).state ≡ s
+        go : (fits : Bool) → state_fits s ≡ fits → (early : Bool) → is_earlier time s.pacer ≡ early → (plane : PlaneAnswer) → plane_of datagram ≡ plane
+            → (handed_in time s datagram).state ≡ s
         go false f early l plane p = rw f
         go true f true l plane p = rw (f, l)
         go true f false l PlaneAnswer.Control p =
-            let reading = readControl ends.Radio s.datalink.id datagram in
-            rw (f, l, p) (control-same reading.verdict (heardControl time reading.message s) refusal (not-refused (dueOf s.context reading.message.context) refusal) (rw (f, l, p) at e))
+            let reading = read_control ends.Radio s.datalink.id datagram in
+            rw (f, l, p) (control_same reading.verdict (heard_control time reading.message s) refusal (not_refused (due_of s.context reading.message.context) refusal) (rw (f, l, p) at e))
         go true f false l PlaneAnswer.Data p =
-            let reading = readData ends.Radio s.datalink.id datagram in
-            rw (f, l, p) (control-same reading.verdict (passedOn time s) refusal (λ other. clash (cc)) (rw (f, l, p) at e))
+            let reading = read_data ends.Radio s.datalink.id datagram in
+            rw (f, l, p) (control_same reading.verdict (passed_on time s) refusal (λ other. clash (cc)) (rw (f, l, p) at e))
         go true f false l (PlaneAnswer.Refused why) p = rw (f, l, p)
 
 -- ---- the pacer asked
-pub answered-so : (due silent : Bool) (refusal : Refusal) → answer_of due silent ≡ PaceAnswer.Refused refusal → ⊥
-answered-so true true refusal e = clash (cc)
-answered-so true false refusal e = clash (cc)
-answered-so false true refusal e = clash (cc)
-answered-so false false refusal e = clash (cc)
+pub answered_so : (due silent : Bool) (refusal : Refusal) → answer_of due silent ≡ PaceAnswer.Refused refusal → ⊥
+answered_so true true refusal e = clash (cc)
+answered_so true false refusal e = clash (cc)
+answered_so false true refusal e = clash (cc)
+answered_so false false refusal e = clash (cc)
 
-pub pace-refused-same : (w : World) (time : ℕ) (answer : PaceAnswer) (w' : World) (refusal : Refusal) → Performed (pace time) w (ofPace answer) w' → answer ≡ PaceAnswer.Refused refusal
+pub pace_refused_same : (w : World) (time : ℕ) (answer : PaceAnswer) (w' : World) (refusal : Refusal) → Performed (pace time) w (of_pace answer) w' → answer ≡ PaceAnswer.Refused refusal
     → w' ≡ w
-unfolding paceAnswerUnder
-pace-refused-same w time answer w' refusal h e = go (stateFits w.state) refl (isEarlier time w.state.pacer) refl
+unfolding pace_answer_under
+pace_refused_same w time answer w' refusal h e = go (state_fits w.state) refl (is_earlier time w.state.pacer) refl
   where
-    answer-is : answer ≡ paceAnswer time w.state
-    answer-is = cc h.reply-is
+    answer_is : answer ≡ pace_answer time w.state
+    answer_is = cc h.reply_is
 
-    go : (fits : Bool) → stateFits w.state ≡ fits → (early : Bool) → isEarlier time w.state.pacer ≡ early → w' ≡ w
-    go false f early l = h.world_is ∙ pace-late w time (rw f)
-    go true f true l = h.world_is ∙ pace-late w time (rw (f, l))
+    go : (fits : Bool) → state_fits w.state ≡ fits → (early : Bool) → is_earlier time w.state.pacer ≡ early → w' ≡ w
+    go false f early l = h.world_is ∙ pace_late w time (rw f)
+    go true f true l = h.world_is ∙ pace_late w time (rw (f, l))
     go true f false l =
-        absurd (answered-so (isDue time w.state.pacer) (isSilent time w.state.pacer) refusal (sym (rw (f, l) at answer-is) ∙ e))
+        absurd (answered_so (is_due time w.state.pacer) (is_silent time w.state.pacer) refusal (sym (rw (f, l) at answer_is) ∙ e))
 
 -- ---- a start, and a query
-pub start-refused-same : (k : Configuration) (room : Bool) (w : World) (answer : StartAnswer) (w' : World) (refusal : Refusal) → Started k room w answer w'
+pub start_refused_same : (k : Configuration) (room : Bool) (w : World) (answer : StartAnswer) (w' : World) (refusal : Refusal) → Started k room w answer w'
     → answer ≡ StartAnswer.Refused refusal → w' ≡ w
-start-refused-same k room w answer w' refusal h e = go (startFits k room w.memory) refl (waitsFit k) refl
+start_refused_same k room w answer w' refusal h e = go (start_fits_of k room w.memory) refl (waits_fit k) refl
   where
-    go : (fits : Bool) → startFits k room w.memory ≡ fits → (waits : Bool) → waitsFit k ≡ waits → w' ≡ w
-    go true f true l = let started : answer ≡ StartAnswer.Started = rw (f, l) at h.answer-is in clash (cc)
+    go : (fits : Bool) → start_fits_of k room w.memory ≡ fits → (waits : Bool) → waits_fit k ≡ waits → w' ≡ w
+    go true f true l = let started : answer ≡ StartAnswer.Started = rw (f, l) at h.answer_is in clash (cc)
     go true f false l = h.world_is ∙ rw (f, l)
     go false f waits l = h.world_is ∙ rw f
 
-pub query-refused-same : (w : World) (out : List ℕ) (r : WriteAnswer) (out' : List ℕ) (w' : World) (refusal : Refusal) → Performed (query out) w (ofQuery r out') w' → r ≡ WriteAnswer.Refused refusal
+pub query_refused_same : (w : World) (out : List ℕ) (r : WriteAnswer) (out' : List ℕ) (w' : World) (refusal : Refusal) → Performed (query out) w (of_query r out') w' → r ≡ WriteAnswer.Refused refusal
     → (w' ≡ w) × (out' ≡ out)
-unfolding afterUnder
-query-refused-same w out r out' w' refusal h e = (h.world_is, go (stateFits w.state) refl (noRoom (length (queryBytes w.state)) (length out)) refl)
+unfolding after_under
+query_refused_same w out r out' w' refusal h e = (h.world_is, go (state_fits w.state) refl (no_room_of (length (query_bytes w.state)) (length out)) refl)
   where
-    go : (fits : Bool) → stateFits w.state ≡ fits → (full : Bool) → noRoom (length (queryBytes w.state)) (length out) ≡ full → out' ≡ out
-    go false f full l = (query-gives h).1 ∙ rw f
-    go true f true l = (query-gives h).1 ∙ rw (f, l)
-    go true f false l = clash (cc (rw (f, l) at (query-gives h).0))
+    go : (fits : Bool) → state_fits w.state ≡ fits → (full : Bool) → no_room_of (length (query_bytes w.state)) (length out) ≡ full → out' ≡ out
+    go false f full l = (query_gives h).1 ∙ rw f
+    go true f true l = (query_gives h).1 ∙ rw (f, l)
+    go true f false l = clash (cc (rw (f, l) at (query_gives h).0))

@@ -3,7 +3,7 @@ use Rattle.std.specs.Prelude.{ℕ, List, ◌≡◌}
 use Rattle.ips_state.specs.State.{State}
 use Rattle.ips_state.specs.Memory.{World}
 use Rattle.ips_run.specs.Run.{Call, after}
-use Rattle.ips_calls.specs.Replies.{EndpointReply, replyOf}
+use Rattle.ips_calls.specs.Replies.{EndpointReply, reply_of}
 
 -- a state, and the memory that is lent with it
 abbrev pub lending : State → List ℕ → World
@@ -11,7 +11,7 @@ lending s memory = record { state = s; memory = memory }
 
 -- A CALL AS IT SHOULD BE, on a state (the contract of the code, on words, is `PerformedIn` of `endpoint`)
 pub record Performed (c : Call) (w : World) (x : EndpointReply) (w' : World) : Type 0 where
-  pub reply-is : x ≡ replyOf c w
+  pub reply_is : x ≡ reply_of c w
   pub world_is : w' ≡ after c w
 
 -- a call that takes no memory leaves any

@@ -3,29 +3,29 @@ use Rattle.std.specs.Prelude.{ℕ, true, cond, List, length, get_or}
 use Rattle.quantity.specs.Limits.{Limits, CURRENT-LIMITS}
 use Rattle.quantity.specs.Refusals.{OUTSIDE-LIMITS}
 use Rattle.meaning.specs.declared.message.Sequence.{Sequence}
-use Rattle.meaning.specs.Cells.{noSequence}
+use Rattle.meaning.specs.Cells.{no_sequence}
 use Rattle.writer.specs.declared.answer.WriteAnswer.{WriteAnswer}
-use Rattle.writer.specs.Written.{controlWritten, answerTo, outAfter}
+use Rattle.writer.specs.Written.{control_written, answer_to, out_after}
 use Rattle.ips_state.specs.State.{State}
-use Rattle.ips_state.specs.Limits.{stateFitsUnder}
-use Rattle.ips_query.specs.Query.{queryOf}
+use Rattle.ips_state.specs.Limits.{state_fits_under}
+use Rattle.ips_query.specs.Query.{query_of}
 
-abbrev pub queryBytes : State → List ℕ
-queryBytes s = controlWritten (queryOf s)
+abbrev pub query_bytes : State → List ℕ
+query_bytes s = control_written (query_of s)
 
-abbrev pub queryAnswerUnder : Limits → State → List ℕ → WriteAnswer
-queryAnswerUnder limits s out =
-    cond (stateFitsUnder limits s) (answerTo true (queryBytes s) (length out)) (WriteAnswer.Refused (record { number = OUTSIDE-LIMITS; place = 0 }))
+abbrev pub query_answer_under : Limits → State → List ℕ → WriteAnswer
+query_answer_under limits s out =
+    cond (state_fits_under limits s) (answer_to true (query_bytes s) (length out)) (WriteAnswer.Refused (record { number = OUTSIDE-LIMITS; place = 0 }))
 
-abbrev pub queryOutUnder : Limits → State → List ℕ → List ℕ
-queryOutUnder limits s out = cond (stateFitsUnder limits s) (outAfter true (queryBytes s) out) out
+abbrev pub query_out_under : Limits → State → List ℕ → List ℕ
+query_out_under limits s out = cond (state_fits_under limits s) (out_after true (query_bytes s) out) out
 
-abbrev pub queryAnswer : State → List ℕ → WriteAnswer
-queryAnswer s out = queryAnswerUnder CURRENT-LIMITS s out
+abbrev pub query_answer : State → List ℕ → WriteAnswer
+query_answer s out = query_answer_under CURRENT-LIMITS s out
 
-abbrev pub queryOut : State → List ℕ → List ℕ
-queryOut s out = queryOutUnder CURRENT-LIMITS s out
+abbrev pub query_out : State → List ℕ → List ℕ
+query_out s out = query_out_under CURRENT-LIMITS s out
 
 -- the Flow Sequence that the query of a state states for a Channel ID
-abbrev pub statedFor : State → ℕ → Sequence
-statedFor s id = (get_or (queryOf s).sequences id noSequence).sequence
+abbrev pub stated_for : State → ℕ → Sequence
+stated_for s id = (get_or (query_of s).sequences id no_sequence).sequence

@@ -7,12 +7,12 @@ use Rattle.quantity.specs.Limits.{Limits, CURRENT-LIMITS}
 use Rattle.quantity.specs.Refusals.{OUTSIDE-LIMITS, EARLIER-PACE}
 use Rattle.meaning.specs.declared.message.End.TheVariants as ends
 use Rattle.meaning.specs.declared.message.Control.{Control}
-use Rattle.reader.specs.Readings.{Verdict, ControlReading, DataReading, readControl, readData, planeOf}
+use Rattle.reader.specs.Readings.{Verdict, ControlReading, DataReading, read_control, read_data, plane_of}
 use Rattle.reader.specs.declared.answer.PlaneAnswer.{PlaneAnswer}
-use Rattle.pacer.specs.Pacing.{isEarlier, heardAt, moved_to}
-use Rattle.ips_state.specs.State.{State, withPacer}
-use Rattle.ips_state.specs.Limits.{stateFitsUnder}
-use Rattle.ips_radio.specs.Heard.{heardBy, dueOf}
+use Rattle.pacer.specs.Pacing.{is_earlier, heard_at, moved_to}
+use Rattle.ips_state.specs.State.{State, with_pacer}
+use Rattle.ips_state.specs.Limits.{state_fits_under}
+use Rattle.ips_radio.specs.Heard.{heard_by, due_of}
 use Rattle.ips_radio.specs.declared.RadioAnswer.{RadioAnswer}
 
 -- what a radio message handed in comes to
@@ -20,54 +20,54 @@ pub record AfterRadio : Type 0 where
   pub answer : RadioAnswer
   pub state : State
 
-abbrev pub refusedHeard : Refusal → State → AfterRadio
-refusedHeard refusal s = record { answer = RadioAnswer.Refused refusal; state = s }
+abbrev pub refused_heard : Refusal → State → AfterRadio
+refused_heard refusal s = record { answer = RadioAnswer.Refused refusal; state = s }
 
 abbrev pub unchanged : State → AfterRadio
 unchanged s = record { answer = RadioAnswer.Accepted; state = s }
 
 -- "once accepted it moves that clock, a data message too, which changes nothing else"
-abbrev pub passedOn : (time : ℕ) → State → AfterRadio
-passedOn time s = record { answer = RadioAnswer.Accepted; state = withPacer s (moved_to time s.pacer) }
+abbrev pub passed_on : (time : ℕ) → State → AfterRadio
+passed_on time s = record { answer = RadioAnswer.Accepted; state = with_pacer s (moved_to time s.pacer) }
 
 -- "A mobility message is reported due when .."
-abbrev pub heardControl : (time : ℕ) → Control → State → AfterRadio
-heardControl time message s =
-    record { answer = cond (dueOf s.context message.context) RadioAnswer.Due RadioAnswer.Accepted; state = withPacer (heardBy message s) (heardAt time s.pacer) }
+abbrev pub heard_control : (time : ℕ) → Control → State → AfterRadio
+heard_control time message s =
+    record { answer = cond (due_of s.context message.context) RadioAnswer.Due RadioAnswer.Accepted; state = with_pacer (heard_by message s) (heard_at time s.pacer) }
 
 -- by the reader's verdict; it is asked for a message of its own plane only
-abbrev pub byVerdict : Verdict → State → AfterRadio → AfterRadio
-byVerdict Verdict.Accepted s accepted = accepted
-byVerdict Verdict.OtherPlane s accepted = unchanged s
-byVerdict (Verdict.Refused refusal) s accepted = refusedHeard refusal s
+abbrev pub by_verdict : Verdict → State → AfterRadio → AfterRadio
+by_verdict Verdict.Accepted s accepted = accepted
+by_verdict Verdict.OtherPlane s accepted = unchanged s
+by_verdict (Verdict.Refused refusal) s accepted = refused_heard refusal s
 
-abbrev pub controlHeard : (time : ℕ) → ControlReading → State → AfterRadio
-controlHeard time reading s = byVerdict reading.verdict s (heardControl time reading.message s)
+abbrev pub control_heard : (time : ℕ) → ControlReading → State → AfterRadio
+control_heard time reading s = by_verdict reading.verdict s (heard_control time reading.message s)
 
-abbrev pub dataHeard : (time : ℕ) → DataReading → State → AfterRadio
-dataHeard time reading s = byVerdict reading.verdict s (passedOn time s)
+abbrev pub data_heard : (time : ℕ) → DataReading → State → AfterRadio
+data_heard time reading s = by_verdict reading.verdict s (passed_on time s)
 
-abbrev pub byPlane : PlaneAnswer → State → (control data' : AfterRadio) → AfterRadio
-byPlane PlaneAnswer.Control s control data' = control
-byPlane PlaneAnswer.Data s control data' = data'
-byPlane (PlaneAnswer.Refused refusal) s control data' = refusedHeard refusal s
+abbrev pub by_plane : PlaneAnswer → State → (control data' : AfterRadio) → AfterRadio
+by_plane PlaneAnswer.Control s control data' = control
+by_plane PlaneAnswer.Data s control data' = data'
+by_plane (PlaneAnswer.Refused refusal) s control data' = refused_heard refusal s
 
 -- as for reading
-abbrev pub readAt : (time : ℕ) → State → List ℕ → AfterRadio
-readAt time s datagram =
-    byPlane (planeOf datagram) s (controlHeard time (readControl ends.Radio s.datalink.id datagram) s) (dataHeard time (readData ends.Radio s.datalink.id datagram) s)
+abbrev pub read_at : (time : ℕ) → State → List ℕ → AfterRadio
+read_at time s datagram =
+    by_plane (plane_of datagram) s (control_heard time (read_control ends.Radio s.datalink.id datagram) s) (data_heard time (read_data ends.Radio s.datalink.id datagram) s)
 
-unfoldable pub handedInUnder : Limits → (time : ℕ) → State → List ℕ → AfterRadio
-handedInUnder limits time s datagram =
-    cond (stateFitsUnder limits s)
-    (cond (isEarlier time s.pacer) (refusedHeard (record { number = EARLIER-PACE; place = 0 }) s) (readAt time s datagram))
-    (refusedHeard (record { number = OUTSIDE-LIMITS; place = 0 }) s)
+unfoldable pub handed_in_under : Limits → (time : ℕ) → State → List ℕ → AfterRadio
+handed_in_under limits time s datagram =
+    cond (state_fits_under limits s)
+    (cond (is_earlier time s.pacer) (refused_heard (record { number = EARLIER-PACE; place = 0 }) s) (read_at time s datagram))
+    (refused_heard (record { number = OUTSIDE-LIMITS; place = 0 }) s)
 
-abbrev pub handedIn : (time : ℕ) → State → List ℕ → AfterRadio
-handedIn time s datagram = handedInUnder CURRENT-LIMITS time s datagram
+abbrev pub handed_in : (time : ℕ) → State → List ℕ → AfterRadio
+handed_in time s datagram = handed_in_under CURRENT-LIMITS time s datagram
 
 -- ---- "A radio message handed in: as for reading": what reading the datagram refuses it by, number and place
 pub data ReadingRefuses (datalink : DatalinkId) (datagram : List ℕ) (refusal : Refusal) : Type 0 where
-  by-header : planeOf datagram ≡ PlaneAnswer.Refused refusal → ReadingRefuses datalink datagram refusal
-  by-control : planeOf datagram ≡ PlaneAnswer.Control → (readControl ends.Radio datalink datagram).verdict ≡ Verdict.Refused refusal → ReadingRefuses datalink datagram refusal
-  by-data : planeOf datagram ≡ PlaneAnswer.Data → (readData ends.Radio datalink datagram).verdict ≡ Verdict.Refused refusal → ReadingRefuses datalink datagram refusal
+  by_header : plane_of datagram ≡ PlaneAnswer.Refused refusal → ReadingRefuses datalink datagram refusal
+  by_control : plane_of datagram ≡ PlaneAnswer.Control → (read_control ends.Radio datalink datagram).verdict ≡ Verdict.Refused refusal → ReadingRefuses datalink datagram refusal
+  by_data : plane_of datagram ≡ PlaneAnswer.Data → (read_data ends.Radio datalink datagram).verdict ≡ Verdict.Refused refusal → ReadingRefuses datalink datagram refusal

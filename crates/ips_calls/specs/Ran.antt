@@ -3,7 +3,7 @@
 use Rattle.std.specs.Prelude.{List, [], ◌∷◌}
 use Rattle.ips_state.specs.Memory.{World}
 use Rattle.ips_run.specs.Run.{Call, after}
-use Rattle.ips_calls.specs.Replies.{EndpointReply, replyOf}
+use Rattle.ips_calls.specs.Replies.{EndpointReply, reply_of}
 use Rattle.ips_calls.specs.Calls.{Performed}
 
 -- from a world: the calls, the replies, and the world that was left
@@ -12,6 +12,6 @@ pub data Ran : World → List Call → List EndpointReply → World → Type 0 w
   ran : {w w' last : World} {c : Call} {x : EndpointReply} {cs : List Call} {xs : List EndpointReply} → Performed c w x w' → Ran w' cs xs last → Ran w (c ∷ cs) (x ∷ xs) last
 
 -- the replies by the definitions
-abbrev pub repliesOf : List Call → World → List EndpointReply
-repliesOf [] w = []
-repliesOf (c ∷ cs) w = replyOf c w ∷ repliesOf cs (after c w)
+abbrev pub replies_of : List Call → World → List EndpointReply
+replies_of [] w = []
+replies_of (c ∷ cs) w = reply_of c w ∷ replies_of cs (after c w)

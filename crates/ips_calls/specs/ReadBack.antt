@@ -2,19 +2,19 @@
 use Rattle.std.specs.Prelude.{ℕ, ◌<◌, ◌^◌, List, ◌≡◌, length, take}
 use Rattle.meaning.specs.declared.message.End.TheVariants as ends
 use Rattle.meaning.specs.declared.message.Sequence.{Sequence}
-use Rattle.reader.specs.Readings.{Verdict, readData, packetOf}
-use Rattle.ips_channel_rules.specs.Rules.{Terms, messageOf}
+use Rattle.reader.specs.Readings.{Verdict, read_data, packet_of}
+use Rattle.ips_channel_rules.specs.Rules.{Terms, message_of}
 use Rattle.ips_channel_calls.specs.declared.asking.NextAnswer.{NextAnswer}
-use Rattle.ips_state.specs.State.{State, channelAt}
+use Rattle.ips_state.specs.State.{State, channel_at}
 
 -- Next: the count that was answered, and in that many bytes the packet, that channel and that Flow Sequence
 pub record ReadBack (k : Terms) (id : ℕ) (packet : List ℕ) (sequence : Sequence) (answer : NextAnswer) (out : List ℕ) : Type 0 where
   pub named : k.id ≡ id
   pub size : ℕ
   pub counted : answer ≡ NextAnswer.Sent (record { 0 = size })
-  pub accepted : readData ends.Ips k.datalink (take size out) ≡ record { verdict = Verdict.Accepted; message = messageOf k sequence }
-  pub carries : packetOf (take size out) ≡ packet
+  pub accepted : read_data ends.Ips k.datalink (take size out) ≡ record { verdict = Verdict.Accepted; message = message_of k sequence }
+  pub carries : packet_of (take size out) ≡ packet
 
 -- the sequences of its channels have 32 bits, as every state in lent words has them
 abbrev pub SequenceWords : State → Type 0
-SequenceWords s = (index : ℕ) → index < length s.channels → (channelAt s index).sequence.0 < 2 ^ 32
+SequenceWords s = (index : ℕ) → index < length s.channels → (channel_at s index).sequence.0 < 2 ^ 32

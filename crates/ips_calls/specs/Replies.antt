@@ -3,50 +3,50 @@ use Rattle.std.specs.Prelude.{ℕ, List, [], ◌∷◌, take}
 use Rattle.quantity.specs.Limits.{Limits, CURRENT-LIMITS}
 use Rattle.writer.specs.declared.answer.WriteAnswer.{WriteAnswer}
 use Rattle.ips_channel_calls.specs.declared.asking.NextAnswer.{NextAnswer}
-use Rattle.ips_channel_calls.specs.Calls.{Reply, offered, asked, withdrawn, replyTo}
-use Rattle.ips_state.specs.Memory.{World, indexIn}
+use Rattle.ips_channel_calls.specs.Calls.{Reply, offered, asked, withdrawn, reply_to}
+use Rattle.ips_state.specs.Memory.{World, index_in}
 use Rattle.ips_radio.specs.declared.RadioAnswer.{RadioAnswer}
-use Rattle.ips_run.specs.Calling.{termsInUnder, callingUnder}
+use Rattle.ips_run.specs.Calling.{terms_in_under, calling_under}
 use Rattle.pacer.specs.declared.PaceAnswer.{PaceAnswer}
 use Rattle.ips_run.specs.Run.{Call, on, radio, pace, query}
-use Rattle.ips_calls.specs.Radio.{handedInUnder}
-use Rattle.ips_calls.specs.Pace.{paceAnswerUnder}
-use Rattle.ips_calls.specs.Query.{queryAnswerUnder, queryOutUnder}
+use Rattle.ips_calls.specs.Radio.{handed_in_under}
+use Rattle.ips_calls.specs.Pace.{pace_answer_under}
+use Rattle.ips_calls.specs.Query.{query_answer_under, query_out_under}
 
 pub data EndpointReply : Type 0 where
-  ofChannel : Reply → EndpointReply
-  ofRadio : RadioAnswer → EndpointReply
-  ofPace : PaceAnswer → EndpointReply
-  ofQuery : WriteAnswer → (out : List ℕ) → EndpointReply
+  of_channel : Reply → EndpointReply
+  of_radio : RadioAnswer → EndpointReply
+  of_pace : PaceAnswer → EndpointReply
+  of_query : WriteAnswer → (out : List ℕ) → EndpointReply
 
-abbrev pub replyUnder : Limits → Call → World → EndpointReply
-replyUnder limits (on id c) w = ofChannel (replyTo (termsInUnder limits.packet w (indexIn w id)) c (callingUnder limits id c w).answer)
-replyUnder limits (radio time datagram) w = ofRadio (handedInUnder limits time w.state datagram).answer
-replyUnder limits (pace time) w = ofPace (paceAnswerUnder limits time w.state)
-replyUnder limits (query out) w = ofQuery (queryAnswerUnder limits w.state out) (queryOutUnder limits w.state out)
+abbrev pub reply_under : Limits → Call → World → EndpointReply
+reply_under limits (on id c) w = of_channel (reply_to (terms_in_under limits.packet w (index_in w id)) c (calling_under limits id c w).answer)
+reply_under limits (radio time datagram) w = of_radio (handed_in_under limits time w.state datagram).answer
+reply_under limits (pace time) w = of_pace (pace_answer_under limits time w.state)
+reply_under limits (query out) w = of_query (query_answer_under limits w.state out) (query_out_under limits w.state out)
 
-abbrev pub replyOf : Call → World → EndpointReply
-replyOf c w = replyUnder CURRENT-LIMITS c w
+abbrev pub reply_of : Call → World → EndpointReply
+reply_of c w = reply_under CURRENT-LIMITS c w
 
 -- ---- which datagrams a reply hands over: of Next, and of a query, as many first bytes of the output as it answered
-abbrev pub ifSent : NextAnswer → (out : List ℕ) → List (List ℕ)
-ifSent (NextAnswer.Sent count) out = take count.0 out ∷ []
-ifSent NextAnswer.NothingWaiting out = []
-ifSent NextAnswer.NotOperational out = []
-ifSent NextAnswer.WindowShut out = []
-ifSent (NextAnswer.Refused refusal) out = []
+abbrev pub if_sent : NextAnswer → (out : List ℕ) → List (List ℕ)
+if_sent (NextAnswer.Sent count) out = take count.0 out ∷ []
+if_sent NextAnswer.NothingWaiting out = []
+if_sent NextAnswer.NotOperational out = []
+if_sent NextAnswer.WindowShut out = []
+if_sent (NextAnswer.Refused refusal) out = []
 
-abbrev pub ofReply : Reply → List (List ℕ)
-ofReply (offered answer) = []
-ofReply (asked answer out) = ifSent answer out
-ofReply (withdrawn answer) = []
+abbrev pub of_reply : Reply → List (List ℕ)
+of_reply (offered answer) = []
+of_reply (asked answer out) = if_sent answer out
+of_reply (withdrawn answer) = []
 
-abbrev pub ifWrote : WriteAnswer → (out : List ℕ) → List (List ℕ)
-ifWrote (WriteAnswer.Wrote count) out = take count.0 out ∷ []
-ifWrote (WriteAnswer.Refused refusal) out = []
+abbrev pub if_wrote : WriteAnswer → (out : List ℕ) → List (List ℕ)
+if_wrote (WriteAnswer.Wrote count) out = take count.0 out ∷ []
+if_wrote (WriteAnswer.Refused refusal) out = []
 
-abbrev pub handedOut : EndpointReply → List (List ℕ)
-handedOut (ofChannel x) = ofReply x
-handedOut (ofRadio answer) = []
-handedOut (ofPace answer) = []
-handedOut (ofQuery answer out) = ifWrote answer out
+abbrev pub handed_out : EndpointReply → List (List ℕ)
+handed_out (of_channel x) = of_reply x
+handed_out (of_radio answer) = []
+handed_out (of_pace answer) = []
+handed_out (of_query answer out) = if_wrote answer out

@@ -8,8 +8,8 @@ use Rattle.ips_channel.specs.declared.state.Channel.{Channel}
 
 -- "A channel has a status (fresh: not reported)"; "with a first Flow Sequence value"; "Latest time is each channel's own: 0 when fresh"; nothing waits, and each of
 -- the 32 places is zeros
-abbrev pub freshWith : Flow → Setting → FlowSequence → Channel
-freshWith flow setting first = record {
+abbrev pub fresh_with : Flow → Setting → FlowSequence → Channel
+fresh_with flow setting first = record {
   setting = setting;
   status = Status.Absent;
   flow = flow;

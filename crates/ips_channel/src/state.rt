@@ -1,6 +1,6 @@
 // A channel, by value; its store is lent beside it.
 ghost use Rattle.std.specs.Prelude.{◌≡◌};
-ghost use Rattle.ips_channel.specs.Channel.{freshChannel, withQueue};
+ghost use Rattle.ips_channel.specs.Channel.{fresh_channel, with_queue};
 
 use flow::Flow;
 use meaning::message::Status;
@@ -40,7 +40,7 @@ pub struct Channel {
 
 // A channel that starts: not reported, its first sequence, time 0, nothing waiting.
 pub fn fresh(setting: Setting, first: FlowSequence) -> Channel
-    ensures { result ≡ freshChannel setting first }
+    ensures { result ≡ fresh_channel setting first }
 {
     let flow = flow::first(setting.controlled);
     let queue = queue::empty();
@@ -56,7 +56,7 @@ pub fn fresh(setting: Setting, first: FlowSequence) -> Channel
 
 // The channel with what waits on it now, and a time that was accepted.
 pub fn with_queue(channel: Channel, queue: Queue, time: u64) -> Channel
-    ensures { result ≡ withQueue channel queue time }
+    ensures { result ≡ with_queue channel queue time }
 {
     let mut left = channel;
     left.queue = queue;

@@ -10,27 +10,27 @@ use Rattle.quantity.specs.Limits.{RESERVED-CHANNEL, LONGEST-PACKET}
 use Rattle.meaning.specs.declared.message.End.TheVariants as ends
 use Rattle.meaning.specs.declared.message.Sequence.{Sequence}
 use Rattle.meaning.specs.declared.message.Data.{Data}
-use Rattle.writable.specs.Allowed.{dataAllowed}
-use Rattle.store.specs.Packets.{Packet, firstBytes}
-use Rattle.store.proofs.Entries.{within-limits}
-use Rattle.store.proofs.Held.{Fit, fit-first}
+use Rattle.writable.specs.Allowed.{data_allowed}
+use Rattle.store.specs.Packets.{Packet, first_bytes}
+use Rattle.store.proofs.Entries.{within_limits}
+use Rattle.store.proofs.Held.{Fit, fit_first}
 use Rattle.writer.specs.declared.answer.WriteAnswer.{WriteAnswer}
-use Rattle.writer.specs.Written.{dataWritten, Outcome}
-use Rattle.ips_channel_rules.specs.Rules.{Terms, messageOf, messageBytes}
+use Rattle.writer.specs.Written.{data_written, Outcome}
+use Rattle.ips_channel_rules.specs.Rules.{Terms, message_of, message_bytes}
 
-pub first_short : (size : ℕ) (ps : List Packet) → Fit size ps → length (firstBytes ps) ≤ LONGEST-PACKET
-unfolding firstBytes
+pub first_short : (size : ℕ) (ps : List Packet) → Fit size ps → length (first_bytes ps) ≤ LONGEST-PACKET
+unfolding first_bytes
 first_short size [] f = omega arith
-first_short size (p ∷ ps) f = omega (arith, within-limits (length p.bytes) (fit-first size p ps f))
+first_short size (p ∷ ps) f = omega (arith, within_limits (length p.bytes) (fit_first size p ps f))
 
-pub carrier-allowed : (k : Terms) (sequence : Sequence) (n : ℕ) → k.id < RESERVED-CHANNEL → n ≤ LONGEST-PACKET → dataAllowed ends.Ips (messageOf k sequence) n ≡ true
-unfolding dataAllowed
-carrier-allowed k Sequence.Absent n d l = rw (lt-ltb k.id RESERVED-CHANNEL d, lt-ltb n (2 ^ 16) (omega arith))
-carrier-allowed k (Sequence.Given s) n d l = rw (eq-eqb k.id k.id refl, lt-ltb k.id RESERVED-CHANNEL d, lt-ltb n (2 ^ 16) (omega arith))
+pub carrier_allowed : (k : Terms) (sequence : Sequence) (n : ℕ) → k.id < RESERVED-CHANNEL → n ≤ LONGEST-PACKET → data_allowed ends.Ips (message_of k sequence) n ≡ true
+unfolding data_allowed
+carrier_allowed k Sequence.Absent n d l = rw (lt-ltb k.id RESERVED-CHANNEL d, lt-ltb n (2 ^ 16) (omega arith))
+carrier_allowed k (Sequence.Given s) n d l = rw (eq-eqb k.id k.id refl, lt-ltb k.id RESERVED-CHANNEL d, lt-ltb n (2 ^ 16) (omega arith))
 
-pub first-written : (k : Terms) (sequence : Sequence) (size : ℕ) (ps : List Packet) (message : Data) (packet out : List ℕ) (answer : WriteAnswer) (out' : List ℕ)
-    → k.id < RESERVED-CHANNEL → Fit size ps → message ≡ messageOf k sequence → packet ≡ firstBytes ps
-    → Outcome (dataAllowed ends.Ips message (length packet)) (dataWritten message packet) out answer out' → Outcome true (messageBytes k sequence (firstBytes ps)) out answer out'
-unfolding messageBytes
-first-written k sequence size ps message packet out answer out' d f m p o =
-    rw (m, p, carrier-allowed k sequence (length (firstBytes ps)) d (first_short size ps f)) at o
+pub first_written : (k : Terms) (sequence : Sequence) (size : ℕ) (ps : List Packet) (message : Data) (packet out : List ℕ) (answer : WriteAnswer) (out' : List ℕ)
+    → k.id < RESERVED-CHANNEL → Fit size ps → message ≡ message_of k sequence → packet ≡ first_bytes ps
+    → Outcome (data_allowed ends.Ips message (length packet)) (data_written message packet) out answer out' → Outcome true (message_bytes k sequence (first_bytes ps)) out answer out'
+unfolding message_bytes
+first_written k sequence size ps message packet out answer out' d f m p o =
+    rw (m, p, carrier_allowed k sequence (length (first_bytes ps)) d (first_short size ps f)) at o

@@ -2,13 +2,13 @@
 ghost use Rattle.std.specs.Prelude.{◌≡◌, true, length};
 ghost use mathlib.Core.List.{tail};
 ghost use Rattle.writer.specs.Written.{Outcome};
-ghost use Rattle.store.specs.Packets.{alive, firstBytes};
+ghost use Rattle.store.specs.Packets.{alive, first_bytes};
 ghost use Rattle.store.specs.Moves.{expiring, sending};
-ghost use Rattle.store.specs.Waiting.{packetsOf};
+ghost use Rattle.store.specs.Waiting.{packets_of};
 ghost use Rattle.ips_channel_rules.specs.Rules as rules;
-ghost use Rattle.ips_channel_rules.specs.Rules.{countedOn, messageOf, messageBytes};
-ghost use Rattle.ips_channel.specs.Channel.{termsOf};
-ghost use Rattle.ips_channel_calls.specs.Calls.{refusedWith, asked, Ready, Serves, Moves, AnsweredWith};
+ghost use Rattle.ips_channel_rules.specs.Rules.{counted_on, message_of, message_bytes};
+ghost use Rattle.ips_channel.specs.Channel.{terms_of};
+ghost use Rattle.ips_channel_calls.specs.Calls.{refused_with, asked, Ready, Serves, Moves, AnsweredWith};
 
 use ips_channel::state;
 use ips_channel::state::{Channel, DatalinkSetting, Setting};
@@ -39,7 +39,7 @@ pub struct NextOutcome {
 }
 
 fn refused(channel: Channel, number: u8) -> NextOutcome
-    ensures { result ≡ record { answer = NextAnswer.Refused (refusedWith number); channel = channel; moved = record { 0 = 0 } } }
+    ensures { result ≡ record { answer = NextAnswer.Refused (refused_with number); channel = channel; moved = record { 0 = 0 } } }
 {
     NextOutcome {
         answer: NextAnswer::Refused(Refusal { number, place: 0 }),
@@ -51,7 +51,7 @@ fn refused(channel: Channel, number: u8) -> NextOutcome
 // The bytes of the first packet that is not expired; 0: none waits.
 fn first_length(channel: Channel, store: &[u8], time: u64) -> ByteCount
     requires { Ready channel store.now }
-    ensures { result ≡ record { 0 = length (firstBytes (alive time (packetsOf channel.queue store.now))) } }
+    ensures { result ≡ record { 0 = length (first_bytes (alive time (packets_of channel.queue store.now))) } }
 {
     let queue = channel.queue;
     let packet = waiting::peek(queue, store, time);
@@ -61,7 +61,7 @@ fn first_length(channel: Channel, store: &[u8], time: u64) -> ByteCount
 // The expired packets leave, and no other: the answer says why.
 fn expired(channel: Channel, store: &mut [u8], time: u64, answer: NextAnswer) -> NextOutcome
     requires { Ready channel store.old }
-    ensures { AnsweredWith channel answer (alive time (packetsOf channel.queue store.old)) channel.sequence time (expiring time (packetsOf channel.queue store.old)) result store.new }
+    ensures { AnsweredWith channel answer (alive time (packets_of channel.queue store.old)) channel.sequence time (expiring time (packets_of channel.queue store.old)) result store.new }
 {
     let queue = channel.queue;
     let remaining = waiting::expire(queue, store, time);
@@ -83,7 +83,7 @@ fn sent(
     length: ByteCount,
 ) -> NextOutcome
     requires { Ready channel store.old }
-    ensures { AnsweredWith channel (NextAnswer.Sent length) (tail (alive time (packetsOf channel.queue store.old))) sequence time (sending time (packetsOf channel.queue store.old)) result store.new }
+    ensures { AnsweredWith channel (NextAnswer.Sent length) (tail (alive time (packets_of channel.queue store.old))) sequence time (sending time (packets_of channel.queue store.old)) result store.new }
 {
     let queue = channel.queue;
     let remaining = waiting::pop(queue, store, time);
@@ -99,7 +99,7 @@ fn sent(
 }
 
 fn counted_on(id: u8, sequence: Sequence) -> Counted
-    ensures { result ≡ countedOn id sequence }
+    ensures { result ≡ counted_on id sequence }
 {
     match sequence {
         Sequence::Absent => Counted::Absent,
@@ -109,7 +109,7 @@ fn counted_on(id: u8, sequence: Sequence) -> Counted
 
 // The message that carries the first packet.
 fn carrier(datalink: DatalinkSetting, setting: Setting, sequence: Sequence) -> Data
-    ensures { result ≡ messageOf (termsOf datalink setting) sequence }
+    ensures { result ≡ message_of (terms_of datalink setting) sequence }
 {
     let counted = counted_on(setting.id, sequence);
     let id = datalink.id;
@@ -131,7 +131,7 @@ fn write_first(
     out: &mut [u8],
 ) -> WriteAnswer
     requires { Ready channel store.now }
-    ensures { Outcome true (messageBytes (termsOf datalink channel.setting) sequence (firstBytes (alive time (packetsOf channel.queue store.now)))) out.old result out.new }
+    ensures { Outcome true (message_bytes (terms_of datalink channel.setting) sequence (first_bytes (alive time (packets_of channel.queue store.now)))) out.old result out.new }
 {
     let queue = channel.queue;
     let packet = waiting::peek(queue, store, time);

@@ -1,8 +1,8 @@
 // Offer and Withdraw, on a channel and its store. Number 19 was tested, and the channel found: `Ready` is what that gives.
 ghost use Rattle.std.specs.Prelude.{◌≡◌};
-ghost use Rattle.store.specs.Packets.{packetFor};
+ghost use Rattle.store.specs.Packets.{packet_for};
 ghost use Rattle.ips_channel_rules.specs.Rules as rules;
-ghost use Rattle.ips_channel_calls.specs.Calls.{refusedWith, offered, withdrawn, Ready, IsLongest, ServesAnywhere, MovesAnywhere};
+ghost use Rattle.ips_channel_calls.specs.Calls.{refused_with, offered, withdrawn, Ready, IsLongest, ServesAnywhere, MovesAnywhere};
 
 use ips_channel::state;
 use ips_channel::state::Channel;
@@ -41,7 +41,7 @@ pub struct WithdrawOutcome {
 }
 
 fn refused(channel: Channel, number: u8) -> OfferOutcome
-    ensures { result ≡ record { answer = OfferAnswer.Refused (refusedWith number); channel = channel; moved = record { 0 = 0 } } }
+    ensures { result ≡ record { answer = OfferAnswer.Refused (refused_with number); channel = channel; moved = record { 0 = 0 } } }
 {
     OfferOutcome {
         answer: OfferAnswer::Refused(Refusal { number, place: 0 }),
@@ -69,8 +69,8 @@ pub fn offer(
     time: u64,
 ) -> OfferOutcome
     requires { Ready channel store.old }
-    ensures serves_anywhere { ServesAnywhere (rules.offer (packetFor packet.now expiry) time) channel store.old (offered result.answer) result.channel store.new }
-    ensures moves_anywhere { MovesAnywhere (rules.offer (packetFor packet.now expiry) time) channel store.old result.moved }
+    ensures serves_anywhere { ServesAnywhere (rules.offer (packet_for packet.now expiry) time) channel store.old (offered result.answer) result.channel store.new }
+    ensures moves_anywhere { MovesAnywhere (rules.offer (packet_for packet.now expiry) time) channel store.old result.moved }
 {
     if !ipv6::is_ipv6(packet) {
         return refused(channel, refusal::NOT_IPV6);

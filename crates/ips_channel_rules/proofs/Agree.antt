@@ -8,105 +8,105 @@ use borrow.Author.Tests.{lt-ltb, le-ltb}
 use Rattle.facts.proofs.Tests.{by_le}
 use Rattle.quantity.specs.declared.count.FlowSequence.{FlowSequence}
 use Rattle.quantity.specs.declared.count.ByteCount.{ByteCount}
-use Rattle.quantity.specs.Window.{sequenceAt}
-use Rattle.quantity.proofs.Window.{fits-is, stands_on, standing-stands, advance-is, sequence-start}
+use Rattle.quantity.specs.Window.{sequence_at}
+use Rattle.quantity.proofs.Window.{fits_is, stands_on, standing_stands, advance_is, sequence_start}
 use Rattle.meaning.specs.declared.message.Status.{Status}
 use Rattle.meaning.specs.declared.message.Window.{Window}
-use Rattle.store.specs.Packets.{Packet, lastsAt, lasting, alive, isFull}
+use Rattle.store.specs.Packets.{Packet, lasts_at, lasting, alive, is_full}
 use Rattle.flow.specs.declared.Flow.{Flow}
-use Rattle.flow.specs.Counting.{mayGo, sequenceOn, carriedBy, flowAfter}
+use Rattle.flow.specs.Counting.{may_go, sequence_on, carried_by, flow_after}
 use Rattle.ips_channel_rules.specs.Rules.{Event, Terms, Condition, step, happens, history, final}
-use Rattle.ips_channel_rules.specs.Machine.{WordCounter, machine, freshMachine}
-use Rattle.ips_channel_rules.specs.Simple.{Limit, free, none, Counter, fitsBelow, countOn, carriedAt, limitAt, waits, withdrawn, Entry, isWaiting, having, become, due, sendFirst, simple, freshSimple}
-use Rattle.ips_channel_rules.specs.Agreement.{SameFlow, both-free, both-none, both-in-force, Agrees}
-use Rattle.ips_channel_rules.proofs.Entries.{entry, by-entry}
-use Rattle.ips_channel_rules.proofs.Alike.{Alike, Related, related, step_same, happens-same, history-same, final-same}
+use Rattle.ips_channel_rules.specs.Machine.{WordCounter, machine, fresh_machine}
+use Rattle.ips_channel_rules.specs.Simple.{Limit, free, none, Counter, fits_below, count_on, carried_at, limit_at, waits, withdrawn, Entry, is_waiting, having, become, due, send_first, simple, fresh_simple}
+use Rattle.ips_channel_rules.specs.Agreement.{SameFlow, both_free, both_none, both_in_force, Agrees}
+use Rattle.ips_channel_rules.proofs.Entries.{entry, by_entry}
+use Rattle.ips_channel_rules.proofs.Alike.{Alike, Related, related, step_same, happens_same, history_same, final_same}
 
 -- ---- counting
 
 -- the part of `Agrees` that is about counting
 record Counts (m : WordCounter) (x : Counter) : Type 0 where
-  pub sequence : m.sequence ≡ sequenceAt x.count
+  pub sequence : m.sequence ≡ sequence_at x.count
   pub flow : SameFlow x.count m.flow x.limit
 
 module _ (c : ℕ) (n : ByteCount) where
-  fits-flow : (f : Flow) (l : Limit) → SameFlow c f l → mayGo f (sequenceAt c) n ≡ fitsBelow c l n.0
-  fits-flow _ _ both-free = refl
-  fits-flow _ _ both-none = refl
-  fits-flow _ _ (both-in-force {window} {number} h) = fits-is c window n number h
+  fits_flow : (f : Flow) (l : Limit) → SameFlow c f l → may_go f (sequence_at c) n ≡ fits_below c l n.0
+  fits_flow _ _ both_free = refl
+  fits_flow _ _ both_none = refl
+  fits_flow _ _ (both_in_force {window} {number} h) = fits_is c window n number h
 
   -- what is counted; a window goes on standing for its number
-  grow-flow : (f : Flow) (l : Limit) → SameFlow c f l → mayGo f (sequenceAt c) n ≡ true
-      → Counts (record { flow = f; sequence = sequenceOn f (sequenceAt c) n }) (record { count = countOn c l n.0; limit = l })
-  grow-flow _ _ both-free t = record { sequence = refl; flow = both-free }
-  grow-flow _ _ both-none t = record { sequence = refl; flow = both-none }
-  grow-flow _ _ (both-in-force {window} {number} h) t =
-      record { sequence = advance-is c n; flow = both-in-force (stands_on c window n number h (subst T (sym t ∙ fits-is c window n number h) tt)) }
+  grow_flow : (f : Flow) (l : Limit) → SameFlow c f l → may_go f (sequence_at c) n ≡ true
+      → Counts (record { flow = f; sequence = sequence_on f (sequence_at c) n }) (record { count = count_on c l n.0; limit = l })
+  grow_flow _ _ both_free t = record { sequence = refl; flow = both_free }
+  grow_flow _ _ both_none t = record { sequence = refl; flow = both_none }
+  grow_flow _ _ (both_in_force {window} {number} h) t =
+      record { sequence = advance_is c n; flow = both_in_force (stands_on c window n number h (subst T (sym t ∙ fits_is c window n number h) tt)) }
 
-carried-flow : (c : ℕ) (f : Flow) (l : Limit) → SameFlow c f l → carriedBy f (sequenceAt c) ≡ carriedAt c l
-carried-flow c _ _ both-free = refl
-carried-flow c _ _ both-none = refl
-carried-flow c _ _ (both-in-force h) = refl
+carried_flow : (c : ℕ) (f : Flow) (l : Limit) → SameFlow c f l → carried_by f (sequence_at c) ≡ carried_at c l
+carried_flow c _ _ both_free = refl
+carried_flow c _ _ both_none = refl
+carried_flow c _ _ (both_in_force h) = refl
 
 -- "the number a window stands for is fixed when the window arrives"
-hear-flow : (c : ℕ) (w : Window) → SameFlow c (flowAfter w) (limitAt c w)
-hear-flow c Window.Absent = both-free
-hear-flow c Window.Empty = both-none
-hear-flow c (Window.Given w) = both-in-force (standing-stands c w)
+hear_flow : (c : ℕ) (w : Window) → SameFlow c (flow_after w) (limit_at c w)
+hear_flow c Window.Absent = both_free
+hear_flow c Window.Empty = both_none
+hear_flow c (Window.Given w) = both_in_force (standing_stands c w)
 
 module _ (m : WordCounter) (x : Counter) (h : Counts m x) where
-  fits-counts : (n : ByteCount) → machine.fits m n ≡ simple.fits x n
-  fits-counts n = rw h.sequence (fits-flow x.count n _ _ h.flow)
+  fits_counts : (n : ByteCount) → machine.fits m n ≡ simple.fits x n
+  fits_counts n = rw h.sequence (fits_flow x.count n _ _ h.flow)
 
-  grow-counts : (n : ByteCount) → machine.fits m n ≡ true → Counts (machine.grow n m) (simple.grow n x)
-  grow-counts n t = rw h.sequence (grow-flow x.count n _ _ h.flow (rw h.sequence at t))
+  grow_counts : (n : ByteCount) → machine.fits m n ≡ true → Counts (machine.grow n m) (simple.grow n x)
+  grow_counts n t = rw h.sequence (grow_flow x.count n _ _ h.flow (rw h.sequence at t))
 
-  carried-counts : machine.carried m ≡ simple.carried x
-  carried-counts = rw h.sequence (carried-flow x.count _ _ h.flow)
+  carried_counts : machine.carried m ≡ simple.carried x
+  carried_counts = rw h.sequence (carried_flow x.count _ _ h.flow)
 
-  hear-counts : (w : Window) → Counts (machine.hear w m) (simple.hear w x)
-  hear-counts w = record { sequence = h.sequence; flow = hear-flow x.count w }
+  hear_counts : (w : Window) → Counts (machine.hear w m) (simple.hear w x)
+  hear_counts w = record { sequence = h.sequence; flow = hear_flow x.count w }
 
 -- ---- what waits
 
 -- "every packet .. whose expiry is at or before the time given is expired": what lasts is what goes on waiting
-expire-waiting : (time : ℕ) (es : List Entry) → alive time (having isWaiting es) ≡ having isWaiting (map (become (due time)) es)
+expire_waiting : (time : ℕ) (es : List Entry) → alive time (having is_waiting es) ≡ having is_waiting (map (become (due time)) es)
 unfolding lasting
-expire-waiting time =
-    by-entry (λ es. alive time (having isWaiting es) ≡ having isWaiting (map (become (due time)) es)) refl
+expire_waiting time =
+    by_entry (λ es. alive time (having is_waiting es) ≡ having is_waiting (map (become (due time)) es)) refl
     (λ p es h. lasts p _ _ h) (λ p es h. h) (λ p es h. h) (λ p es h. h)
   where
-    lasts : (p : Packet) (ps qs : List Packet) → ps ≡ qs → cond (lastsAt time p.expiry) (p ∷ ps) ps ≡ cond (isWaiting (due time p)) (p ∷ qs) qs
+    lasts : (p : Packet) (ps qs : List Packet) → ps ≡ qs → cond (lasts_at time p.expiry) (p ∷ ps) ps ≡ cond (is_waiting (due time p)) (p ∷ qs) qs
     lasts p ps qs h = by_le p.expiry time (λ l. rw (le-ltb time p.expiry l) h) (λ l. rw (lt-ltb time p.expiry l, h))
 
-join-waiting : (p : Packet) (es : List Entry) → having isWaiting es ++ (p ∷ []) ≡ having isWaiting (es ++ (entry p waits ∷ []))
-join-waiting p =
-    by-entry (λ es. having isWaiting es ++ (p ∷ []) ≡ having isWaiting (es ++ (entry p waits ∷ []))) refl
+join_waiting : (p : Packet) (es : List Entry) → having is_waiting es ++ (p ∷ []) ≡ having is_waiting (es ++ (entry p waits ∷ []))
+join_waiting p =
+    by_entry (λ es. having is_waiting es ++ (p ∷ []) ≡ having is_waiting (es ++ (entry p waits ∷ []))) refl
     (λ q es h. rw h) (λ q es h. h) (λ q es h. h) (λ q es h. h)
 
-send-waiting : (es : List Entry) → tail (having isWaiting es) ≡ having isWaiting (sendFirst es)
-send-waiting = by-entry (λ es. tail (having isWaiting es) ≡ having isWaiting (sendFirst es)) refl (λ p es h. refl) (λ p es h. h) (λ p es h. h) (λ p es h. h)
+send_waiting : (es : List Entry) → tail (having is_waiting es) ≡ having is_waiting (send_first es)
+send_waiting = by_entry (λ es. tail (having is_waiting es) ≡ having is_waiting (send_first es)) refl (λ p es h. refl) (λ p es h. h) (λ p es h. h) (λ p es h. h)
 
-clear-waiting : (es : List Entry) → [] ≡ having isWaiting (map (become (λ p. withdrawn)) es)
-clear-waiting = by-entry (λ es. [] ≡ having isWaiting (map (become (λ p. withdrawn)) es)) refl (λ p es h. h) (λ p es h. h) (λ p es h. h) (λ p es h. h)
+clear_waiting : (es : List Entry) → [] ≡ having is_waiting (map (become (λ p. withdrawn)) es)
+clear_waiting = by_entry (λ es. [] ≡ having is_waiting (map (become (λ p. withdrawn)) es)) refl (λ p es h. h) (λ p es h. h) (λ p es h. h) (λ p es h. h)
 
 -- ---- the two are alike
 abbrev alike : Alike machine simple
 alike =
     record {
       Counts = Counts;
-      Keeps = λ ps es. ps ≡ having isWaiting es;
-      fits-same = fits-counts;
-      grow-on = grow-counts;
-      carried_same = carried-counts;
-      hear-on = hear-counts;
-      waiting-same = λ ps es r. r;
-      expire-on = λ ps es r time. ap (alive time) r ∙ expire-waiting time es;
-      join-on = λ ps es r p. ap (λ (l : List Packet). l ++ (p ∷ [])) r ∙ join-waiting p es;
-      send-on = λ ps es r. ap tail r ∙ send-waiting es;
-      clear-on = λ ps es r. clear-waiting es;
-      longest-same = λ k. refl;
-      full-same = λ k ps es r p. ap (λ (l : List Packet). isFull k.size l p) r;
+      Keeps = λ ps es. ps ≡ having is_waiting es;
+      fits_same = fits_counts;
+      grow_on = grow_counts;
+      carried_same = carried_counts;
+      hear_on = hear_counts;
+      waiting_same = λ ps es r. r;
+      expire_on = λ ps es r time. ap (alive time) r ∙ expire_waiting time es;
+      join_on = λ ps es r p. ap (λ (l : List Packet). l ++ (p ∷ [])) r ∙ join_waiting p es;
+      send_on = λ ps es r. ap tail r ∙ send_waiting es;
+      clear_on = λ ps es r. clear_waiting es;
+      longest_same = λ k. refl;
+      full_same = λ k ps es r p. ap (λ (l : List Packet). is_full k.size l p) r;
     }
 
 agrees : (c : Condition machine) (s : Condition simple) → Related alike c s → Agrees c s
@@ -121,35 +121,35 @@ agreed c s h =
 -- ---- from conditions that agree the same happens, and again conditions that agree are left
 module _ (k : Terms) where
   -- one event
-  pub agrees-step : (e : Event) (c : Condition machine) (s : Condition simple) → Agrees c s → Agrees (step machine k e c) (step simple k e s)
-  agrees-step e c s h = agrees _ _ (step_same alike k e c s (agreed c s h))
+  pub agrees_step : (e : Event) (c : Condition machine) (s : Condition simple) → Agrees c s → Agrees (step machine k e c) (step simple k e s)
+  agrees_step e c s h = agrees _ _ (step_same alike k e c s (agreed c s h))
 
-  pub agrees-happens : (e : Event) (c : Condition machine) (s : Condition simple) → Agrees c s → happens machine k e c ≡ happens simple k e s
-  agrees-happens e c s h = happens-same alike k e c s (agreed c s h)
+  pub agrees_happens : (e : Event) (c : Condition machine) (s : Condition simple) → Agrees c s → happens machine k e c ≡ happens simple k e s
+  agrees_happens e c s h = happens_same alike k e c s (agreed c s h)
 
   module _ (es : List Event) (c : Condition machine) (s : Condition simple) (h : Agrees c s) where
     -- any events
-    pub agrees-history : history machine k es c ≡ history simple k es s
-    agrees-history = history-same alike k es c s (agreed c s h)
+    pub agrees_history : history machine k es c ≡ history simple k es s
+    agrees_history = history_same alike k es c s (agreed c s h)
 
-    pub agrees-final : Agrees (final machine k es c) (final simple k es s)
-    agrees-final = agrees _ _ (final-same alike k es c s (agreed c s h))
+    pub agrees_final : Agrees (final machine k es c) (final simple k es s)
+    agrees_final = agrees _ _ (final_same alike k es c s (agreed c s h))
 
 -- ---- from a fresh start
 
-first-flow : (controlled : Bool) (count : ℕ) → SameFlow count (cond controlled Flow.NoWindow Flow.Free) (cond controlled none free)
-first-flow true count = both-none
-first-flow false count = both-free
+first_flow_lem : (controlled : Bool) (count : ℕ) → SameFlow count (cond controlled Flow.NoWindow Flow.Free) (cond controlled none free)
+first_flow_lem true count = both_none
+first_flow_lem false count = both_free
 
 -- "The count that never wraps starts as the configured first sequence"
-pub fresh-agrees : (controlled : Bool) (first : FlowSequence) → first.0 < 2 ^ 32 → Agrees (freshMachine controlled first) (freshSimple controlled first)
-fresh-agrees controlled first small = record { sequence = sym (sequence-start first small); flow = first-flow controlled first.0; waiting = refl; status = refl; latest = refl }
+pub fresh_agrees : (controlled : Bool) (first : FlowSequence) → first.0 < 2 ^ 32 → Agrees (fresh_machine controlled first) (fresh_simple controlled first)
+fresh_agrees controlled first small = record { sequence = sym (sequence_start first small); flow = first_flow_lem controlled first.0; waiting = refl; status = refl; latest = refl }
 
 module _ (k : Terms) (first : FlowSequence) (small : first.0 < 2 ^ 32) (es : List Event) where
   -- demand 3: whatever is called, every answer is the simple channel's
-  pub same-history : history machine k es (freshMachine k.controlled first) ≡ history simple k es (freshSimple k.controlled first)
-  same-history = agrees-history k es _ _ (fresh-agrees k.controlled first small)
+  pub same_history : history machine k es (fresh_machine k.controlled first) ≡ history simple k es (fresh_simple k.controlled first)
+  same_history = agrees_history k es _ _ (fresh_agrees k.controlled first small)
 
   -- and where they end agrees: the sequence is the count's low 32 bits, the window stands for the number, what waits is what the ledger has waiting
-  pub same_end : Agrees (final machine k es (freshMachine k.controlled first)) (final simple k es (freshSimple k.controlled first))
-  same_end = agrees-final k es _ _ (fresh-agrees k.controlled first small)
+  pub same_end_lem : Agrees (final machine k es (fresh_machine k.controlled first)) (final simple k es (fresh_simple k.controlled first))
+  same_end_lem = agrees_final k es _ _ (fresh_agrees k.controlled first small)

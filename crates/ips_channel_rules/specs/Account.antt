@@ -5,46 +5,46 @@ use Rattle.meaning.specs.declared.message.Status.{Status}
 use Rattle.store.specs.Packets.{Packet}
 use Rattle.ips_channel_rules.specs.Rules.{offer, next, withdraw, taken, Tried, nothingWaiting, notOperational, windowShut, sent, emptied, refused, answered, Event, call, radio, Happened, called, heard}
 use Rattle.ips_channel_rules.specs.Simple as simples
-use Rattle.ips_channel_rules.specs.Simple.{Fate, Entry, isSent, isWaiting, having}
+use Rattle.ips_channel_rules.specs.Simple.{Fate, Entry, is_sent, is_waiting, having}
 
 -- ---- what the caller saw
 
 -- the packet of an offer, if it was taken
-abbrev pub tookBy : Happened → List Packet
-tookBy (called c (refused number)) = []
-tookBy (called (offer packet time) (answered taken)) = packet ∷ []
-tookBy (called (next time out) (answered says)) = []
-tookBy (called withdraw (answered emptied)) = []
-tookBy (heard status window) = []
+abbrev pub took_by : Happened → List Packet
+took_by (called c (refused number)) = []
+took_by (called (offer packet time) (answered taken)) = packet ∷ []
+took_by (called (next time out) (answered says)) = []
+took_by (called withdraw (answered emptied)) = []
+took_by (heard status window) = []
 
 -- "Every packet taken in", in the order they came
-abbrev pub takenIn : List Happened → List Packet
-takenIn [] = []
-takenIn (h ∷ hs) = tookBy h ++ takenIn hs
+abbrev pub taken_in : List Happened → List Packet
+taken_in [] = []
+taken_in (h ∷ hs) = took_by h ++ taken_in hs
 
 -- the packet that Next says was sent
-abbrev pub sentBy : Tried → List (List ℕ)
-sentBy nothingWaiting = []
-sentBy notOperational = []
-sentBy windowShut = []
-sentBy (sent bytes sequence) = bytes ∷ []
+abbrev pub sent_by : Tried → List (List ℕ)
+sent_by nothingWaiting = []
+sent_by notOperational = []
+sent_by windowShut = []
+sent_by (sent bytes sequence) = bytes ∷ []
 
 -- the packet of a call, if one was sent
-abbrev pub handedBy : Happened → List (List ℕ)
-handedBy (called c (refused number)) = []
-handedBy (called (offer packet time) (answered taken)) = []
-handedBy (called (next time out) (answered says)) = sentBy says
-handedBy (called withdraw (answered emptied)) = []
-handedBy (heard status window) = []
+abbrev pub handed_by : Happened → List (List ℕ)
+handed_by (called c (refused number)) = []
+handed_by (called (offer packet time) (answered taken)) = []
+handed_by (called (next time out) (answered says)) = sent_by says
+handed_by (called withdraw (answered emptied)) = []
+handed_by (heard status window) = []
 
 -- the packets handed over, in the order of the calls
-abbrev pub handedOver : List Happened → List (List ℕ)
-handedOver [] = []
-handedOver (h ∷ hs) = handedBy h ++ handedOver hs
+abbrev pub handed_over : List Happened → List (List ℕ)
+handed_over [] = []
+handed_over (h ∷ hs) = handed_by h ++ handed_over hs
 
-abbrev pub bytesOver : List (List ℕ) → ℕ
-bytesOver [] = 0
-bytesOver (p ∷ ps) = length p + bytesOver ps
+abbrev pub bytes_over : List (List ℕ) → ℕ
+bytes_over [] = 0
+bytes_over (p ∷ ps) = length p + bytes_over ps
 
 -- ---- the account
 
@@ -63,10 +63,10 @@ Fair latest (e ∷ es) = fairly latest e.packet.expiry e.fate × Fair latest es
 -- wait are the packets that wait
 pub record Account (took : List Packet) (handed : List (List ℕ)) (waiting : List Packet) (latest : ℕ) : Type 0 where
   pub ledger : List Entry
-  pub of-taken : map (λ (e : Entry). e.packet) ledger ≡ took
-  pub of-sent : map (λ (p : Packet). p.bytes) (having isSent ledger) ≡ handed
-  pub of-waiting : having isWaiting ledger ≡ waiting
-  pub of-time : Fair latest ledger
+  pub of_taken : map (λ (e : Entry). e.packet) ledger ≡ took
+  pub of_sent : map (λ (p : Packet). p.bytes) (having is_sent ledger) ≡ handed
+  pub of_waiting : having is_waiting ledger ≡ waiting
+  pub of_time : Fair latest ledger
 
 -- a later ledger: a packet that waited may have got its fate, a fate once given stays, packets may have come
 pub data Later : List Entry → List Entry → Type 0 where
@@ -84,10 +84,10 @@ NoRadio [] = Unit {0}
 NoRadio (e ∷ es) = is_call e × NoRadio es
 
 -- ---- from a silence to the next radio message that names the channel: its calls, and what leaves it not reported
-abbrev pub isQuiet : Event → Type 0
-isQuiet (call c) = Unit {0}
-isQuiet (radio status window) = status ≡ Status.Absent
+abbrev pub is_quiet : Event → Type 0
+is_quiet (call c) = Unit {0}
+is_quiet (radio status window) = status ≡ Status.Absent
 
 abbrev pub Quiet : List Event → Type 0
 Quiet [] = Unit {0}
-Quiet (e ∷ es) = isQuiet e × Quiet es
+Quiet (e ∷ es) = is_quiet e × Quiet es

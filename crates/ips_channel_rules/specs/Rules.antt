@@ -14,9 +14,9 @@ use Rattle.meaning.specs.declared.message.Channel.TheVariants as channels
 use Rattle.meaning.specs.declared.message.Expiration.TheVariants as expirations
 use Rattle.meaning.specs.declared.message.Data.{Data}
 use Rattle.meaning.specs.Statuses.{operational}
-use Rattle.writer.specs.Written.{dataWritten, noRoom}
+use Rattle.writer.specs.Written.{data_written, no_room_of}
 use Rattle.store.specs.Packets.{Packet}
-use Rattle.ipv6.specs.Ipv6.{isIpv6}
+use Rattle.ipv6.specs.Ipv6.{is_ipv6}
 
 -- ---- the calls on a channel, each with answers of its own
 
@@ -48,9 +48,9 @@ pub data Answer (A : Type 0) : Type 0 where
   answered : A → Answer A
 
 -- "changes no state and no lent byte": after a refusal what was there, else what the call leaves
-abbrev pub unlessRefused : {A B : Type 0} → Answer A → B → B → B
-unlessRefused (refused number) was is = was
-unlessRefused (answered says) was is = is
+abbrev pub unless_refused : {A B : Type 0} → Answer A → B → B → B
+unless_refused (refused number) was is = was
+unless_refused (answered says) was is = is
 
 -- ---- what a channel sees: its own calls, and a radio control message as what it states of the channel, its Channel Status and its Flow Window option
 pub data Event : Type 0 where
@@ -80,8 +80,8 @@ pub record Terms : Type 0 where
   pub longest : ℕ
 
 -- number 14: "above the smaller of 9,000 and the store's length"
-abbrev pub longestOn : Terms → ℕ
-longestOn k = cond (leb k.longest k.size) k.longest k.size
+abbrev pub longest_on : Terms → ℕ
+longest_on k = cond (leb k.longest k.size) k.longest k.size
 
 -- ---- what a channel is made of
 pub record ChannelParts : Type 1 where
@@ -119,17 +119,17 @@ pub record Result (P : ChannelParts) (A : Type 0) : Type 0 where
 -- ---- the message that Next hands over
 
 -- a data message's Flow Sequence names the channel
-abbrev pub countedOn : ℕ → Sequence → Counted
-countedOn id Sequence.Absent = Counted.Absent
-countedOn id (Sequence.Given s) = Counted.Given id s
+abbrev pub counted_on : ℕ → Sequence → Counted
+counted_on id Sequence.Absent = Counted.Absent
+counted_on id (Sequence.Given s) = Counted.Given id s
 
 -- "The message has, in the writer's order, Datalink Identifier, Flow Sequence if a window is in force, Channel Identifier, Packet Data."
-abbrev pub messageOf : Terms → Sequence → Data
-messageOf k sequence =
-    record { datalink = Datalink.Given k.datalink; sequence = countedOn k.id sequence; channel = channels.Given k.id; expiration = expirations.Absent }
+abbrev pub message_of : Terms → Sequence → Data
+message_of k sequence =
+    record { datalink = Datalink.Given k.datalink; sequence = counted_on k.id sequence; channel = channels.Given k.id; expiration = expirations.Absent }
 
-unfoldable pub messageBytes : Terms → Sequence → List ℕ → List ℕ
-messageBytes k sequence packet = dataWritten (messageOf k sequence) packet
+unfoldable pub message_bytes : Terms → Sequence → List ℕ → List ℕ
+message_bytes k sequence packet = data_written (message_of k sequence) packet
 
 -- ---- the rules
 module _ (P : ChannelParts) where
@@ -148,9 +148,9 @@ module _ (P : ChannelParts) where
   module _ (k : Terms) where
     -- "offering a packet: 12, 13, 14, 15, 16, 17". "Before an accepted Offer or Next does its work, every packet of that channel whose expiry is at or before
     -- the time given is expired .. Numbers 17 and 18 are judged after that; if given, nothing has expired."
-    unfoldable pub offerAt : Packet → (time : ℕ) → Condition P → Result P Taken
-    offerAt p time st =
-        cond (not (isIpv6 p.bytes)) (refusal NOT-IPV6 st)
+    unfoldable pub offer_at : Packet → (time : ℕ) → Condition P → Result P Taken
+    offer_at p time st =
+        cond (not (is_ipv6 p.bytes)) (refusal NOT-IPV6 st)
         (cond (ltb (P.longest k) (length p.bytes)) (refusal LONG-PACKET st)
         (cond (ltb time st.latest) (refusal EARLIER-TIME st)
         (cond (leb p.expiry time) (refusal EXPIRY-PAST st)
@@ -160,36 +160,36 @@ module _ (P : ChannelParts) where
     -- "a data message with the first waiting packet, if the status is 1 to 7 and the channel is free or the packet fits the window. The answers otherwise, tried
     -- in this order: nothing waiting, not operational, window shut. .. Only the first waiting packet is tried." Document 02: "Whether a status is operational now
     -- depends on that setting, and all who ask must pass it."
-    unfoldable pub tryFirst : (waiting : List Packet) (time room : ℕ) → Condition P → Result P Tried
-    tryFirst [] time room st = left nothingWaiting st.counting (P.expire time st.keeping) time st
-    tryFirst (p ∷ ps) time room st =
+    unfoldable pub try_first : (waiting : List Packet) (time room : ℕ) → Condition P → Result P Tried
+    try_first [] time room st = left nothingWaiting st.counting (P.expire time st.keeping) time st
+    try_first (p ∷ ps) time room st =
         cond (not (operational k.codes st.status)) (left notOperational st.counting (P.expire time st.keeping) time st)
         (cond (not (P.fits st.counting (record { 0 = length p.bytes }))) (left windowShut st.counting (P.expire time st.keeping) time st)
-        (cond (noRoom (length (messageBytes k (P.carried (grown p.bytes st)) p.bytes)) room) (refusal NO-ROOM st)
+        (cond (no_room_of (length (message_bytes k (P.carried (grown p.bytes st)) p.bytes)) room) (refusal NO-ROOM st)
         (left (sent p.bytes (P.carried (grown p.bytes st))) (grown p.bytes st) (P.send (P.expire time st.keeping)) time st)))
 
     -- "Asking for the next: 12, 15, 18."
     unfoldable pub next_at : (time room : ℕ) → Condition P → Result P Tried
-    next_at time room st = cond (ltb time st.latest) (refusal EARLIER-TIME st) (tryFirst (P.waiting (P.expire time st.keeping)) time room st)
+    next_at time room st = cond (ltb time st.latest) (refusal EARLIER-TIME st) (try_first (P.waiting (P.expire time st.keeping)) time room st)
 
     -- "Withdraw: all packets waiting on the channel are withdrawn."
-    unfoldable pub withdrawAt : Condition P → Result P Emptied
-    withdrawAt st = left emptied st.counting (P.clear st.keeping) st.latest st
+    unfoldable pub withdraw_at : Condition P → Result P Emptied
+    withdraw_at st = left emptied st.counting (P.clear st.keeping) st.latest st
 
     -- "a configured channel that it names takes its Status; one that it doesn't name is not reported. For each flow-controlled channel: .."; "Plain channels are
     -- always free."
-    unfoldable pub radioAt : Status → Window → Condition P → Condition P
-    radioAt status window st =
+    unfoldable pub radio_at : Status → Window → Condition P → Condition P
+    radio_at status window st =
         record { counting = cond k.controlled (P.hear window st.counting) st.counting; keeping = st.keeping; status = status; latest = st.latest }
 
     abbrev pub call_at : (c : ChannelCall) → Condition P → Result P (Says c)
-    call_at (offer packet time) st = offerAt packet time st
+    call_at (offer packet time) st = offer_at packet time st
     call_at (next time out) st = next_at time (length out) st
-    call_at withdraw st = withdrawAt st
+    call_at withdraw st = withdraw_at st
 
     abbrev pub step : Event → Condition P → Condition P
     step (call c) st = (call_at c st).condition
-    step (radio status window) st = radioAt status window st
+    step (radio status window) st = radio_at status window st
 
     abbrev pub happens : Event → Condition P → Happened
     happens (call c) st = called c (call_at c st).answer

@@ -3,12 +3,12 @@
 use Rattle.std.specs.Prelude.{ℕ, ◌+◌, Bool, true, false, cond, List, [], ◌∷◌, ◌++◌, map, ℤ, pos}
 use Rattle.std.specs.Int.Signed.{le_z}
 use Rattle.quantity.specs.declared.count.FlowSequence.{FlowSequence}
-use Rattle.quantity.specs.Window.{sequenceAt, standingAt}
+use Rattle.quantity.specs.Window.{sequence_at, standing_at}
 use Rattle.meaning.specs.declared.message.Status.TheVariants as statuses
 use Rattle.meaning.specs.declared.message.Sequence.{Sequence}
 use Rattle.meaning.specs.declared.message.Window.{Window}
-use Rattle.store.specs.Packets.{Packet, lastsAt, isFull}
-use Rattle.ips_channel_rules.specs.Rules.{ChannelParts, Condition, longestOn}
+use Rattle.store.specs.Packets.{Packet, lasts_at, is_full}
+use Rattle.ips_channel_rules.specs.Rules.{ChannelParts, Condition, longest_on}
 
 -- ---- counting
 
@@ -22,28 +22,28 @@ pub record Counter : Type 0 where
   pub limit : Limit
 
 -- "no packet goes past it"
-abbrev pub fitsBelow : ℕ → Limit → ℕ → Bool
-fitsBelow count free n = true
-fitsBelow count none n = false
-fitsBelow count (up_to number) n = le_z (pos (count + n)) number
+abbrev pub fits_below : ℕ → Limit → ℕ → Bool
+fits_below count free n = true
+fits_below count none n = false
+fits_below count (up_to number) n = le_z (pos (count + n)) number
 
 -- "The count that never wraps .. grows by n where the sequence does"
-abbrev pub countOn : ℕ → Limit → ℕ → ℕ
-countOn count free n = count
-countOn count none n = count
-countOn count (up_to number) n = count + n
+abbrev pub count_on : ℕ → Limit → ℕ → ℕ
+count_on count free n = count
+count_on count none n = count
+count_on count (up_to number) n = count + n
 
 -- the message carries the count's low 32 bits
-abbrev pub carriedAt : ℕ → Limit → Sequence
-carriedAt count free = Sequence.Absent
-carriedAt count none = Sequence.Absent
-carriedAt count (up_to number) = Sequence.Given (sequenceAt count)
+abbrev pub carried_at : ℕ → Limit → Sequence
+carried_at count free = Sequence.Absent
+carried_at count none = Sequence.Absent
+carried_at count (up_to number) = Sequence.Given (sequence_at count)
 
 -- "the number a window stands for is fixed when the window arrives"
-abbrev pub limitAt : ℕ → Window → Limit
-limitAt count Window.Absent = free
-limitAt count Window.Empty = none
-limitAt count (Window.Given window) = up_to (standingAt count window)
+abbrev pub limit_at : ℕ → Window → Limit
+limit_at count Window.Absent = free
+limit_at count Window.Empty = none
+limit_at count (Window.Given window) = up_to (standing_at count window)
 
 -- ---- keeping packets
 pub data Fate : Type 0 where
@@ -53,17 +53,17 @@ pub record Entry : Type 0 where
   pub packet : Packet
   pub fate : Fate
 
-abbrev pub isWaiting : Fate → Bool
-isWaiting waits = true
-isWaiting sent = false
-isWaiting expired = false
-isWaiting withdrawn = false
+abbrev pub is_waiting : Fate → Bool
+is_waiting waits = true
+is_waiting sent = false
+is_waiting expired = false
+is_waiting withdrawn = false
 
-abbrev pub isSent : Fate → Bool
-isSent waits = false
-isSent sent = true
-isSent expired = false
-isSent withdrawn = false
+abbrev pub is_sent : Fate → Bool
+is_sent waits = false
+is_sent sent = true
+is_sent expired = false
+is_sent withdrawn = false
 
 -- the packets of a ledger whose fate is so, in the order they came
 abbrev pub having : (Fate → Bool) → List Entry → List Packet
@@ -71,29 +71,29 @@ having test [] = []
 having test (e ∷ es) = cond (test e.fate) (e.packet ∷ having test es) (having test es)
 
 -- a packet that waits gets a fate; one that has its fate keeps it
-abbrev pub fateBecomes : Fate → Fate → Fate
-fateBecomes new waits = new
-fateBecomes new sent = sent
-fateBecomes new expired = expired
-fateBecomes new withdrawn = withdrawn
+abbrev pub fate_becomes : Fate → Fate → Fate
+fate_becomes new waits = new
+fate_becomes new sent = sent
+fate_becomes new expired = expired
+fate_becomes new withdrawn = withdrawn
 
 abbrev pub become : (Packet → Fate) → Entry → Entry
-become new e = record { packet = e.packet; fate = fateBecomes (new e.packet) e.fate }
+become new e = record { packet = e.packet; fate = fate_becomes (new e.packet) e.fate }
 
 -- "every packet of that channel whose expiry is at or before the time given is expired, wherever it waits"
 abbrev pub due : ℕ → Packet → Fate
-due time p = cond (lastsAt time p.expiry) waits expired
+due time p = cond (lasts_at time p.expiry) waits expired
 
 -- the first that waits is sent
-abbrev pub sendOr : Fate → Packet → (rest sentRest : List Entry) → List Entry
-sendOr waits p rest sentRest = record { packet = p; fate = sent } ∷ rest
-sendOr sent p rest sentRest = record { packet = p; fate = sent } ∷ sentRest
-sendOr expired p rest sentRest = record { packet = p; fate = expired } ∷ sentRest
-sendOr withdrawn p rest sentRest = record { packet = p; fate = withdrawn } ∷ sentRest
+abbrev pub send_or : Fate → Packet → (rest sentRest : List Entry) → List Entry
+send_or waits p rest sentRest = record { packet = p; fate = sent } ∷ rest
+send_or sent p rest sentRest = record { packet = p; fate = sent } ∷ sentRest
+send_or expired p rest sentRest = record { packet = p; fate = expired } ∷ sentRest
+send_or withdrawn p rest sentRest = record { packet = p; fate = withdrawn } ∷ sentRest
 
-abbrev pub sendFirst : List Entry → List Entry
-sendFirst [] = []
-sendFirst (e ∷ es) = sendOr e.fate e.packet es (sendFirst es)
+abbrev pub send_first : List Entry → List Entry
+send_first [] = []
+send_first (e ∷ es) = send_or e.fate e.packet es (send_first es)
 
 -- ---- the parts, and a fresh start
 abbrev pub simple : ChannelParts
@@ -101,19 +101,19 @@ simple =
     record {
       Counting = Counter;
       Keeping = List Entry;
-      fits = λ x bytes. fitsBelow x.count x.limit bytes.0;
-      grow = λ bytes x. record { count = countOn x.count x.limit bytes.0; limit = x.limit };
-      carried = λ x. carriedAt x.count x.limit;
-      hear = λ window x. record { count = x.count; limit = limitAt x.count window };
-      waiting = having isWaiting;
+      fits = λ x bytes. fits_below x.count x.limit bytes.0;
+      grow = λ bytes x. record { count = count_on x.count x.limit bytes.0; limit = x.limit };
+      carried = λ x. carried_at x.count x.limit;
+      hear = λ window x. record { count = x.count; limit = limit_at x.count window };
+      waiting = having is_waiting;
       expire = λ time. map (become (due time));
       join = λ p ledger. ledger ++ (record { packet = p; fate = waits } ∷ []);
-      send = sendFirst;
+      send = send_first;
       clear = map (become (λ p. withdrawn));
-      longest = longestOn;
-      full = λ k ledger p. isFull k.size (having isWaiting ledger) p;
+      longest = longest_on;
+      full = λ k ledger p. is_full k.size (having is_waiting ledger) p;
     }
 
 -- "Plain channels are always free. Fresh flow-controlled channels have no window."; the count "starts as the configured first sequence"
-abbrev pub freshSimple : Bool → FlowSequence → Condition simple
-freshSimple controlled first = record { counting = record { count = first.0; limit = cond controlled none free }; keeping = []; status = statuses.Absent; latest = 0 }
+abbrev pub fresh_simple : Bool → FlowSequence → Condition simple
+fresh_simple controlled first = record { counting = record { count = first.0; limit = cond controlled none free }; keeping = []; status = statuses.Absent; latest = 0 }

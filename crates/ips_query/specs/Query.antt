@@ -14,20 +14,20 @@ use Rattle.ips_channel.specs.declared.state.Channel.{Channel}
 use Rattle.ips_state.specs.State.{State}
 
 -- the Flow Sequence of a Channel ID: that of the flow-controlled channel that has it
-unfoldable pub sequenceFor : ℕ → List Channel → Sequence
-sequenceFor id [] = Sequence.Absent
-sequenceFor id (c ∷ cs) = cond (c.setting.controlled && eqb c.setting.id id) (Sequence.Given c.sequence) (sequenceFor id cs)
+unfoldable pub sequence_for : ℕ → List Channel → Sequence
+sequence_for id [] = Sequence.Absent
+sequence_for id (c ∷ cs) = cond (c.setting.controlled && eqb c.setting.id id) (Sequence.Given c.sequence) (sequence_for id cs)
 
-unfoldable pub sequencesOf : List Channel → List SequenceCell
-sequencesOf cs = tabulate CHANNEL-IDS (λ id. record { sequence = sequenceFor id cs })
+unfoldable pub sequences_of : List Channel → List SequenceCell
+sequences_of cs = tabulate CHANNEL-IDS (λ id. record { sequence = sequence_for id cs })
 
-unfoldable pub queryOf : State → Control
-queryOf s =
+unfoldable pub query_of : State → Control
+query_of s =
     record {
       datalink = Datalink.Given s.datalink.id;
       instance = instances.Absent;
       context = contexts.Absent;
       statuses = replicate CHANNEL-IDS (record { status = statuses.Absent });
-      sequences = sequencesOf s.channels;
+      sequences = sequences_of s.channels;
       windows = replicate CHANNEL-IDS (record { window = windows.Absent });
     }

@@ -4,170 +4,170 @@ use mathlib.Core.Path.{◌≡◌, refl, ap, ◌∙◌}
 use mathlib.Core.List.{List, [], ◌∷◌, map, map-map}
 use mathlib.Core.Bool.{Bool, true, false, cond, and-eq-true_iff}
 use lib.ListN.{length, take, length-map}
-use Rattle.facts.proofs.Tables.{each-place}
+use Rattle.facts.proofs.Tables.{each_place}
 use Rattle.meaning.specs.declared.message.End.TheVariants as ends
 use Rattle.meaning.specs.declared.message.Instance.{Instance}
 use Rattle.meaning.specs.declared.message.Status.{Status}
 use Rattle.meaning.specs.declared.message.Window.{Window}
 use Rattle.meaning.specs.declared.message.StatusCell.{StatusCell}
 use Rattle.meaning.specs.declared.message.Control.{Control}
-use Rattle.meaning.specs.Cells.{noStatus}
-use Rattle.writable.specs.Allowed.{instanceAllowed, contextAllowed, statusAllowed, statusesAllowed}
+use Rattle.meaning.specs.Cells.{no_status}
+use Rattle.writable.specs.Allowed.{instance_allowed, context_allowed, status_allowed, statuses_allowed}
 use Rattle.flow.specs.declared.Flow.{Flow}
-use Rattle.flow.specs.Counting.{flowAfter}
+use Rattle.flow.specs.Counting.{flow_after}
 use Rattle.ips_channel.specs.declared.state.Channel.{Channel}
-use Rattle.ips_channel.specs.Channel.{heardOf}
-use Rattle.ips_state.specs.State.{State, channelAt, noChannel}
-use Rattle.ips_state.specs.Limits.{flowFits, channelFits, allFitUnder, all_fit, ids, namesFit, stateFits, sizes}
+use Rattle.ips_channel.specs.Channel.{heard_of}
+use Rattle.ips_state.specs.State.{State, channel_at, no_channel}
+use Rattle.ips_state.specs.Limits.{flow_fits, channel_fits, all_fit_under, all_fit, ids, names_fit, state_fits, sizes}
 use Rattle.ips_state.specs.Memory.{start_of}
-use Rattle.ips_radio.specs.Heard.{statusIn, windowIn, keptInstance, heardFrom, heardBy, silenced, silencedBy}
-use Rattle.ips_state.proofs.Channels.{getD-mapped, fitting, fitting-fits}
-use Rattle.ips_state.proofs.Places.{fit, fit-fits}
+use Rattle.ips_radio.specs.Heard.{status_in, window_in, kept_instance, heard_from, heard_by, silenced, silenced_by}
+use Rattle.ips_state.proofs.Channels.{get_d_mapped, fitting, fitting_fits}
+use Rattle.ips_state.proofs.Places.{fit, fit_fits}
 
-pub take-map : {A B : Type 0} (f : A → B) (n : ℕ) (xs : List A) → take n (map f xs) ≡ map f (take n xs)
-take-map f zero xs = refl
-take-map f (suc n) [] = refl
-take-map {B = B} f (suc n) (x ∷ xs) = ap (λ (ys : List B). f x ∷ ys) (take-map f n xs)
+pub take_map : {A B : Type 0} (f : A → B) (n : ℕ) (xs : List A) → take n (map f xs) ≡ map f (take n xs)
+take_map f zero xs = refl
+take_map f (suc n) [] = refl
+take_map {B = B} f (suc n) (x ∷ xs) = ap (λ (ys : List B). f x ∷ ys) (take_map f n xs)
 
 -- ---- what the message changes in a channel, and in a state
-flow-heard : (controlled : Bool) (flow : Flow) (window : Window) → flowFits controlled flow ≡ true → flowFits controlled (cond controlled (flowAfter window) flow) ≡ true
-flow-heard true flow window h = refl
-flow-heard false flow window h = h
+flow_heard_lem : (controlled : Bool) (flow : Flow) (window : Window) → flow_fits controlled flow ≡ true → flow_fits controlled (cond controlled (flow_after window) flow) ≡ true
+flow_heard_lem true flow window h = refl
+flow_heard_lem false flow window h = h
 
-instance-kept : (before given : Instance) → instanceAllowed ends.Radio before ≡ true → instanceAllowed ends.Radio given ≡ true → instanceAllowed ends.Radio (keptInstance before given) ≡ true
-instance-kept before Instance.Absent e d = e
-instance-kept before (Instance.Given id n) e d = d
+instance_kept : (before given : Instance) → instance_allowed ends.Radio before ≡ true → instance_allowed ends.Radio given ≡ true → instance_allowed ends.Radio (kept_instance before given) ≡ true
+instance_kept before Instance.Absent e d = e
+instance_kept before (Instance.Given id n) e d = d
 
 -- ---- every channel is told something by its Channel ID: a Channel Status and a Flow Window, or their absence
 module _ (status : ℕ → Status) (window : ℕ → Window) where
   abbrev told : Channel → Channel
-  told c = heardOf c (status c.setting.id) (window c.setting.id)
+  told c = heard_of c (status c.setting.id) (window c.setting.id)
 
-  sizes-told : (cs : List Channel) → sizes (map told cs) ≡ sizes cs
-  unfolding sizes heardOf
-  sizes-told [] = refl
-  sizes-told (c ∷ cs) = rw (sizes-told cs)
+  sizes_told : (cs : List Channel) → sizes (map told cs) ≡ sizes cs
+  unfolding sizes heard_of
+  sizes_told [] = refl
+  sizes_told (c ∷ cs) = rw (sizes_told cs)
 
-  starts-told : (index : ℕ) (cs : List Channel) → sizes (take index (map told cs)) ≡ sizes (take index cs)
-  starts-told index cs = rw (take-map told index cs) (sizes-told (take index cs))
+  starts_told : (index : ℕ) (cs : List Channel) → sizes (take index (map told cs)) ≡ sizes (take index cs)
+  starts_told index cs = rw (take_map told index cs) (sizes_told (take index cs))
 
-  ids-told : (cs : List Channel) → ids (map told cs) ≡ ids cs
-  unfolding ids heardOf
-  ids-told cs = rw map-map
+  ids_told : (cs : List Channel) → ids (map told cs) ≡ ids cs
+  unfolding ids heard_of
+  ids_told cs = rw map-map
 
-  module _ (allowed : (id : ℕ) → statusAllowed ends.Radio (status id) ≡ true) where
-    fits_told : (c : Channel) → channelFits c ≡ true → channelFits (told c) ≡ true
-    unfolding heardOf
+  module _ (allowed : (id : ℕ) → status_allowed ends.Radio (status id) ≡ true) where
+    fits_told : (c : Channel) → channel_fits c ≡ true → channel_fits (told c) ≡ true
+    unfolding heard_of
     fits_told c fits =
         let f = fitting c fits in
-        fitting-fits (told c) (record {
+        fitting_fits (told c) (record {
           unreserved = f.unreserved;
           smallest = f.smallest;
           largest = f.largest;
-          status-allowed = allowed c.setting.id;
-          flow-fits = flow-heard c.setting.controlled c.flow (window c.setting.id) f.flow-fits;
-          well-formed = f.well-formed;
+          status_allowed_lem = allowed c.setting.id;
+          flow_fits_lem = flow_heard_lem c.setting.controlled c.flow (window c.setting.id) f.flow_fits_lem;
+          well_formed_lem = f.well_formed_lem;
         })
 
     all_told : (cs : List Channel) → all_fit cs ≡ true → all_fit (map told cs) ≡ true
-    unfolding allFitUnder
+    unfolding all_fit_under
     all_told [] fits = refl
-    all_told (c ∷ cs) fits = let parts = (and-eq-true_iff (channelFits c) (all_fit cs)).0 fits in rw (fits_told c parts.0, all_told cs parts.1)
+    all_told (c ∷ cs) fits = let parts = (and-eq-true_iff (channel_fits c) (all_fit cs)).0 fits in rw (fits_told c parts.0, all_told cs parts.1)
 
 -- ---- a radio message
-pub status-heard : (message : Control) → statusesAllowed ends.Radio message.statuses ≡ true → (id : ℕ) → statusAllowed ends.Radio (statusIn message id) ≡ true
-unfolding statusesAllowed
-status-heard message allowed id =
-    each-place (statusesAllowed ends.Radio) (λ (cell : StatusCell). statusAllowed ends.Radio cell.status) noStatus (λ cell cells. refl) refl message.statuses allowed id
+pub status_heard_lem : (message : Control) → statuses_allowed ends.Radio message.statuses ≡ true → (id : ℕ) → status_allowed ends.Radio (status_in message id) ≡ true
+unfolding statuses_allowed
+status_heard_lem message allowed id =
+    each_place (statuses_allowed ends.Radio) (λ (cell : StatusCell). status_allowed ends.Radio cell.status) no_status (λ cell cells. refl) refl message.statuses allowed id
 
 module _ (message : Control) (s : State) where
-  pub heard-count : length (heardBy message s).channels ≡ length s.channels
-  unfolding heardBy
-  heard-count = length-map s.channels (heardFrom message)
+  pub heard_count : length (heard_by message s).channels ≡ length s.channels
+  unfolding heard_by
+  heard_count = length-map s.channels (heard_from message)
 
-  pub heard-ids : ids (heardBy message s).channels ≡ ids s.channels
-  unfolding heardBy heardFrom
-  heard-ids = ids-told (statusIn message) (windowIn message) s.channels
+  pub heard_ids : ids (heard_by message s).channels ≡ ids s.channels
+  unfolding heard_by heard_from
+  heard_ids = ids_told (status_in message) (window_in message) s.channels
 
-  pub heard-sizes : sizes (heardBy message s).channels ≡ sizes s.channels
-  unfolding heardBy heardFrom
-  heard-sizes = sizes-told (statusIn message) (windowIn message) s.channels
+  pub heard_sizes : sizes (heard_by message s).channels ≡ sizes s.channels
+  unfolding heard_by heard_from
+  heard_sizes = sizes_told (status_in message) (window_in message) s.channels
 
-  pub heard-start : (index : ℕ) → start_of (heardBy message s) index ≡ start_of s index
-  unfolding start_of heardBy heardFrom
-  heard-start index = starts-told (statusIn message) (windowIn message) index s.channels
+  pub heard_start : (index : ℕ) → start_of (heard_by message s) index ≡ start_of s index
+  unfolding start_of heard_by heard_from
+  heard_start index = starts_told (status_in message) (window_in message) index s.channels
 
   -- a state within the limits stays within them, where the message states what the radio may state
-  pub heard-fits : stateFits s ≡ true → statusesAllowed ends.Radio message.statuses ≡ true → instanceAllowed ends.Radio message.instance ≡ true
-      → contextAllowed ends.Radio message.context ≡ true → stateFits (heardBy message s) ≡ true
-  unfolding heardBy heardFrom namesFit
-  heard-fits fits statuses instance context =
+  pub heard_fits : state_fits s ≡ true → statuses_allowed ends.Radio message.statuses ≡ true → instance_allowed ends.Radio message.instance ≡ true
+      → context_allowed ends.Radio message.context ≡ true → state_fits (heard_by message s) ≡ true
+  unfolding heard_by heard_from names_fit
+  heard_fits fits statuses instance context =
       let f = fit s fits in
-      let names = (and-eq-true_iff (instanceAllowed ends.Radio s.instance) (contextAllowed ends.Radio s.context)).0 f.names in
-      fit-fits (heardBy message s) (record {
-        some = rw heard-count f.some;
-        few = rw heard-count f.few;
-        names = rw (instance-kept s.instance message.instance names.0 instance, context);
+      let names = (and-eq-true_iff (instance_allowed ends.Radio s.instance) (context_allowed ends.Radio s.context)).0 f.names in
+      fit_fits (heard_by message s) (record {
+        some = rw heard_count f.some;
+        few = rw heard_count f.few;
+        names = rw (instance_kept s.instance message.instance names.0 instance, context);
         waits = f.waits;
-        each = all_told (statusIn message) (windowIn message) (status-heard message statuses) s.channels f.each;
-        apart = rw heard-ids f.apart;
-        primary = rw heard-ids f.primary;
+        each = all_told (status_in message) (window_in message) (status_heard_lem message statuses) s.channels f.each;
+        apart = rw heard_ids f.apart;
+        primary = rw heard_ids f.primary;
       })
 
   module _ (index : ℕ) (inside : index < length s.channels) where
-    pub heard-at : channelAt (heardBy message s) index ≡ heardFrom message (channelAt s index)
-    unfolding channelAt heardBy
-    heard-at = getD-mapped (heardFrom message) s.channels index noChannel noChannel inside
+    pub heard_at_lem : channel_at (heard_by message s) index ≡ heard_from message (channel_at s index)
+    unfolding channel_at heard_by
+    heard_at_lem = get_d_mapped (heard_from message) s.channels index no_channel no_channel inside
 
-    pub heard-status : (channelAt (heardBy message s) index).status ≡ statusIn message (channelAt s index).setting.id
-    unfolding heardFrom heardOf
-    heard-status = rw heard-at
+    pub heard_status : (channel_at (heard_by message s) index).status ≡ status_in message (channel_at s index).setting.id
+    unfolding heard_from heard_of
+    heard_status = rw heard_at_lem
 
     -- a configured channel that the message doesn't name
-    pub heard-unnamed : statusIn message (channelAt s index).setting.id ≡ Status.Absent → (channelAt (heardBy message s) index).status ≡ Status.Absent
-    heard-unnamed absent = heard-status ∙ absent
+    pub heard_unnamed : status_in message (channel_at s index).setting.id ≡ Status.Absent → (channel_at (heard_by message s) index).status ≡ Status.Absent
+    heard_unnamed absent = heard_status ∙ absent
 
-    pub heard-plain : (channelAt s index).setting.controlled ≡ false → (channelAt (heardBy message s) index).flow ≡ (channelAt s index).flow
-    unfolding heardFrom heardOf
-    heard-plain plain = rw (heard-at, plain)
+    pub heard_plain : (channel_at s index).setting.controlled ≡ false → (channel_at (heard_by message s) index).flow ≡ (channel_at s index).flow
+    unfolding heard_from heard_of
+    heard_plain plain = rw (heard_at_lem, plain)
 
-    pub heard-flow : (channelAt s index).setting.controlled ≡ true → (channelAt (heardBy message s) index).flow ≡ flowAfter (windowIn message (channelAt s index).setting.id)
-    unfolding heardFrom heardOf
-    heard-flow controlled = rw (heard-at, controlled)
+    pub heard_flow : (channel_at s index).setting.controlled ≡ true → (channel_at (heard_by message s) index).flow ≡ flow_after (window_in message (channel_at s index).setting.id)
+    unfolding heard_from heard_of
+    heard_flow controlled = rw (heard_at_lem, controlled)
 
 -- ---- a silence
 module _ (s : State) where
-  pub silenced-count : length (silencedBy s).channels ≡ length s.channels
-  unfolding silencedBy
-  silenced-count = length-map s.channels silenced
+  pub silenced_count : length (silenced_by s).channels ≡ length s.channels
+  unfolding silenced_by
+  silenced_count = length-map s.channels silenced
 
-  silenced-ids : ids (silencedBy s).channels ≡ ids s.channels
-  unfolding silencedBy silenced
-  silenced-ids = ids-told (λ id. Status.Absent) (λ id. Window.Empty) s.channels
+  silenced_ids : ids (silenced_by s).channels ≡ ids s.channels
+  unfolding silenced_by silenced
+  silenced_ids = ids_told (λ id. Status.Absent) (λ id. Window.Empty) s.channels
 
-  pub silenced-sizes : sizes (silencedBy s).channels ≡ sizes s.channels
-  unfolding silencedBy silenced
-  silenced-sizes = sizes-told (λ id. Status.Absent) (λ id. Window.Empty) s.channels
+  pub silenced_sizes : sizes (silenced_by s).channels ≡ sizes s.channels
+  unfolding silenced_by silenced
+  silenced_sizes = sizes_told (λ id. Status.Absent) (λ id. Window.Empty) s.channels
 
-  pub silenced-start : (index : ℕ) → start_of (silencedBy s) index ≡ start_of s index
-  unfolding start_of silencedBy silenced
-  silenced-start index = starts-told (λ id. Status.Absent) (λ id. Window.Empty) index s.channels
+  pub silenced_start : (index : ℕ) → start_of (silenced_by s) index ≡ start_of s index
+  unfolding start_of silenced_by silenced
+  silenced_start index = starts_told (λ id. Status.Absent) (λ id. Window.Empty) index s.channels
 
-  pub silenced-fits : stateFits s ≡ true → stateFits (silencedBy s) ≡ true
-  unfolding silencedBy silenced namesFit
-  silenced-fits fits =
+  pub silenced_fits : state_fits s ≡ true → state_fits (silenced_by s) ≡ true
+  unfolding silenced_by silenced names_fit
+  silenced_fits fits =
       let f = fit s fits in
-      fit-fits (silencedBy s) (record {
-        some = rw silenced-count f.some;
-        few = rw silenced-count f.few;
+      fit_fits (silenced_by s) (record {
+        some = rw silenced_count f.some;
+        few = rw silenced_count f.few;
         names = f.names;
         waits = f.waits;
         each = all_told (λ id. Status.Absent) (λ id. Window.Empty) (λ id. refl) s.channels f.each;
-        apart = rw silenced-ids f.apart;
-        primary = rw silenced-ids f.primary;
+        apart = rw silenced_ids f.apart;
+        primary = rw silenced_ids f.primary;
       })
 
   module _ (index : ℕ) (inside : index < length s.channels) where
-    pub silenced-at : channelAt (silencedBy s) index ≡ silenced (channelAt s index)
-    unfolding channelAt silencedBy
-    silenced-at = getD-mapped silenced s.channels index noChannel noChannel inside
+    pub silenced_at : channel_at (silenced_by s) index ≡ silenced (channel_at s index)
+    unfolding channel_at silenced_by
+    silenced_at = get_d_mapped silenced s.channels index no_channel no_channel inside

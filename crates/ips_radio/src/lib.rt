@@ -1,6 +1,6 @@
 // The radio's answers. What an accepted radio control message makes of a state is told by specs; code hears it in lent words.
 ghost use Rattle.std.specs.Prelude.{◌≡◌};
-ghost use Rattle.ips_radio.specs.Heard.{dueOf};
+ghost use Rattle.ips_radio.specs.Heard.{due_of};
 
 use meaning::message::Context;
 use quantity::refusal::Refusal;
@@ -15,7 +15,7 @@ pub enum RadioAnswer {
 
 // Whether a mobility message is due: a Context came, and the control message just before had none, or another in length or bytes.
 pub fn is_due(kept: Context, given: Context) -> bool
-    ensures { result ≡ dueOf kept given }
+    ensures { result ≡ due_of kept given }
 {
     let Context::Given(bytes, length) = given else {
         return false;

@@ -5,22 +5,22 @@ use mathlib.Core.Path.{◌≡◌, refl}
 use native.Mathlib.Omega.{arith}
 use lib.ListN.{length}
 use Rattle.ips_channel_rules.specs.Rules.{ChannelCall, Says}
-use Rattle.ips_state.specs.Limits.{stateFits}
-use Rattle.ips_state.specs.Memory.{memoryFits, World, worldFits, indexIn}
+use Rattle.ips_state.specs.Limits.{state_fits}
+use Rattle.ips_state.specs.Memory.{memory_fits, World, world_fits, index_in}
 use Rattle.ips_state.proofs.Places.{found}
 use Rattle.ips_run.specs.Calling.{WorldResult, Judged, outside, unknown, served}
 use Rattle.ips_run.specs.Demand.{InOrder}
-use Rattle.ips_run.proofs.Serving.{served-order}
+use Rattle.ips_run.proofs.Serving.{served_order}
 
-pub in_order : (w : World) → worldFits w ≡ true → InOrder (length w.state.channels) w
+pub in_order : (w : World) → world_fits w ≡ true → InOrder (length w.state.channels) w
 in_order w fits =
-    let parts = (and-eq-true_iff (stateFits w.state) (memoryFits w.state w.memory)).0 fits in
-    record { counted = refl; state-fits = parts.0; memory-fits = parts.1 }
+    let parts = (and-eq-true_iff (state_fits w.state) (memory_fits w.state w.memory)).0 fits in
+    record { counted = refl; state_fits_lem = parts.0; memory_fits_lem = parts.1 }
 
-pub order-fits : {count : ℕ} {w : World} → InOrder count w → worldFits w ≡ true
-order-fits o = rw (o.state-fits, o.memory-fits)
+pub order_fits : {count : ℕ} {w : World} → InOrder count w → world_fits w ≡ true
+order_fits o = rw (o.state_fits_lem, o.memory_fits_lem)
 
-pub called-order : (count : ℕ) (w : World) → InOrder count w → (id : ℕ) (c : ChannelCall) {r : WorldResult (Says c)} → Judged id c w r → InOrder count r.world
-called-order count w o id c (outside f) = o
-called-order count w o id c (unknown f g) = o
-called-order count w o id c (served f g) = served-order count w o (indexIn w id) (omega (arith, (found w.state id g).0, o.counted)) c
+pub called_order : (count : ℕ) (w : World) → InOrder count w → (id : ℕ) (c : ChannelCall) {r : WorldResult (Says c)} → Judged id c w r → InOrder count r.world
+called_order count w o id c (outside f) = o
+called_order count w o id c (unknown f g) = o
+called_order count w o id c (served f g) = served_order count w o (index_in w id) (omega (arith, (found w.state id g).0, o.counted)) c

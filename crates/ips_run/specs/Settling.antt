@@ -5,11 +5,11 @@ use Rattle.ips_channel_rules.specs.Simple.{simple, Entry}
 use Rattle.ips_channel_rules.specs.Fates.{Settles}
 use Rattle.ips_state.specs.State.{Configuration}
 use Rattle.ips_run.specs.Run.{Call}
-use Rattle.ips_run.specs.Demand.{ruled, seen, simplyAt}
+use Rattle.ips_run.specs.Demand.{ruled, seen, simply_at}
 
 -- the ledger of the channel at an index of the configuration: the simple channel's, on what it saw
-abbrev pub ledgerAt : Configuration → ℕ → List Call → List Entry
-ledgerAt k index cs = (final simple (ruled k index) (seen k index cs) (simplyAt k index)).keeping
+abbrev pub ledger_at : Configuration → ℕ → List Call → List Entry
+ledger_at k index cs = (final simple (ruled k index) (seen k index cs) (simply_at k index)).keeping
 
 -- what happened, one after the other: each settles what it may settle, all that it must, and nothing else does
 pub data SettledAll : List Happened → (before after : List Entry) → Type 0 where

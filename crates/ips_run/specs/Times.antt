@@ -1,41 +1,41 @@
 -- The pacer by history: which calls move which of its times. "The pacer has one clock, and both waits first run from 0".
 use Rattle.std.specs.Prelude.{ℕ, cond, List, [], ◌∷◌, ◌++◌}
-use Rattle.pacer.specs.Pacing.{isDue}
+use Rattle.pacer.specs.Pacing.{is_due}
 use Rattle.ips_state.specs.Memory.{World}
-use Rattle.ips_run.specs.Run.{Call, on, radio, pace, query, Received, dropped, carried, stated, receivedIn, inTime, after}
+use Rattle.ips_run.specs.Run.{Call, on, radio, pace, query, Received, dropped, carried, stated, received_in, in_time, after}
 
 -- the time of a call that the pacer answers, and of an accepted radio message, a data message too
-abbrev pub whenTaken : (time : ℕ) → Received → List ℕ
-whenTaken time dropped = []
-whenTaken time carried = time ∷ []
-whenTaken time (stated message) = time ∷ []
+abbrev pub when_taken : (time : ℕ) → Received → List ℕ
+when_taken time dropped = []
+when_taken time carried = time ∷ []
+when_taken time (stated message) = time ∷ []
 
-unfoldable pub takenTimes : Call → World → List ℕ
-takenTimes (on id c) w = []
-takenTimes (radio time datagram) w = cond (inTime time w.state) (whenTaken time (receivedIn w.state.datalink.id datagram)) []
-takenTimes (pace time) w = cond (inTime time w.state) (time ∷ []) []
-takenTimes (query out) w = []
+unfoldable pub taken_times : Call → World → List ℕ
+taken_times (on id c) w = []
+taken_times (radio time datagram) w = cond (in_time time w.state) (when_taken time (received_in w.state.datalink.id datagram)) []
+taken_times (pace time) w = cond (in_time time w.state) (time ∷ []) []
+taken_times (query out) w = []
 
 -- the time of an ask that is answered due
-unfoldable pub dueTimes : Call → World → List ℕ
-dueTimes (on id c) w = []
-dueTimes (radio time datagram) w = []
-dueTimes (pace time) w = cond (inTime time w.state) (cond (isDue time w.state.pacer) (time ∷ []) []) []
-dueTimes (query out) w = []
+unfoldable pub due_times : Call → World → List ℕ
+due_times (on id c) w = []
+due_times (radio time datagram) w = []
+due_times (pace time) w = cond (in_time time w.state) (cond (is_due time w.state.pacer) (time ∷ []) []) []
+due_times (query out) w = []
 
 -- the time of an accepted radio control message
-abbrev pub whenStated : (time : ℕ) → Received → List ℕ
-whenStated time dropped = []
-whenStated time carried = []
-whenStated time (stated message) = time ∷ []
+abbrev pub when_stated : (time : ℕ) → Received → List ℕ
+when_stated time dropped = []
+when_stated time carried = []
+when_stated time (stated message) = time ∷ []
 
-unfoldable pub heardTimes : Call → World → List ℕ
-heardTimes (on id c) w = []
-heardTimes (radio time datagram) w = cond (inTime time w.state) (whenStated time (receivedIn w.state.datalink.id datagram)) []
-heardTimes (pace time) w = []
-heardTimes (query out) w = []
+unfoldable pub heard_times : Call → World → List ℕ
+heard_times (on id c) w = []
+heard_times (radio time datagram) w = cond (in_time time w.state) (when_stated time (received_in w.state.datalink.id datagram)) []
+heard_times (pace time) w = []
+heard_times (query out) w = []
 
 -- of some calls, in order
-abbrev pub timesAll : (Call → World → List ℕ) → List Call → World → List ℕ
-timesAll times [] w = []
-timesAll times (c ∷ cs) w = times c w ++ timesAll times cs (after c w)
+abbrev pub times_all : (Call → World → List ℕ) → List Call → World → List ℕ
+times_all times [] w = []
+times_all times (c ∷ cs) w = times c w ++ times_all times cs (after c w)

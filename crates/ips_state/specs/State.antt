@@ -8,9 +8,9 @@ use Rattle.flow.specs.declared.Flow.{Flow}
 use Rattle.ips_channel.specs.declared.state.DatalinkSetting.{DatalinkSetting}
 use Rattle.ips_channel.specs.declared.state.Setting.{Setting}
 use Rattle.ips_channel.specs.declared.state.Channel.{Channel}
-use Rattle.ips_channel.specs.Channel.{noDatalink, freshChannel}
+use Rattle.ips_channel.specs.Channel.{no_datalink, fresh_channel}
 use Rattle.pacer.specs.declared.Pacer.{Pacer}
-use Rattle.pacer.specs.Pacing.{freshPacer}
+use Rattle.pacer.specs.Pacing.{fresh_pacer}
 
 -- how one channel starts: its setting and its first sequence
 pub record ChannelStart : Type 0 where
@@ -34,37 +34,37 @@ pub record State : Type 0 where
   pub pacer : Pacer
 
 -- what an index past the end gives
-abbrev pub noSetting : Setting
-noSetting = record { id = 0; controlled = false; size = record { 0 = 0 } }
+abbrev pub no_setting : Setting
+no_setting = record { id = 0; controlled = false; size = record { 0 = 0 } }
 
-abbrev pub noStart : ChannelStart
-noStart = record { setting = noSetting; first = record { 0 = 0 } }
+abbrev pub no_start : ChannelStart
+no_start = record { setting = no_setting; first = record { 0 = 0 } }
 
-abbrev pub noChannel : Channel
-noChannel = record { setting = noSetting; status = statuses.Absent; flow = Flow.Free; sequence = record { 0 = 0 }; latest = 0; queue = record { entries = []; count = 0 } }
+abbrev pub no_channel : Channel
+no_channel = record { setting = no_setting; status = statuses.Absent; flow = Flow.Free; sequence = record { 0 = 0 }; latest = 0; queue = record { entries = []; count = 0 } }
 
-unfoldable pub channelAt : State → ℕ → Channel
-channelAt s index = get_or s.channels index noChannel
+unfoldable pub channel_at : State → ℕ → Channel
+channel_at s index = get_or s.channels index no_channel
 
-unfoldable pub withChannel : State → ℕ → Channel → State
-withChannel s index c = record { datalink = s.datalink; channels = set s.channels index c; instance = s.instance; context = s.context; pacer = s.pacer }
+unfoldable pub with_channel : State → ℕ → Channel → State
+with_channel s index c = record { datalink = s.datalink; channels = set s.channels index c; instance = s.instance; context = s.context; pacer = s.pacer }
 
-unfoldable pub withPacer : State → Pacer → State
-withPacer s pacer = record { datalink = s.datalink; channels = s.channels; instance = s.instance; context = s.context; pacer = pacer }
+unfoldable pub with_pacer : State → Pacer → State
+with_pacer s pacer = record { datalink = s.datalink; channels = s.channels; instance = s.instance; context = s.context; pacer = pacer }
 
 -- ---- a fresh start
 abbrev pub start_at : Configuration → ℕ → ChannelStart
-start_at k index = get_or k.starts index noStart
+start_at k index = get_or k.starts index no_start
 
 abbrev pub fresh_of : ChannelStart → Channel
-fresh_of start = freshChannel start.setting start.first
+fresh_of start = fresh_channel start.setting start.first
 
-unfoldable pub freshState : Configuration → State
-freshState k = record { datalink = k.datalink; channels = map fresh_of k.starts; instance = Instance.Absent; context = Context.Absent; pacer = freshPacer k.hello k.limit }
+unfoldable pub fresh_state : Configuration → State
+fresh_state k = record { datalink = k.datalink; channels = map fresh_of k.starts; instance = Instance.Absent; context = Context.Absent; pacer = fresh_pacer k.hello k.limit }
 
 -- ---- no channel at all, which every call refuses
-unfoldable pub blankState : State
-blankState = record { datalink = noDatalink; channels = []; instance = Instance.Absent; context = Context.Absent; pacer = freshPacer 0 0 }
+unfoldable pub blank_state : State
+blank_state = record { datalink = no_datalink; channels = []; instance = Instance.Absent; context = Context.Absent; pacer = fresh_pacer 0 0 }
 
-unfoldable pub blankConfiguration : Configuration
-blankConfiguration = record { datalink = noDatalink; hello = 0; limit = 0; starts = [] }
+unfoldable pub blank_configuration : Configuration
+blank_configuration = record { datalink = no_datalink; hello = 0; limit = 0; starts = [] }

@@ -8,11 +8,11 @@ use Rattle.meaning.specs.declared.message.Context.{Context}
 use Rattle.meaning.specs.declared.message.Status.{Status}
 use Rattle.store.specs.declared.queue.Entry.{Entry}
 use Rattle.store.specs.declared.queue.Queue.{Queue}
-use Rattle.store.specs.Waiting.{noEntry}
+use Rattle.store.specs.Waiting.{no_entry}
 use Rattle.flow.specs.declared.Flow.{Flow}
 use Rattle.ips_channel.specs.declared.state.Channel.{Channel}
 use Rattle.pacer.specs.declared.Pacer.{Pacer}
-use Rattle.ips_state.specs.State.{State, blankState}
+use Rattle.ips_state.specs.State.{State, blank_state}
 
 -- ---- the endpoint's own words
 abbrev pub HEAD : ℕ
@@ -128,27 +128,27 @@ abbrev pub IN-FORCE : ℕ
 IN-FORCE = 2
 
 -- ---- how many words, which word, and the words of the channel at an index
-abbrev pub wordsFor : ℕ → ℕ
-wordsFor count = HEAD + SLOT * count
+abbrev pub words_for : ℕ → ℕ
+words_for count = HEAD + SLOT * count
 
 abbrev pub word : List ℕ → ℕ → ℕ
 word words k = get_or words k 0
 
-abbrev pub slotStart : ℕ → ℕ
-slotStart index = HEAD + SLOT * index
+abbrev pub slot_start : ℕ → ℕ
+slot_start index = HEAD + SLOT * index
 
 unfoldable pub slot : List ℕ → ℕ → List ℕ
-slot words index = take SLOT (drop (slotStart index) words)
+slot words index = take SLOT (drop (slot_start index) words)
 
 -- ---- what words say: an enum is a tag, and the words of what it holds
-unfoldable pub statusOf : (tag value : ℕ) → Status
-statusOf tag value = cond (eqb tag ABSENT) Status.Absent (Status.Given value)
+unfoldable pub status_of : (tag value : ℕ) → Status
+status_of tag value = cond (eqb tag ABSENT) Status.Absent (Status.Given value)
 
 unfoldable pub flow_of : (tag window : ℕ) → Flow
 flow_of tag window = cond (eqb tag FREE) Flow.Free (cond (eqb tag NO-WINDOW) Flow.NoWindow (Flow.InForce (record { 0 = window })))
 
-unfoldable pub instanceOf : (tag value size : ℕ) → Instance
-instanceOf tag value size = cond (eqb tag ABSENT) Instance.Absent (Instance.Given (record { 0 = value }) size)
+unfoldable pub instance_of : (tag value size : ℕ) → Instance
+instance_of tag value size = cond (eqb tag ABSENT) Instance.Absent (Instance.Given (record { 0 = value }) size)
 
 unfoldable pub context_of : (tag value size : ℕ) → Context
 context_of tag value size = cond (eqb tag ABSENT) Context.Absent (Context.Given (record { 0 = value }) size)
@@ -157,34 +157,34 @@ context_of tag value size = cond (eqb tag ABSENT) Context.Absent (Context.Given 
 abbrev pub entry_at : List ℕ → ℕ → Entry
 entry_at w k = record { length = record { 0 = word w (FIXED + ENTRY * k) }; expiry = word w (FIXED + ENTRY * k + EXPIRY) }
 
-unfoldable pub entriesIn : List ℕ → ℕ → List Entry
-entriesIn w count = tabulate MOST-WAITING (λ k. cond (ltb k count) (entry_at w k) noEntry)
+unfoldable pub entries_in : List ℕ → ℕ → List Entry
+entries_in w count = tabulate MOST-WAITING (λ k. cond (ltb k count) (entry_at w k) no_entry)
 
-unfoldable pub queueIn : List ℕ → Queue
-queueIn w = record { entries = entriesIn w (word w WAITING); count = word w WAITING }
+unfoldable pub queue_in : List ℕ → Queue
+queue_in w = record { entries = entries_in w (word w WAITING); count = word w WAITING }
 
 -- THE CHANNEL THAT A SLOT'S WORDS SAY
-unfoldable pub channelIn : List ℕ → Channel
-channelIn w = record {
+unfoldable pub channel_in : List ℕ → Channel
+channel_in w = record {
   setting = record { id = word w ID; controlled = eqb (word w KIND) CONTROLLED; size = record { 0 = word w SIZE } };
-  status = statusOf (word w STATUS-TAG) (word w STATUS-VALUE);
+  status = status_of (word w STATUS-TAG) (word w STATUS-VALUE);
   flow = flow_of (word w FLOW-TAG) (word w FLOW-WINDOW);
   sequence = record { 0 = word w SEQUENCE };
   latest = word w LATEST;
-  queue = queueIn w;
+  queue = queue_in w;
 }
 
-abbrev pub pacerIn : List ℕ → Pacer
-pacerIn words = record { hello = word words HELLO-WORD; limit = word words LIMIT-WORD; clock = word words CLOCK-WORD; due = word words DUE-WORD; heard = word words HEARD-WORD }
+abbrev pub pacer_in : List ℕ → Pacer
+pacer_in words = record { hello = word words HELLO-WORD; limit = word words LIMIT-WORD; clock = word words CLOCK-WORD; due = word words DUE-WORD; heard = word words HEARD-WORD }
 
 -- ---- the state, of as many channels as the words count
 unfoldable pub state_of : List ℕ → State
 state_of words = record {
   datalink = record { id = record { 0 = word words DATALINK-WORD }; codes = record { 0 = word words CODES-WORD } };
-  channels = tabulate (word words COUNT-WORD) (λ index. channelIn (slot words index));
-  instance = instanceOf (word words INSTANCE-TAG) (word words INSTANCE-VALUE) (word words INSTANCE-LENGTH);
+  channels = tabulate (word words COUNT-WORD) (λ index. channel_in (slot words index));
+  instance = instance_of (word words INSTANCE-TAG) (word words INSTANCE-VALUE) (word words INSTANCE-LENGTH);
   context = context_of (word words CONTEXT-TAG) (word words CONTEXT-VALUE) (word words CONTEXT-LENGTH);
-  pacer = pacerIn words;
+  pacer = pacer_in words;
 }
 
 -- ---- words that say something: tags that there are, and numbers no wider than what they are numbers of
@@ -198,57 +198,57 @@ unfoldable pub all_spelled : List ℕ → ℕ → Bool
 all_spelled words zero = true
 all_spelled words (suc n) = all_spelled words n && spelled (slot words n)
 
-unfoldable pub headSpelled : List ℕ → Bool
-headSpelled words =
+unfoldable pub head_spelled : List ℕ → Bool
+head_spelled words =
     ltb (word words DATALINK-WORD) 256 && (leb (word words INSTANCE-TAG) GIVEN && (leb (word words CONTEXT-TAG) GIVEN && ltb (word words CODES-WORD) 256))
 
 unfoldable pub readable : List ℕ → Bool
-readable words = eqb (length words) (wordsFor (word words COUNT-WORD)) && (headSpelled words && all_spelled words (word words COUNT-WORD))
+readable words = eqb (length words) (words_for (word words COUNT-WORD)) && (head_spelled words && all_spelled words (word words COUNT-WORD))
 
 -- WHAT WORDS STAND FOR: those that say nothing stand for a state with no channel, which every call refuses by 19
-unfoldable pub stateIn : List ℕ → State
-stateIn words = cond (readable words) (state_of words) blankState
+unfoldable pub state_in : List ℕ → State
+state_in words = cond (readable words) (state_of words) blank_state
 
 -- ---- a channel as words, and the words with one channel replaced
-abbrev pub statusTag : Status → ℕ
-statusTag Status.Absent = ABSENT
-statusTag (Status.Given value) = GIVEN
+abbrev pub status_tag : Status → ℕ
+status_tag Status.Absent = ABSENT
+status_tag (Status.Given value) = GIVEN
 
-abbrev pub statusValue : Status → ℕ
-statusValue Status.Absent = 0
-statusValue (Status.Given value) = value
+abbrev pub status_value : Status → ℕ
+status_value Status.Absent = 0
+status_value (Status.Given value) = value
 
-abbrev pub flowTag : Flow → ℕ
-flowTag Flow.Free = FREE
-flowTag Flow.NoWindow = NO-WINDOW
-flowTag (Flow.InForce window) = IN-FORCE
+abbrev pub flow_tag : Flow → ℕ
+flow_tag Flow.Free = FREE
+flow_tag Flow.NoWindow = NO-WINDOW
+flow_tag (Flow.InForce window) = IN-FORCE
 
-abbrev pub flowWindow : Flow → ℕ
-flowWindow Flow.Free = 0
-flowWindow Flow.NoWindow = 0
-flowWindow (Flow.InForce window) = window.0
+abbrev pub flow_window : Flow → ℕ
+flow_window Flow.Free = 0
+flow_window Flow.NoWindow = 0
+flow_window (Flow.InForce window) = window.0
 
-unfoldable pub entryWords : List Entry → List ℕ
-entryWords [] = []
-entryWords (e ∷ es) = e.length.0 ∷ e.expiry ∷ entryWords es
+unfoldable pub entry_words : List Entry → List ℕ
+entry_words [] = []
+entry_words (e ∷ es) = e.length.0 ∷ e.expiry ∷ entry_words es
 
-abbrev pub fixedWords : Channel → List ℕ
-fixedWords c =
-    c.setting.id ∷ cond c.setting.controlled CONTROLLED PLAIN ∷ c.setting.size.0 ∷ statusTag c.status ∷ statusValue c.status ∷ flowTag c.flow
-    ∷ flowWindow c.flow ∷ c.sequence.0 ∷ c.latest ∷ c.queue.count ∷ []
+abbrev pub fixed_words : Channel → List ℕ
+fixed_words c =
+    c.setting.id ∷ cond c.setting.controlled CONTROLLED PLAIN ∷ c.setting.size.0 ∷ status_tag c.status ∷ status_value c.status ∷ flow_tag c.flow
+    ∷ flow_window c.flow ∷ c.sequence.0 ∷ c.latest ∷ c.queue.count ∷ []
 
-unfoldable pub channelWords : Channel → List ℕ
-channelWords c = fixedWords c ++ entryWords c.queue.entries
+unfoldable pub channel_words : Channel → List ℕ
+channel_words c = fixed_words c ++ entry_words c.queue.entries
 
-unfoldable pub putSlot : List ℕ → ℕ → List ℕ → List ℕ
-putSlot words index part = take (slotStart index) words ++ (part ++ drop (slotStart index + SLOT) words)
+unfoldable pub put_slot : List ℕ → ℕ → List ℕ → List ℕ
+put_slot words index part = take (slot_start index) words ++ (part ++ drop (slot_start index + SLOT) words)
 
-unfoldable pub putChannel : List ℕ → ℕ → Channel → List ℕ
-putChannel words index c = putSlot words index (channelWords c)
+unfoldable pub put_channel : List ℕ → ℕ → Channel → List ℕ
+put_channel words index c = put_slot words index (channel_words c)
 
 -- ---- the words with the pacer's three times written; its two waits stand
-unfoldable pub putPacer : List ℕ → Pacer → List ℕ
-putPacer words p = set (set (set words CLOCK-WORD p.clock) DUE-WORD p.due) HEARD-WORD p.heard
+unfoldable pub put_pacer : List ℕ → Pacer → List ℕ
+put_pacer words p = set (set (set words CLOCK-WORD p.clock) DUE-WORD p.due) HEARD-WORD p.heard
 
 -- ---- what a channel is loaded from
 pub record Loadable (w : List ℕ) : Type 0 where
@@ -260,10 +260,10 @@ pub record Loadable (w : List ℕ) : Type 0 where
 -- ---- a channel that reads back: 32 places with zeros behind what waits, numbers no wider than their words are read
 pub record Tidy (queue : Queue) : Type 0 where
   pub places : length queue.entries ≡ MOST-WAITING
-  pub behind : (k : ℕ) → queue.count ≤ k → get_or queue.entries k noEntry ≡ noEntry
+  pub behind : (k : ℕ) → queue.count ≤ k → get_or queue.entries k no_entry ≡ no_entry
 
 pub record Narrow (c : Channel) : Type 0 where
   pub tidy : Tidy c.queue
-  pub status : statusValue c.status < 256
-  pub window : flowWindow c.flow < 2 ^ 32
+  pub status : status_value c.status < 256
+  pub window : flow_window c.flow < 2 ^ 32
   pub sequence : c.sequence.0 < 2 ^ 32

@@ -1,6 +1,6 @@
 // The endpoint's own words: the datalink's setting, Link Instance, Context and the pacer.
 ghost use Rattle.std.specs.Prelude.{◌≡◌, ◌≤◌, ◌<◌, length};
-ghost use Rattle.ips_words.specs.Words.{HEAD, DATALINK-WORD, CODES-WORD, word, instanceOf, context_of, state_of, putPacer};
+ghost use Rattle.ips_words.specs.Words.{HEAD, DATALINK-WORD, CODES-WORD, word, instance_of, context_of, state_of, put_pacer};
 
 use crate::layout::{
     ABSENT, CLOCK_WORD, CODES_WORD, CONTEXT_LENGTH, CONTEXT_TAG, CONTEXT_VALUE, DATALINK_WORD,
@@ -32,7 +32,7 @@ pub fn setting(words: &[u64]) -> DatalinkSetting
 }
 
 fn instance_of(tag: u64, value: u64, size: u64) -> Instance
-    ensures { result ≡ instanceOf tag value size }
+    ensures { result ≡ instance_of tag value size }
 {
     if tag == ABSENT {
         return Instance::Absent;
@@ -87,7 +87,7 @@ pub fn pacer(words: &[u64]) -> Pacer
 // The pacer's times; its waits stay as configured.
 pub fn move_pacer(words: &mut [u64], pacer: Pacer)
     requires { HEAD ≤ length words.old }
-    ensures { words.new ≡ putPacer words.old pacer }
+    ensures { words.new ≡ put_pacer words.old pacer }
 {
     words[CLOCK_WORD] = pacer.clock;
     words[DUE_WORD] = pacer.due;

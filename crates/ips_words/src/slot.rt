@@ -1,6 +1,6 @@
 // One channel in its words.
 ghost use Rattle.std.specs.Prelude.{◌≡◌, ◌++◌, ◌^◌, ◌<◌, length, drop};
-ghost use Rattle.ips_words.specs.Words.{FIXED, SLOT, fixedWords, statusOf, flow_of, channelIn, channelWords, Loadable, statusTag, statusValue, flowTag, flowWindow};
+ghost use Rattle.ips_words.specs.Words.{FIXED, SLOT, fixed_words, status_of, flow_of, channel_in, channel_words, Loadable, status_tag, status_value, flow_tag, flow_window};
 
 use crate::layout::{
     ABSENT, CONTROLLED, FLOW_TAG, FLOW_WINDOW, FREE, GIVEN, ID, IN_FORCE, KIND, LATEST, NO_WINDOW,
@@ -29,7 +29,7 @@ fn count(value: u64) -> u32
 // An enum is a tag, and the word of what it holds.
 fn status_of(tag: u64, value: u64) -> Status
     requires { value < 256 }
-    ensures { result ≡ statusOf tag value }
+    ensures { result ≡ status_of tag value }
 {
     if tag == ABSENT {
         return Status::Absent;
@@ -51,7 +51,7 @@ fn flow_of(tag: u64, window: u64) -> Flow
 }
 
 pub fn status_tag(status: Status) -> u64
-    ensures { result ≡ statusTag status }
+    ensures { result ≡ status_tag status }
 {
     match status {
         Status::Absent => ABSENT,
@@ -60,7 +60,7 @@ pub fn status_tag(status: Status) -> u64
 }
 
 pub fn status_value(status: Status) -> u64
-    ensures { result ≡ statusValue status }
+    ensures { result ≡ status_value status }
 {
     match status {
         Status::Absent => 0,
@@ -69,7 +69,7 @@ pub fn status_value(status: Status) -> u64
 }
 
 pub fn flow_tag(flow: Flow) -> u64
-    ensures { result ≡ flowTag flow }
+    ensures { result ≡ flow_tag flow }
 {
     match flow {
         Flow::Free => FREE,
@@ -79,7 +79,7 @@ pub fn flow_tag(flow: Flow) -> u64
 }
 
 pub fn flow_window(flow: Flow) -> u64
-    ensures { result ≡ flowWindow flow }
+    ensures { result ≡ flow_window flow }
 {
     match flow {
         Flow::Free => 0,
@@ -91,7 +91,7 @@ pub fn flow_window(flow: Flow) -> u64
 // The channel that the words say.
 pub fn load(part: &[u64]) -> Channel
     requires { Loadable part.now }
-    ensures { result ≡ channelIn part.now }
+    ensures { result ≡ channel_in part.now }
 {
     let setting = Setting {
         id: byte(part[ID]),
@@ -114,7 +114,7 @@ pub fn load(part: &[u64]) -> Channel
 // The words before those of what waits.
 fn save_fixed(part: &mut [u64], channel: Channel)
     requires { length part.old ≡ SLOT }
-    ensures { part.new ≡ fixedWords channel ++ drop FIXED part.old }
+    ensures { part.new ≡ fixed_words channel ++ drop FIXED part.old }
 {
     let setting = channel.setting;
     let status = channel.status;
@@ -135,7 +135,7 @@ fn save_fixed(part: &mut [u64], channel: Channel)
 // The words of a channel, every one of them written.
 pub fn save(part: &mut [u64], channel: Channel)
     requires { length part.old ≡ SLOT }
-    ensures { part.new ≡ channelWords channel }
+    ensures { part.new ≡ channel_words channel }
 {
     save_fixed(part, channel);
     let queue = channel.queue;

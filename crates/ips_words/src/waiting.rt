@@ -1,7 +1,7 @@
 // The waiting packets of one channel in its words: behind the fixed ones a length and an expiry for each of 32 places.
 ghost use Rattle.std.specs.Prelude.{◌≡◌, ◌++◌, ◌≤◌, length, take};
 ghost use Rattle.quantity.specs.Limits.{MOST-WAITING};
-ghost use Rattle.ips_words.specs.Words.{FIXED, SLOT, WAITING, word, queueIn, entryWords};
+ghost use Rattle.ips_words.specs.Words.{FIXED, SLOT, WAITING, word, queue_in, entry_words};
 
 use crate::layout;
 use crate::layout::{ENTRY, EXPIRY, FIXED};
@@ -26,7 +26,7 @@ pub fn wide(value: usize) -> u64
 // The words behind the waiting packets are not looked at.
 pub(crate) fn load(part: &[u64]) -> Queue
     requires { (length part.now ≡ SLOT) × (word part.now WAITING ≤ MOST-WAITING) }
-    ensures { result ≡ queueIn part.now }
+    ensures { result ≡ queue_in part.now }
 {
     let mut left = queue::empty();
     let count = narrow(part[layout::WAITING]);
@@ -48,7 +48,7 @@ pub(crate) fn load(part: &[u64]) -> Queue
 
 pub(crate) fn save(part: &mut [u64], queue: Queue)
     requires { length part.old ≡ SLOT }
-    ensures { part.new ≡ take FIXED part.old ++ entryWords queue.entries }
+    ensures { part.new ≡ take FIXED part.old ++ entry_words queue.entries }
 {
     let mut at = 0;
     let mut from = FIXED;

@@ -10,117 +10,117 @@ use lib.ListN.{length, take}
 use lib.Seq.{take_all, length-take-le}
 use Rattle.quantity.specs.Limits.{MOST-CHANNELS, CHANNEL-IDS}
 use Rattle.quantity.specs.declared.count.DatalinkId.{DatalinkId}
-use Rattle.ips_state.specs.State.{channelAt}
-use Rattle.ips_state.specs.Limits.{stateFits}
+use Rattle.ips_state.specs.State.{channel_at}
+use Rattle.ips_state.specs.Limits.{state_fits}
 use Rattle.ips_state.proofs.Places.{fit}
-use Rattle.ips_query.proofs.Queries.{id-inside}
-use Rattle.ips_words.specs.Words.{HEAD, SLOT, DATALINK-WORD, CODES-WORD, COUNT-WORD, CONTROLLED, ID, KIND, SEQUENCE, word, slot, slotStart, channelIn, state_of, stateIn}
-use Rattle.ips_words.proofs.Slots.{spelled-facts}
-use Rattle.ips_words.proofs.Whole.{slot-word, readable-facts, says, fit-readable, fit_count, fit-room, fit-channel, fit-loadable}
-use Rattle.ips_words_query.specs.Rising.{COUNT-VALUES, contentOf, FlowSequences, Gathered, inserted}
-use Rattle.ips_words_query.proofs.Asking.{sequences-none, sequences-plain, sequences-more}
+use Rattle.ips_query.proofs.Queries.{id_inside}
+use Rattle.ips_words.specs.Words.{HEAD, SLOT, DATALINK-WORD, CODES-WORD, COUNT-WORD, CONTROLLED, ID, KIND, SEQUENCE, word, slot, slot_start, channel_in, state_of, state_in}
+use Rattle.ips_words.proofs.Slots.{spelled_facts}
+use Rattle.ips_words.proofs.Whole.{slot_word, readable_facts, says, fit_readable, fit_count, fit_room, fit_channel, fit_loadable}
+use Rattle.ips_words_query.specs.Rising.{COUNT-VALUES, content_of, FlowSequences, Gathered, inserted}
+use Rattle.ips_words_query.proofs.Asking.{sequences_none, sequences_plain, sequences_more}
 
 -- ---- words that stand for a state within the limits
-module _ (words : List ℕ) (fits : stateFits (stateIn words) ≡ true) where
-  said-few : word words COUNT-WORD ≤ MOST-CHANNELS
-  said-few = omega (arith, fit_count words fits, (fit (stateIn words) fits).few)
+module _ (words : List ℕ) (fits : state_fits (state_in words) ≡ true) where
+  said_few : word words COUNT-WORD ≤ MOST-CHANNELS
+  said_few = omega (arith, fit_count words fits, (fit (state_in words) fits).few)
 
-  pub said-long : length words ≡ HEAD + SLOT * word words COUNT-WORD
-  said-long = (readable-facts words (fit-readable words fits)).long
+  pub said_long : length words ≡ HEAD + SLOT * word words COUNT-WORD
+  said_long = (readable_facts words (fit_readable words fits)).long
 
-  pub said-head : (HEAD ≤ length words) × (word words DATALINK-WORD < 256)
-  said-head = (omega (arith, said-long), (readable-facts words (fit-readable words fits)).head.datalink)
+  pub said_head : (HEAD ≤ length words) × (word words DATALINK-WORD < 256)
+  said_head = (omega (arith, said_long), (readable_facts words (fit_readable words fits)).head.datalink)
 
-  pub said-setting : (HEAD ≤ length words) × (word words DATALINK-WORD < 256) × (word words CODES-WORD < 256)
-  said-setting = (said-head.0, said-head.1, (readable-facts words (fit-readable words fits)).head.codes)
+  pub said_setting : (HEAD ≤ length words) × (word words DATALINK-WORD < 256) × (word words CODES-WORD < 256)
+  said_setting = (said_head.0, said_head.1, (readable_facts words (fit_readable words fits)).head.codes)
 
-  pub said-datalink : {datalink : DatalinkId} → datalink ≡ (state_of words).datalink.id → datalink ≡ (stateIn words).datalink.id
-  said-datalink e = rw (says words (fit-readable words fits)) e
+  pub said_datalink : {datalink : DatalinkId} → datalink ≡ (state_of words).datalink.id → datalink ≡ (state_in words).datalink.id
+  said_datalink e = rw (says words (fit_readable words fits)) e
 
 -- ---- the loop: the channels before an index are gathered
 pub record Gathering (words : List ℕ) (count : ℕ) (contents : List ℕ) (gathered at from : ℕ) : Type 0 where
-  pub fits : stateFits (stateIn words) ≡ true
-  pub count-is : count ≡ word words COUNT-WORD
-  pub from_is : from ≡ slotStart at
+  pub fits : state_fits (state_in words) ≡ true
+  pub count_is : count ≡ word words COUNT-WORD
+  pub from_is : from ≡ slot_start at
   pub inside : at ≤ count
   pub few : gathered ≤ at
   pub room : length contents ≡ MOST-CHANNELS
-  pub sequences : FlowSequences (take at (stateIn words).channels) (take gathered contents)
+  pub sequences : FlowSequences (take at (state_in words).channels) (take gathered contents)
 
-pub gathering-start : (words : List ℕ) (count : ℕ) (contents : List ℕ) → stateFits (stateIn words) ≡ true → count ≡ word words COUNT-WORD → length contents ≡ MOST-CHANNELS
+pub gathering_start : (words : List ℕ) (count : ℕ) (contents : List ℕ) → state_fits (state_in words) ≡ true → count ≡ word words COUNT-WORD → length contents ≡ MOST-CHANNELS
     → Gathering words count contents 0 0 HEAD
-gathering-start words count contents f e l =
-    record { fits = f; count-is = e; from_is = omega arith; inside = omega arith; few = omega arith; room = l; sequences = sequences-none }
+gathering_start words count contents f e l =
+    record { fits = f; count_is = e; from_is = omega arith; inside = omega arith; few = omega arith; room = l; sequences = sequences_none }
 
 module _ (words : List ℕ) (count : ℕ) (contents : List ℕ) (gathered at from : ℕ) (g : Gathering words count contents gathered at from) where
-  few-gathered : gathered ≤ MOST-CHANNELS
-  few-gathered = omega (arith, g.few, g.inside, g.count-is, said-few words g.fits)
+  few_gathered : gathered ≤ MOST-CHANNELS
+  few_gathered = omega (arith, g.few, g.inside, g.count_is, said_few words g.fits)
 
-  pub gathering-end : count ≤ at → Gathered (stateIn words).channels contents gathered
-  gathering-end h = record {
-    few = few-gathered;
-    long = length-take-le gathered contents (omega (arith, few-gathered, g.room));
-    sequences = rw (take_all at (stateIn words).channels (omega (arith, fit_count words g.fits, g.count-is))) at g.sequences;
+  pub gathering_end : count ≤ at → Gathered (state_in words).channels contents gathered
+  gathering_end h = record {
+    few = few_gathered;
+    long = length-take-le gathered contents (omega (arith, few_gathered, g.room));
+    sequences = rw (take_all at (state_in words).channels (omega (arith, fit_count words g.fits, g.count_is))) at g.sequences;
   }
 
   module _ (h : at < count) where
-    within : at < length (stateIn words).channels
-    within = omega (arith, g.count-is, fit_count words g.fits)
+    within : at < length (state_in words).channels
+    within = omega (arith, g.count_is, fit_count words g.fits)
 
-    pub gathering-room : from + SLOT ≤ length words
-    gathering-room = omega (arith, g.from_is, fit-room words g.fits at within)
+    pub gathering_room : from + SLOT ≤ length words
+    gathering_room = omega (arith, g.from_is, fit_room words g.fits at within)
 
-    pub gathering-low : from ≤ HEAD + SLOT * MOST-CHANNELS
-    gathering-low = omega (arith, g.from_is, g.count-is, said-few words g.fits)
+    pub gathering_low : from ≤ HEAD + SLOT * MOST-CHANNELS
+    gathering_low = omega (arith, g.from_is, g.count_is, said_few words g.fits)
 
-    pub gathering-place : gathered < length contents
-    gathering-place = omega (arith, g.few, g.room, g.count-is, said-few words g.fits)
+    pub gathering_place : gathered < length contents
+    gathering_place = omega (arith, g.few, g.room, g.count_is, said_few words g.fits)
 
-    at-word : (k : ℕ) → k < SLOT → word words (from + k) ≡ word (slot words at) k
-    at-word k l = rw g.from_is (sym (slot-word words at k l))
+    at_word : (k : ℕ) → k < SLOT → word words (from + k) ≡ word (slot words at) k
+    at_word k l = rw g.from_is (sym (slot_word words at k l))
 
-    id-is : word words (from + ID) ≡ (channelAt (stateIn words) at).setting.id
-    unfolding channelIn
-    id-is = rw (fit-channel words g.fits at within) (at-word ID (omega arith))
+    id_is : word words (from + ID) ≡ (channel_at (state_in words) at).setting.id
+    unfolding channel_in
+    id_is = rw (fit_channel words g.fits at within) (at_word ID (omega arith))
 
-    kind-is : eqb (word words (from + KIND)) CONTROLLED ≡ (channelAt (stateIn words) at).setting.controlled
-    unfolding channelIn
-    kind-is = rw (fit-channel words g.fits at within, at-word KIND (omega arith))
+    kind_is : eqb (word words (from + KIND)) CONTROLLED ≡ (channel_at (state_in words) at).setting.controlled
+    unfolding channel_in
+    kind_is = rw (fit_channel words g.fits at within, at_word KIND (omega arith))
 
-    sequence-is : word words (from + SEQUENCE) ≡ (channelAt (stateIn words) at).sequence.0
-    unfolding channelIn
-    sequence-is = rw (fit-channel words g.fits at within) (at-word SEQUENCE (omega arith))
+    sequence_is : word words (from + SEQUENCE) ≡ (channel_at (state_in words) at).sequence.0
+    unfolding channel_in
+    sequence_is = rw (fit_channel words g.fits at within) (at_word SEQUENCE (omega arith))
 
-    pub gathering-id : word words (from + ID) < CHANNEL-IDS
-    gathering-id = rw id-is (id-inside (stateIn words) g.fits at within)
+    pub gathering_id : word words (from + ID) < CHANNEL-IDS
+    gathering_id = rw id_is (id_inside (state_in words) g.fits at within)
 
-    pub gathering-sequence : word words (from + SEQUENCE) < COUNT-VALUES
-    gathering-sequence =
-        rw (at-word SEQUENCE (omega arith)) (spelled-facts (slot words at) (fit-loadable words g.fits at within).says).sequence
+    pub gathering_sequence : word words (from + SEQUENCE) < COUNT-VALUES
+    gathering_sequence =
+        rw (at_word SEQUENCE (omega arith)) (spelled_facts (slot words at) (fit_loadable words g.fits at within).says).sequence
 
-    pub gathering-plain : (word words (from + KIND) ≡ CONTROLLED → ⊥) → Gathering words count contents gathered (at + 1) (from + SLOT)
-    gathering-plain f = record {
+    pub gathering_plain : (word words (from + KIND) ≡ CONTROLLED → ⊥) → Gathering words count contents gathered (at + 1) (from + SLOT)
+    gathering_plain f = record {
       fits = g.fits;
-      count-is = g.count-is;
+      count_is = g.count_is;
       from_is = omega (arith, g.from_is);
       inside = omega arith;
       few = omega (arith, g.few);
       room = g.room;
-      sequences = sequences-plain (stateIn words) g.fits at within (take gathered contents) g.sequences (sym kind-is ∙ ne_eqb _ _ f);
+      sequences = sequences_plain (state_in words) g.fits at within (take gathered contents) g.sequences (sym kind_is ∙ ne_eqb _ _ f);
     }
 
-    pub gathering-more : word words (from + KIND) ≡ CONTROLLED → (after : List ℕ) → length after ≡ length contents
-        → take (gathered + 1) after ≡ inserted (contentOf (word words (from + ID)) (word words (from + SEQUENCE))) (take gathered contents)
+    pub gathering_more : word words (from + KIND) ≡ CONTROLLED → (after : List ℕ) → length after ≡ length contents
+        → take (gathered + 1) after ≡ inserted (content_of (word words (from + ID)) (word words (from + SEQUENCE))) (take gathered contents)
         → Gathering words count after (gathered + 1) (at + 1) (from + SLOT)
-    gathering-more f after long is =
-        let low : (channelAt (stateIn words) at).sequence.0 < COUNT-VALUES = rw sequence-is at gathering-sequence in
-        let more = sequences-more (stateIn words) g.fits at within (take gathered contents) g.sequences (sym kind-is ∙ eq-eqb _ _ f) low in
+    gathering_more f after long is =
+        let low : (channel_at (state_in words) at).sequence.0 < COUNT-VALUES = rw sequence_is at gathering_sequence in
+        let more = sequences_more (state_in words) g.fits at within (take gathered contents) g.sequences (sym kind_is ∙ eq-eqb _ _ f) low in
         record {
           fits = g.fits;
-          count-is = g.count-is;
+          count_is = g.count_is;
           from_is = omega (arith, g.from_is);
           inside = omega arith;
           few = omega (arith, g.few);
           room = long ∙ g.room;
-          sequences = rw (is, id-is, sequence-is) more;
+          sequences = rw (is, id_is, sequence_is) more;
         }

@@ -5,7 +5,7 @@ ghost use Rattle.wire.specs.Options.{Laid, option};
 ghost use Rattle.wire.specs.Numbers.{bytes_of};
 ghost use Rattle.meaning.specs.Kinds.{FLOW-SEQUENCE};
 ghost use Rattle.write_option.specs.Laying.{alone, size_of};
-ghost use Rattle.ips_words_query.specs.Rising.{CONTENT-SIZE, CONTENT-VALUES, RisingContents, querySize, contentsThen, queryWritten};
+ghost use Rattle.ips_words_query.specs.Rising.{CONTENT-SIZE, CONTENT-VALUES, RisingContents, query_size, contents_then, query_written};
 
 use meaning::kind::FLOW_SEQUENCE;
 use meaning::message::Datalink;
@@ -35,7 +35,7 @@ const SEQUENCE_FRAME: u64 = (FLOW_SEQUENCE as u64 * LENGTH_VALUES + CONTENT_SIZE
 // The message's length by the number of its Flow Sequences.
 pub(crate) fn size(count: usize) -> usize
     requires { count ≤ MOST-CHANNELS }
-    ensures { result ≡ querySize count }
+    ensures { result ≡ query_size count }
 {
     BEFORE_SEQUENCES + SEQUENCE_SIZE * count
 }
@@ -53,8 +53,8 @@ fn lay_sequence(out: &mut [u8], content: u64) -> usize
 // Every Flow Sequence in the rest of the output behind the one before. Gives their length.
 fn lay_sequences(out: &mut [u8], contents: &[u64]) -> usize
     requires rising_contents { RisingContents contents.now }
-    requires contents_in_bounds { size_of (contentsThen contents.now) ≤ length out.old }
-    ensures { Laid (alone (contentsThen contents.now)) out.old out.new result }
+    requires contents_in_bounds { size_of (contents_then contents.now) ≤ length out.old }
+    ensures { Laid (alone (contents_then contents.now)) out.old out.new result }
 {
     let mut at: usize = 0;
     let mut place = 0;
@@ -68,8 +68,8 @@ fn lay_sequences(out: &mut [u8], contents: &[u64]) -> usize
 // Header, Datalink Identifier, Flow Sequences.
 pub(crate) fn lay(out: &mut [u8], datalink: DatalinkId, contents: &[u64]) -> usize
     requires rising_contents { RisingContents contents.now }
-    requires contents_in_bounds { length (queryWritten datalink.0 contents.now) ≤ length out.old }
-    ensures { Laid (queryWritten datalink.0 contents.now) out.old out.new result }
+    requires contents_in_bounds { length (query_written datalink.0 contents.now) ≤ length out.old }
+    ensures { Laid (query_written datalink.0 contents.now) out.old out.new result }
 {
     out[0] = HEADER;
     let mut at: usize = 1;

@@ -1,9 +1,9 @@
 // Query on words: the IPS control message with a Flow Sequence for each flow-controlled channel, written without a table of Channel IDs.
 ghost use Rattle.std.specs.Prelude.{◌≡◌, true};
-ghost use Rattle.writer.specs.Written.{controlWritten, Outcome};
-ghost use Rattle.ips_state.specs.Limits.{stateFits};
-ghost use Rattle.ips_query.specs.Query.{queryOf};
-ghost use Rattle.ips_words.specs.Words.{stateIn};
+ghost use Rattle.writer.specs.Written.{control_written, Outcome};
+ghost use Rattle.ips_state.specs.Limits.{state_fits};
+ghost use Rattle.ips_query.specs.Query.{query_of};
+ghost use Rattle.ips_words.specs.Words.{state_in};
 
 use ips_words::head;
 use quantity::count::ByteCount;
@@ -17,8 +17,8 @@ mod order;
 
 // 18 is judged before a byte is touched; what it writes is always allowed.
 pub fn write(words: &[u64], out: &mut [u8]) -> WriteAnswer
-    requires { stateFits (stateIn words.now) ≡ true }
-    ensures { Outcome true (controlWritten (queryOf (stateIn words.now))) out.old result out.new }
+    requires { state_fits (state_in words.now) ≡ true }
+    ensures { Outcome true (control_written (query_of (state_in words.now))) out.old result out.new }
 {
     let mut contents = [0u64; MOST_CHANNELS];
     let count = order::gather(words, &mut contents);

@@ -6,86 +6,86 @@ use Rattle.meaning.specs.declared.message.Window.{Window}
 use Rattle.meaning.specs.declared.message.Instance.{Instance}
 use Rattle.meaning.specs.declared.message.Context.{Context}
 use Rattle.meaning.specs.declared.message.Control.{Control}
-use Rattle.flow.specs.Counting.{flowAfter}
-use Rattle.pacer.specs.Pacing.{isSilent, asked, heardAt, moved_to}
-use Rattle.ips_radio.specs.Heard.{statusIn, windowIn}
+use Rattle.flow.specs.Counting.{flow_after}
+use Rattle.pacer.specs.Pacing.{is_silent, asked, heard_at, moved_to}
+use Rattle.ips_radio.specs.Heard.{status_in, window_in}
 use Rattle.ips_run.specs.Run.{Received, dropped, carried, stated}
-use Rattle.ips_words.specs.Words.{ID, KIND, CONTROLLED, STATUS-TAG, STATUS-VALUE, FLOW-TAG, FLOW-WINDOW, COUNT-WORD, ABSENT, GIVEN, INSTANCE-TAG, INSTANCE-VALUE, INSTANCE-LENGTH, CONTEXT-TAG, CONTEXT-VALUE, CONTEXT-LENGTH, word, slot, pacerIn, putSlot, putPacer, statusTag, statusValue, flowTag, flowWindow}
+use Rattle.ips_words.specs.Words.{ID, KIND, CONTROLLED, STATUS-TAG, STATUS-VALUE, FLOW-TAG, FLOW-WINDOW, COUNT-WORD, ABSENT, GIVEN, INSTANCE-TAG, INSTANCE-VALUE, INSTANCE-LENGTH, CONTEXT-TAG, CONTEXT-VALUE, CONTEXT-LENGTH, word, slot, pacer_in, put_slot, put_pacer, status_tag, status_value, flow_tag, flow_window}
 
 -- ---- one channel's words: "a configured channel that it names takes its Status; one that it doesn't name is not reported"
-abbrev pub statusHeard : Status → List ℕ → List ℕ
-statusHeard status w = set (set w STATUS-TAG (statusTag status)) STATUS-VALUE (statusValue status)
+abbrev pub status_heard : Status → List ℕ → List ℕ
+status_heard status w = set (set w STATUS-TAG (status_tag status)) STATUS-VALUE (status_value status)
 
 -- "For each flow-controlled channel: no Flow Window option makes it free; .."
-abbrev pub flowHeard : Window → List ℕ → List ℕ
-flowHeard window w =
-    cond (eqb (word w KIND) CONTROLLED) (set (set w FLOW-TAG (flowTag (flowAfter window))) FLOW-WINDOW (flowWindow (flowAfter window))) w
+abbrev pub flow_heard : Window → List ℕ → List ℕ
+flow_heard window w =
+    cond (eqb (word w KIND) CONTROLLED) (set (set w FLOW-TAG (flow_tag (flow_after window))) FLOW-WINDOW (flow_window (flow_after window))) w
 
-unfoldable pub heardPart : Status → Window → List ℕ → List ℕ
-heardPart status window w = flowHeard window (statusHeard status w)
+unfoldable pub heard_part : Status → Window → List ℕ → List ℕ
+heard_part status window w = flow_heard window (status_heard status w)
 
 -- a channel is told something by its own Channel ID
-abbrev pub toldSlot : (status : ℕ → Status) (window : ℕ → Window) → List ℕ → List ℕ
-toldSlot status window w = heardPart (status (word w ID)) (window (word w ID)) w
+abbrev pub told_slot : (status : ℕ → Status) (window : ℕ → Window) → List ℕ → List ℕ
+told_slot status window w = heard_part (status (word w ID)) (window (word w ID)) w
 
 -- the first channels, so many: "Unconfigured channels are skipped."
-unfoldable pub toldSlots : (status : ℕ → Status) (window : ℕ → Window) → List ℕ → ℕ → List ℕ
-toldSlots status window words zero = words
-toldSlots status window words (suc n) = let before = toldSlots status window words n in putSlot before n (toldSlot status window (slot before n))
+unfoldable pub told_slots : (status : ℕ → Status) (window : ℕ → Window) → List ℕ → ℕ → List ℕ
+told_slots status window words zero = words
+told_slots status window words (suc n) = let before = told_slots status window words n in put_slot before n (told_slot status window (slot before n))
 
 -- what a message states of each Channel ID
-abbrev pub heardSlot : Control → List ℕ → List ℕ
-heardSlot message w = toldSlot (statusIn message) (windowIn message) w
+abbrev pub heard_slot : Control → List ℕ → List ℕ
+heard_slot message w = told_slot (status_in message) (window_in message) w
 
-abbrev pub heardSlots : Control → List ℕ → ℕ → List ℕ
-heardSlots message words n = toldSlots (statusIn message) (windowIn message) words n
+abbrev pub heard_slots : Control → List ℕ → ℕ → List ℕ
+heard_slots message words n = told_slots (status_in message) (window_in message) words n
 
 -- THE WORDS AFTER A SILENCE, document 02, §1: "every channel becomes not reported and every flow-controlled one has no window"
-abbrev pub silencedSlot : List ℕ → List ℕ
-silencedSlot w = heardPart Status.Absent Window.Empty w
+abbrev pub silenced_slot : List ℕ → List ℕ
+silenced_slot w = heard_part Status.Absent Window.Empty w
 
-abbrev pub silencedSlots : List ℕ → ℕ → List ℕ
-silencedSlots words n = toldSlots (λ id. Status.Absent) (λ id. Window.Empty) words n
+abbrev pub silenced_slots : List ℕ → ℕ → List ℕ
+silenced_slots words n = told_slots (λ id. Status.Absent) (λ id. Window.Empty) words n
 
-unfoldable pub silencedWords : List ℕ → List ℕ
-silencedWords words = silencedSlots words (word words COUNT-WORD)
+unfoldable pub silenced_words : List ℕ → List ℕ
+silenced_words words = silenced_slots words (word words COUNT-WORD)
 
 -- ---- the endpoint's own words: "Link Instance is kept when given."
-abbrev pub instanceHeard : Instance → List ℕ → List ℕ
-instanceHeard Instance.Absent words = words
-instanceHeard (Instance.Given id size) words = set (set (set words INSTANCE-TAG GIVEN) INSTANCE-VALUE id.0) INSTANCE-LENGTH size
+abbrev pub instance_heard : Instance → List ℕ → List ℕ
+instance_heard Instance.Absent words = words
+instance_heard (Instance.Given id size) words = set (set (set words INSTANCE-TAG GIVEN) INSTANCE-VALUE id.0) INSTANCE-LENGTH size
 
 -- Document 02 §2: the accepted message's own Context, "no Context at all" too, by which the next one is judged; its three words are written in either case
-abbrev pub contextTag : Context → ℕ
-contextTag Context.Absent = ABSENT
-contextTag (Context.Given bytes size) = GIVEN
+abbrev pub context_tag : Context → ℕ
+context_tag Context.Absent = ABSENT
+context_tag (Context.Given bytes size) = GIVEN
 
-abbrev pub contextValue : Context → ℕ
-contextValue Context.Absent = 0
-contextValue (Context.Given bytes size) = bytes.0
+abbrev pub context_value : Context → ℕ
+context_value Context.Absent = 0
+context_value (Context.Given bytes size) = bytes.0
 
-abbrev pub contextSize : Context → ℕ
-contextSize Context.Absent = 0
-contextSize (Context.Given bytes size) = size
+abbrev pub context_size : Context → ℕ
+context_size Context.Absent = 0
+context_size (Context.Given bytes size) = size
 
-unfoldable pub contextHeard : Context → List ℕ → List ℕ
-contextHeard given words = set (set (set words CONTEXT-TAG (contextTag given)) CONTEXT-VALUE (contextValue given)) CONTEXT-LENGTH (contextSize given)
+unfoldable pub context_heard : Context → List ℕ → List ℕ
+context_heard given words = set (set (set words CONTEXT-TAG (context_tag given)) CONTEXT-VALUE (context_value given)) CONTEXT-LENGTH (context_size given)
 
 -- THE WORDS AFTER AN ACCEPTED RADIO CONTROL MESSAGE
-unfoldable pub heardWords : Control → List ℕ → List ℕ
-heardWords message words = contextHeard message.context (instanceHeard message.instance (heardSlots message words (word words COUNT-WORD)))
+unfoldable pub heard_words : Control → List ℕ → List ℕ
+heard_words message words = context_heard message.context (instance_heard message.instance (heard_slots message words (word words COUNT-WORD)))
 
 -- ---- with the pacer's times: a datagram from the radio, as `received` has it of the state
-abbrev pub receivedWords : (time : ℕ) → Received → List ℕ → List ℕ
-receivedWords time dropped words = words
-receivedWords time carried words = putPacer words (moved_to time (pacerIn words))
-receivedWords time (stated message) words = putPacer (heardWords message words) (heardAt time (pacerIn words))
+abbrev pub received_words : (time : ℕ) → Received → List ℕ → List ℕ
+received_words time dropped words = words
+received_words time carried words = put_pacer words (moved_to time (pacer_in words))
+received_words time (stated message) words = put_pacer (heard_words message words) (heard_at time (pacer_in words))
 
--- and the pacer asked, as `pacedBy` has it
-unfoldable pub pacedWords : (time : ℕ) → List ℕ → List ℕ
-pacedWords time words = putPacer (cond (isSilent time (pacerIn words)) (silencedWords words) words) (asked time (pacerIn words))
+-- and the pacer asked, as `paced_by` has it
+unfoldable pub paced_words : (time : ℕ) → List ℕ → List ℕ
+paced_words time words = put_pacer (cond (is_silent time (pacer_in words)) (silenced_words words) words) (asked time (pacer_in words))
 
 -- ---- a message whose numbers are no wider than their words are read
 pub record Slender (message : Control) : Type 0 where
-  pub statuses : (id : ℕ) → statusValue (statusIn message id) < 256
-  pub windows : (id : ℕ) → flowWindow (flowAfter (windowIn message id)) < 2 ^ 32
+  pub statuses : (id : ℕ) → status_value (status_in message id) < 256
+  pub windows : (id : ℕ) → flow_window (flow_after (window_in message id)) < 2 ^ 32

@@ -1,9 +1,9 @@
 // An accepted radio control message in the lent words, and a silence: only a configured channel's status and flow state are written, and by a message the endpoint's
 // Link Instance and Context.
 ghost use Rattle.std.specs.Prelude.{◌≡◌, true, ◌≤◌, length};
-ghost use Rattle.ips_state.specs.Limits.{stateFits};
-ghost use Rattle.ips_words.specs.Words.{HEAD, SLOT, COUNT-WORD, word, stateIn};
-ghost use Rattle.ips_words_radio.specs.HeardWords.{statusHeard, flowHeard, heardPart, heardSlots, silencedSlot, silencedWords, instanceHeard, contextHeard, heardWords};
+ghost use Rattle.ips_state.specs.Limits.{state_fits};
+ghost use Rattle.ips_words.specs.Words.{HEAD, SLOT, COUNT-WORD, word, state_in};
+ghost use Rattle.ips_words_radio.specs.HeardWords.{status_heard, flow_heard, heard_part, heard_slots, silenced_slot, silenced_words, instance_heard, context_heard, heard_words};
 
 use flow::Flow;
 use ips_words::layout::{
@@ -17,7 +17,7 @@ use meaning::message::{Context, Control, Instance, Status, StatusCell, Window, W
 // A channel that the message doesn't name is not reported.
 fn hear_status(part: &mut [u64], cell: StatusCell)
     requires { length part.old ≡ SLOT }
-    ensures { part.new ≡ statusHeard cell.status part.old }
+    ensures { part.new ≡ status_heard cell.status part.old }
 {
     let status = cell.status;
     part[STATUS_TAG] = slot::status_tag(status);
@@ -27,7 +27,7 @@ fn hear_status(part: &mut [u64], cell: StatusCell)
 // A plain channel's flow state stays.
 fn hear_flow(part: &mut [u64], cell: WindowCell)
     requires { length part.old ≡ SLOT }
-    ensures { part.new ≡ flowHeard cell.window part.old }
+    ensures { part.new ≡ flow_heard cell.window part.old }
 {
     if part[KIND] != CONTROLLED {
         return;
@@ -40,7 +40,7 @@ fn hear_flow(part: &mut [u64], cell: WindowCell)
 
 fn hear_slot(part: &mut [u64], status: StatusCell, window: WindowCell)
     requires { length part.old ≡ SLOT }
-    ensures { part.new ≡ heardPart status.status window.window part.old }
+    ensures { part.new ≡ heard_part status.status window.window part.old }
 {
     hear_status(part, status);
     hear_flow(part, window);
@@ -48,8 +48,8 @@ fn hear_slot(part: &mut [u64], status: StatusCell, window: WindowCell)
 
 // Every configured channel hears what the message states of its own Channel ID.
 fn hear_slots(words: &mut [u64], message: Control)
-    requires { stateFits (stateIn words.old) ≡ true }
-    ensures { words.new ≡ heardSlots message words.old (word words.old COUNT-WORD) }
+    requires { state_fits (state_in words.old) ≡ true }
+    ensures { words.new ≡ heard_slots message words.old (word words.old COUNT-WORD) }
 {
     let count = waiting::narrow(words[COUNT_WORD]);
     let mut at = 0;
@@ -69,7 +69,7 @@ fn hear_slots(words: &mut [u64], message: Control)
 
 fn hear_instance(words: &mut [u64], given: Instance)
     requires { HEAD ≤ length words.old }
-    ensures { words.new ≡ instanceHeard given words.old }
+    ensures { words.new ≡ instance_heard given words.old }
 {
     let Instance::Given(id, size) = given else {
         return;
@@ -82,7 +82,7 @@ fn hear_instance(words: &mut [u64], given: Instance)
 // A message without a Context leaves none.
 fn hear_context(words: &mut [u64], given: Context)
     requires { HEAD ≤ length words.old }
-    ensures { words.new ≡ contextHeard given words.old }
+    ensures { words.new ≡ context_heard given words.old }
 {
     let Context::Given(bytes, size) = given else {
         words[CONTEXT_TAG] = ABSENT;
@@ -97,8 +97,8 @@ fn hear_context(words: &mut [u64], given: Context)
 
 // The words after an accepted radio control message.
 pub fn hear(words: &mut [u64], message: Control)
-    requires { stateFits (stateIn words.old) ≡ true }
-    ensures { words.new ≡ heardWords message words.old }
+    requires { state_fits (state_in words.old) ≡ true }
+    ensures { words.new ≡ heard_words message words.old }
 {
     let instance = message.instance;
     let context = message.context;
@@ -110,7 +110,7 @@ pub fn hear(words: &mut [u64], message: Control)
 // A silence reports nothing of a channel, and gives it no window.
 fn silence_slot(part: &mut [u64])
     requires { length part.old ≡ SLOT }
-    ensures { part.new ≡ silencedSlot part.old }
+    ensures { part.new ≡ silenced_slot part.old }
 {
     hear_slot(
         part,
@@ -125,8 +125,8 @@ fn silence_slot(part: &mut [u64])
 
 // The words after a silence: every configured channel's, and none of the endpoint's own.
 pub fn silence(words: &mut [u64])
-    requires { stateFits (stateIn words.old) ≡ true }
-    ensures { words.new ≡ silencedWords words.old }
+    requires { state_fits (state_in words.old) ≡ true }
+    ensures { words.new ≡ silenced_words words.old }
 {
     let count = waiting::narrow(words[COUNT_WORD]);
     let mut at = 0;

@@ -10,28 +10,28 @@ use lib.ListN.{length, replicate}
 use Rattle.facts.proofs.Tests.{clash}
 use Rattle.quantity.specs.Limits.{FEWEST-CHANNELS, MOST-CHANNELS, RESERVED-CHANNEL}
 use Rattle.quantity.specs.Refusals.{OUTSIDE-LIMITS, NO-WAIT}
-use Rattle.pacer.specs.Pacing.{freshPacer, pacerFits}
+use Rattle.pacer.specs.Pacing.{fresh_pacer, pacer_fits}
 use Rattle.ips_state.specs.declared.StartAnswer.{StartAnswer}
-use Rattle.ips_state.specs.State.{fresh_of, freshState}
-use Rattle.ips_state.specs.Limits.{startsFit, sizes, countFits, configurationFitsUnder, configurationFits, waitsFit}
-use Rattle.ips_state.specs.Memory.{memoryFits}
-use Rattle.ips_words.specs.Words.{word, wordsFor}
+use Rattle.ips_state.specs.State.{fresh_of, fresh_state}
+use Rattle.ips_state.specs.Limits.{starts_fit, sizes, count_fits, configuration_fits_under, configuration_fits, waits_fit}
+use Rattle.ips_state.specs.Memory.{memory_fits}
+use Rattle.ips_words.specs.Words.{word, words_for}
 use Rattle.ips_words_start.specs.declared.judge.Judged.{Judged}
-use Rattle.ips_words_start.specs.Start.{CONFIGURED-DATALINK, CONFIGURED-COUNT, CONFIGURED-HELLO, CONFIGURED-LIMIT, CONFIGURED-CODES, START-ID, configurationLength, startWord, start_in, startsOf, startsSpelled, configurationOf, configurationReadable, configurationIn, headWords, slots_of, freshWords, startsInUnder, startsIn, notStarted, StartedIn, judgedBy, judgedOf, Startable}
-use Rattle.ips_words_start.proofs.Starts.{starts-length, starts-at, setting-fit, starts-fit-at, first-at}
+use Rattle.ips_words_start.specs.Start.{CONFIGURED-DATALINK, CONFIGURED-COUNT, CONFIGURED-HELLO, CONFIGURED-LIMIT, CONFIGURED-CODES, START-ID, configuration_length, start_word, start_in, starts_of, starts_spelled, configuration_of, configuration_readable, configuration_in, head_words, slots_of, fresh_words, starts_in_under, starts_in, not_started, StartedIn, judged_by, judged_of, Startable}
+use Rattle.ips_words_start.proofs.Starts.{starts_length, starts_at, setting_fit, starts_fit_at, first_at}
 use Rattle.ips_words_start.proofs.Judging.{says, unreadable}
 
 -- ---- what is known of words that say a configuration
 pub record Said (w : List ℕ) : Type 0 where
-  pub long : length w ≡ configurationLength (word w CONFIGURED-COUNT)
+  pub long : length w ≡ configuration_length (word w CONFIGURED-COUNT)
   pub datalink : word w CONFIGURED-DATALINK < 256
   pub codes : word w CONFIGURED-CODES < 256
-  pub spelled : startsSpelled w (word w CONFIGURED-COUNT) ≡ true
+  pub spelled : starts_spelled w (word w CONFIGURED-COUNT) ≡ true
 
-pub said : (w : List ℕ) → configurationReadable w ≡ true → Said w
-unfolding configurationReadable
+pub said : (w : List ℕ) → configuration_readable w ≡ true → Said w
+unfolding configuration_readable
 said w e =
-    let a = (and-eq-true_iff (eqb (length w) (configurationLength (word w CONFIGURED-COUNT))) _).0 e in
+    let a = (and-eq-true_iff (eqb (length w) (configuration_length (word w CONFIGURED-COUNT))) _).0 e in
     let b = (and-eq-true_iff (ltb (word w CONFIGURED-DATALINK) 256) _).0 a.1 in
     let c = (and-eq-true_iff (ltb (word w CONFIGURED-CODES) 256) _).0 b.1 in
     record { long = eqb-true _ _ a.0; datalink = ltb-true _ _ b.0; codes = ltb-true _ _ c.0; spelled = c.1 }
@@ -41,110 +41,110 @@ module _ (w : List ℕ) where
   count = word w CONFIGURED-COUNT
 
   -- ---- what is known of one within the limits
-  module _ (fits : configurationFits (configurationIn w) ≡ true) where
-    pub fits-readable : configurationReadable w ≡ true
-    fits-readable = go (configurationReadable w) refl
+  module _ (fits : configuration_fits (configuration_in w) ≡ true) where
+    pub fits_readable : configuration_readable w ≡ true
+    fits_readable = go (configuration_readable w) refl
       where
-        go : (b : Bool) → configurationReadable w ≡ b → b ≡ true
+        go : (b : Bool) → configuration_readable w ≡ b → b ≡ true
         go true e = refl
         go false e = clash (sym (unreadable w e) ∙ fits)
 
-    pub starts-are : (configurationIn w).starts ≡ startsOf w count
-    unfolding configurationOf
-    starts-are = rw (says w fits-readable)
+    pub starts_are : (configuration_in w).starts ≡ starts_of w count
+    unfolding configuration_of
+    starts_are = rw (says w fits_readable)
 
-    pub count-is : length (configurationIn w).starts ≡ count
-    count-is = rw starts-are (starts-length w count)
+    pub count_is : length (configuration_in w).starts ≡ count
+    count_is = rw starts_are (starts_length w count)
 
-    parts : (countFits count ≡ true) × (startsFit (startsOf w count) ≡ true)
-    unfolding configurationFitsUnder
+    parts : (count_fits count ≡ true) × (starts_fit (starts_of w count) ≡ true)
+    unfolding configuration_fits_under
     parts =
-        let a = (and-eq-true_iff (countFits (length (configurationIn w).starts)) _).0 fits in
-        let b = (and-eq-true_iff (startsFit (configurationIn w).starts) _).0 a.1 in
-        (rw count-is at a.0, rw starts-are at b.0)
+        let a = (and-eq-true_iff (count_fits (length (configuration_in w).starts)) _).0 fits in
+        let b = (and-eq-true_iff (starts_fit (configuration_in w).starts) _).0 a.1 in
+        (rw count_is at a.0, rw starts_are at b.0)
 
-    pub counted-few : count ≤ MOST-CHANNELS
-    counted-few = leb-true _ _ ((and-eq-true_iff (leb FEWEST-CHANNELS count) _).0 parts.0).1
+    pub counted_few : count ≤ MOST-CHANNELS
+    counted_few = leb-true _ _ ((and-eq-true_iff (leb FEWEST-CHANNELS count) _).0 parts.0).1
 
-    pub configuration-long : length w ≡ configurationLength count
-    configuration-long = (said w fits-readable).long
+    pub configuration_long : length w ≡ configuration_length count
+    configuration_long = (said w fits_readable).long
 
-    id-at : (index : ℕ) → index < count → startWord w index START-ID < RESERVED-CHANNEL
+    id_at_lem : (index : ℕ) → index < count → start_word w index START-ID < RESERVED-CHANNEL
     unfolding start_in
-    id-at index inside =
-        (setting-fit (start_in w index).setting (rw (starts-at w count index inside) at (starts-fit-at (startsOf w count) index (omega (arith, starts-length w count)) parts.1))).unreserved
+    id_at_lem index inside =
+        (setting_fit (start_in w index).setting (rw (starts_at w count index inside) at (starts_fit_at (starts_of w count) index (omega (arith, starts_length w count)) parts.1))).unreserved
 
     pub startable : (counted : ℕ) → counted ≡ count → Startable w counted
-    startable counted is = rw is record { long = configuration-long; few = counted-few; ids = id-at; firsts = λ index inside. first-at w count index inside (said w fits-readable).spelled }
+    startable counted is = rw is record { long = configuration_long; few = counted_few; ids = id_at_lem; firsts = λ index inside. first_at w count index inside (said w fits_readable).spelled }
 
-  module _ (judged : Judged) (is : judged ≡ judgedOf w) where
-    judged-by : (b : Bool) → (judgedBy b (configurationIn w).starts).fits ≡ b
-    unfolding judgedBy
-    judged-by true = refl
-    judged-by false = refl
+  module _ (judged : Judged) (is : judged ≡ judged_of w) where
+    judged_by_lem : (b : Bool) → (judged_by b (configuration_in w).starts).fits ≡ b
+    unfolding judged_by
+    judged_by_lem true = refl
+    judged_by_lem false = refl
 
-    fits-is : judged.fits ≡ configurationFits (configurationIn w)
-    unfolding judgedOf
-    fits-is = ap (λ (j : Judged). j.fits) is ∙ judged-by (configurationFits (configurationIn w))
+    fits_is : judged.fits ≡ configuration_fits (configuration_in w)
+    unfolding judged_of
+    fits_is = ap (λ (j : Judged). j.fits) is ∙ judged_by_lem (configuration_fits (configuration_in w))
 
-    pub judged-fits : judged.fits ≡ true → configurationFits (configurationIn w) ≡ true
-    judged-fits good = sym fits-is ∙ good
+    pub judged_fits : judged.fits ≡ true → configuration_fits (configuration_in w) ≡ true
+    judged_fits good = sym fits_is ∙ good
 
-    stores-are : judged.fits ≡ true → judged.total.0 ≡ sizes (freshState (configurationIn w)).channels
-    unfolding judgedOf judgedBy freshState
-    stores-are good = rw (is, judged-fits good)
+    stores_are : judged.fits ≡ true → judged.total.0 ≡ sizes (fresh_state (configuration_in w)).channels
+    unfolding judged_of judged_by fresh_state
+    stores_are good = rw (is, judged_fits good)
 
     -- ---- the ways out
     module _ (words memory : List ℕ) where
-      refused-start : startsIn w words memory ≡ false → (r : StartAnswer) → r ≡ notStarted OUTSIDE-LIMITS → StartedIn w words memory r words memory
-      refused-start e r not-started = record { answer-is = not-started ∙ rw e; words_are = rw e; memory-is = rw e }
+      refused_start : starts_in w words memory ≡ false → (r : StartAnswer) → r ≡ not_started OUTSIDE-LIMITS → StartedIn w words memory r words memory
+      refused_start e r not-started = record { answer_is = not-started ∙ rw e; words_are = rw e; memory_is = rw e }
 
-      pub begin-unfit : judged.fits ≡ false → (r : StartAnswer) → r ≡ notStarted OUTSIDE-LIMITS → StartedIn w words memory r words memory
-      unfolding startsInUnder
-      begin-unfit e = refused-start (rw (sym fits-is ∙ e))
+      pub begin_unfit : judged.fits ≡ false → (r : StartAnswer) → r ≡ not_started OUTSIDE-LIMITS → StartedIn w words memory r words memory
+      unfolding starts_in_under
+      begin_unfit e = refused_start (rw (sym fits_is ∙ e))
 
       module _ (good : judged.fits ≡ true) where
-        fits : configurationFits (configurationIn w) ≡ true
-        fits = judged-fits good
+        fits : configuration_fits (configuration_in w) ≡ true
+        fits = judged_fits good
 
-        pub begin-memory : (judged.total.0 ≡ length memory → ⊥) → (r : StartAnswer) → r ≡ notStarted OUTSIDE-LIMITS → StartedIn w words memory r words memory
-        unfolding startsInUnder memoryFits
-        begin-memory f =
-            refused-start (rw (ne_eqb (length memory) (sizes (freshState (configurationIn w)).channels) (λ e. f (stores-are good ∙ sym e)), and-false))
+        pub begin_memory : (judged.total.0 ≡ length memory → ⊥) → (r : StartAnswer) → r ≡ not_started OUTSIDE-LIMITS → StartedIn w words memory r words memory
+        unfolding starts_in_under memory_fits
+        begin_memory f =
+            refused_start (rw (ne_eqb (length memory) (sizes (fresh_state (configuration_in w)).channels) (λ e. f (stores_are good ∙ sym e)), and-false))
 
         module _ (held : judged.total.0 ≡ length memory) (counted : ℕ) (counted_is : counted ≡ count) where
-          pub begin-words : (length words ≡ wordsFor counted → ⊥) → (r : StartAnswer) → r ≡ notStarted OUTSIDE-LIMITS → StartedIn w words memory r words memory
-          unfolding startsInUnder
-          begin-words f =
-              refused-start (rw (count-is fits, ne_eqb (length words) (wordsFor count) (λ e. f (e ∙ ap wordsFor (sym counted_is))), and-false, and-false))
+          pub begin_words : (length words ≡ words_for counted → ⊥) → (r : StartAnswer) → r ≡ not_started OUTSIDE-LIMITS → StartedIn w words memory r words memory
+          unfolding starts_in_under
+          begin_words f =
+              refused_start (rw (count_is fits, ne_eqb (length words) (words_for count) (λ e. f (e ∙ ap words_for (sym counted_is))), and-false, and-false))
 
-          module _ (room : length words ≡ wordsFor counted) where
-            starts : startsIn w words memory ≡ true
-            unfolding startsInUnder memoryFits
+          module _ (room : length words ≡ words_for counted) where
+            starts : starts_in w words memory ≡ true
+            unfolding starts_in_under memory_fits
             starts =
-                rw (fits, count-is fits, eq-eqb (length memory) (sizes (freshState (configurationIn w)).channels) (sym held ∙ stores-are good), eq-eqb (length words) (wordsFor count) (room ∙ ap wordsFor counted_is))
+                rw (fits, count_is fits, eq-eqb (length memory) (sizes (fresh_state (configuration_in w)).channels) (sym held ∙ stores_are good), eq-eqb (length words) (words_for count) (room ∙ ap words_for counted_is))
 
-            words-fresh : headWords (word w CONFIGURED-DATALINK) count (word w CONFIGURED-HELLO) (word w CONFIGURED-LIMIT) (word w CONFIGURED-CODES) ++ slots_of (map fresh_of (startsOf w count)) ≡ freshWords (configurationIn w)
-            unfolding freshWords configurationOf
-            words-fresh = rw (count-is fits, says w (fits-readable fits))
+            words_fresh : head_words (word w CONFIGURED-DATALINK) count (word w CONFIGURED-HELLO) (word w CONFIGURED-LIMIT) (word w CONFIGURED-CODES) ++ slots_of (map fresh_of (starts_of w count)) ≡ fresh_words (configuration_in w)
+            unfolding fresh_words configuration_of
+            words_fresh = rw (count_is fits, says w (fits_readable fits))
 
-            module _ (waits : Bool) (tested : waits ≡ pacerFits (freshPacer (word w CONFIGURED-HELLO) (word w CONFIGURED-LIMIT))) where
-              waits-are : waitsFit (configurationIn w) ≡ waits
-              unfolding configurationOf
-              waits-are = rw (says w (fits-readable fits)) (sym tested)
+            module _ (waits : Bool) (tested : waits ≡ pacer_fits (fresh_pacer (word w CONFIGURED-HELLO) (word w CONFIGURED-LIMIT))) where
+              waits_are : waits_fit (configuration_in w) ≡ waits
+              unfolding configuration_of
+              waits_are = rw (says w (fits_readable fits)) (sym tested)
 
-              pub begin-waits : waits ≡ false → (r : StartAnswer) → r ≡ notStarted NO-WAIT → StartedIn w words memory r words memory
-              begin-waits e r not-started =
-                  let none : waitsFit (configurationIn w) ≡ false = waits-are ∙ e in
-                  record { answer-is = not-started ∙ rw (starts, none); words_are = rw (starts, none); memory-is = rw (starts, none) }
+              pub begin_waits : waits ≡ false → (r : StartAnswer) → r ≡ not_started NO-WAIT → StartedIn w words memory r words memory
+              begin_waits e r not-started =
+                  let none : waits_fit (configuration_in w) ≡ false = waits_are ∙ e in
+                  record { answer_is = not-started ∙ rw (starts, none); words_are = rw (starts, none); memory_is = rw (starts, none) }
 
               pub begun : waits ≡ true → (words' memory' : List ℕ)
-                  → words' ≡ headWords (word w CONFIGURED-DATALINK) counted (word w CONFIGURED-HELLO) (word w CONFIGURED-LIMIT) (word w CONFIGURED-CODES) ++ slots_of (map fresh_of (startsOf w counted))
+                  → words' ≡ head_words (word w CONFIGURED-DATALINK) counted (word w CONFIGURED-HELLO) (word w CONFIGURED-LIMIT) (word w CONFIGURED-CODES) ++ slots_of (map fresh_of (starts_of w counted))
                   → memory' ≡ replicate (length memory) 0 → StartedIn w words memory StartAnswer.Started words' memory'
               begun e words' memory' written zeros =
-                  let both : waitsFit (configurationIn w) ≡ true = waits-are ∙ e in
+                  let both : waits_fit (configuration_in w) ≡ true = waits_are ∙ e in
                   record {
-                    answer-is = rw (starts, both);
-                    words_are = rw (starts, both) (written ∙ rw counted_is words-fresh);
-                    memory-is = rw (starts, both) zeros;
+                    answer_is = rw (starts, both);
+                    words_are = rw (starts, both) (written ∙ rw counted_is words_fresh);
+                    memory_is = rw (starts, both) zeros;
                   }

@@ -4,9 +4,9 @@
 use Rattle.std.specs.Prelude.{ℕ, zero, suc, ◌+◌, ◌*◌, ◌^◌, ◌≤◌, ◌<◌, List, ◌≡◌, length, get_or}
 
 -- "the sum of the stores"
-unfoldable pub storesIn : List ℕ → ℕ → ℕ
-storesIn w zero = 0
-storesIn w (suc n) = storesIn w n + get_or w (5 + 4 * n + 3) 0
+unfoldable pub stores_in : List ℕ → ℕ → ℕ
+stores_in w zero = 0
+stores_in w (suc n) = stores_in w n + get_or w (5 + 4 * n + 3) 0
 
 -- "channel count, ID 255, an ID twice, no channel 0, store length", "a lent memory whose length isn't the sum of the stores"
 pub record StartsExactly (w words memory : List ℕ) : Type 0 where
@@ -22,9 +22,9 @@ pub record StartsExactly (w words memory : List ℕ) : Type 0 where
   pub largest : (i : ℕ) → i < get_or w 1 0 → get_or w (5 + 4 * i + 3) 0 ≤ 65536
   pub apart : (i j : ℕ) → i < get_or w 1 0 → j < get_or w 1 0 → get_or w (5 + 4 * i) 0 ≡ get_or w (5 + 4 * j) 0 → i ≡ j
   pub primary : ℕ
-  pub primary-inside : primary < get_or w 1 0
-  pub primary-is : get_or w (5 + 4 * primary) 0 ≡ 0
-  pub stores : length memory ≡ storesIn w (get_or w 1 0)
+  pub primary_inside : primary < get_or w 1 0
+  pub primary_is : get_or w (5 + 4 * primary) 0 ≡ 0
+  pub stores : length memory ≡ stores_in w (get_or w 1 0)
   pub room : length words ≡ 14 + 74 * get_or w 1 0
 
 -- document 02, §1: not "HelloTime or silence limit of 0"

@@ -1,7 +1,7 @@
 // A configuration in words: whether it is within the limits, and the sum of its stores.
 ghost use Rattle.std.specs.Prelude.{◌≡◌, ◌≤◌, length};
 ghost use Rattle.quantity.specs.Limits.{MOST-CHANNELS};
-ghost use Rattle.ips_words_start.specs.Start.{configurationLength, startFits, unfit, walked, judgedOf};
+ghost use Rattle.ips_words_start.specs.Start.{configuration_length, start_fits_of, unfit, walked, judged_of};
 
 use crate::layout::{
     CONFIGURATION_HEAD, CONFIGURATION_SLOT, CONFIGURED_CODES, CONFIGURED_COUNT,
@@ -29,7 +29,7 @@ fn outside() -> Judged
 }
 
 fn start_fits(id: usize, kind: u64, first: u64, size: usize) -> bool
-    ensures { result ≡ startFits id kind first size }
+    ensures { result ≡ start_fits_of id kind first size }
 {
     kind <= CONTROLLED
         && (first < COUNT_VALUES
@@ -38,7 +38,7 @@ fn start_fits(id: usize, kind: u64, first: u64, size: usize) -> bool
 
 // The channels one after another: `seen` has the Channel IDs before.
 fn walk(configuration: &[u64], count: usize) -> Judged
-    requires { (length configuration.now ≡ configurationLength count) × (count ≤ MOST-CHANNELS) }
+    requires { (length configuration.now ≡ configuration_length count) × (count ≤ MOST-CHANNELS) }
     ensures { result ≡ walked configuration.now count }
 {
     let mut seen = [false; CHANNEL_IDS];
@@ -75,7 +75,7 @@ fn walk(configuration: &[u64], count: usize) -> Judged
 
 // The count is judged before it is multiplied.
 pub fn judge(configuration: &[u64]) -> Judged
-    ensures { result ≡ judgedOf configuration.now }
+    ensures { result ≡ judged_of configuration.now }
 {
     if configuration.len() < CONFIGURATION_HEAD {
         return outside();

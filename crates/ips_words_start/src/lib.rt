@@ -1,6 +1,6 @@
 // A fresh start on words: the configuration is lent as words, and the state is written into words.
 ghost use Rattle.std.specs.Prelude.{◌≡◌};
-ghost use Rattle.ips_words_start.specs.Start.{notStarted, StartedIn};
+ghost use Rattle.ips_words_start.specs.Start.{not_started, StartedIn};
 
 use crate::layout::{CONFIGURED_COUNT, CONFIGURED_HELLO, CONFIGURED_LIMIT};
 use ips_state::StartAnswer;
@@ -15,7 +15,7 @@ mod judge;
 pub mod layout;
 
 fn refused(number: u8) -> StartAnswer
-    ensures { result ≡ notStarted number }
+    ensures { result ≡ not_started number }
 {
     StartAnswer::Refused(Refusal { number, place: 0 })
 }

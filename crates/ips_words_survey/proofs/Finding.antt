@@ -12,77 +12,77 @@ use Rattle.facts.proofs.Tests.{clash}
 use Rattle.quantity.specs.Refusals.{NO-CHANNEL, OUTSIDE-LIMITS}
 use Rattle.meaning.specs.Kinds.{among}
 use Rattle.ips_state.specs.State.{State}
-use Rattle.ips_state.specs.Limits.{ids, indexOf, sizes, stateFits}
-use Rattle.ips_words.specs.Words.{COUNT-WORD, word, stateIn, readable}
-use Rattle.ips_words.proofs.Whole.{channels-length, readable-facts, says, fit-readable}
+use Rattle.ips_state.specs.Limits.{ids, indexOf, sizes, state_fits}
+use Rattle.ips_words.specs.Words.{COUNT-WORD, word, state_in, readable}
+use Rattle.ips_words.proofs.Whole.{channels_length, readable_facts, says, fit_readable}
 use Rattle.ips_words_survey.specs.declared.survey.Survey.{Survey}
-use Rattle.ips_words_survey.specs.Survey.{unfit, surveyed, surveyOf}
-use Rattle.ips_state.specs.Memory.{memoryFits, start_of, World, worldFits, isConfigured, indexIn, channelIn}
+use Rattle.ips_words_survey.specs.Survey.{unfit, surveyed, survey_of}
+use Rattle.ips_state.specs.Memory.{memory_fits, start_of, World, world_fits, is_configured, index_in, channel_in}
 use Rattle.ips_state.proofs.Places.{found, lost}
 use Rattle.ips_words_survey.specs.declared.place.Found.{Found}
 use Rattle.ips_words_survey.specs.declared.place.Place.{Place}
 use Rattle.ips_words_survey.specs.Places.{place_of, Located}
 
 -- ---- what the survey tells of number 19
-module _ (s : State) (id : ℕ) (r : Survey) (is : r ≡ surveyOf s id) where
-  pub survey-unfit : r.fits ≡ false → stateFits s ≡ false
-  unfolding surveyOf surveyed
-  survey-unfit e = go (stateFits s) refl
+module _ (s : State) (id : ℕ) (r : Survey) (is : r ≡ survey_of s id) where
+  pub survey_unfit : r.fits ≡ false → state_fits s ≡ false
+  unfolding survey_of surveyed
+  survey_unfit e = go (state_fits s) refl
     where
-      go : (b : Bool) → stateFits s ≡ b → b ≡ false
+      go : (b : Bool) → state_fits s ≡ b → b ≡ false
       go true f = clash (sym (rw (is, f) at e))
       go false f = refl
 
-  pub survey-fits : r.fits ≡ true → stateFits s ≡ true
-  unfolding surveyOf unfit
-  survey-fits e = go (stateFits s) refl
+  pub survey_fits : r.fits ≡ true → state_fits s ≡ true
+  unfolding survey_of unfit
+  survey_fits e = go (state_fits s) refl
     where
-      go : (b : Bool) → stateFits s ≡ b → b ≡ true
+      go : (b : Bool) → state_fits s ≡ b → b ≡ true
       go true f = refl
       go false f = clash (rw (is, f) at e)
 
-  pub survey-at : r.fits ≡ true → r ≡ surveyed s.channels id
-  unfolding surveyOf
-  survey-at e = is ∙ rw (survey-fits e)
+  pub survey_at : r.fits ≡ true → r ≡ surveyed s.channels id
+  unfolding survey_of
+  survey_at e = is ∙ rw (survey_fits e)
 
 -- ---- words that were surveyed and fit
-module _ (words : List ℕ) (id : ℕ) (r : Survey) (is : r ≡ surveyOf (stateIn words) id) (fits : r.fits ≡ true) where
-  readable-then : readable words ≡ true
-  readable-then = fit-readable words (survey-fits (stateIn words) id r is fits)
+module _ (words : List ℕ) (id : ℕ) (r : Survey) (is : r ≡ survey_of (state_in words) id) (fits : r.fits ≡ true) where
+  readable_then : readable words ≡ true
+  readable_then = fit_readable words (survey_fits (state_in words) id r is fits)
 
   pub words_long : COUNT-WORD < length words
-  words_long = omega (arith, (readable-facts words readable-then).long)
+  words_long = omega (arith, (readable_facts words readable_then).long)
 
-  pub index-last : word words COUNT-WORD ≡ length (stateIn words).channels
-  index-last = rw (says words readable-then) (sym (channels-length words))
+  pub index_last : word words COUNT-WORD ≡ length (state_in words).channels
+  index_last = rw (says words readable_then) (sym (channels_length words))
 
 -- where the survey says that a configured channel's store starts
-pub surveyed-start : (s : State) (id : ℕ) → among id (ids s.channels) ≡ true → (surveyed s.channels id).start.0 ≡ start_of s (indexOf id (ids s.channels))
+pub surveyed_start : (s : State) (id : ℕ) → among id (ids s.channels) ≡ true → (surveyed s.channels id).start.0 ≡ start_of s (indexOf id (ids s.channels))
 unfolding surveyed start_of
-surveyed-start s id e = rw e
+surveyed_start s id e = rw e
 
 -- ---- the ways out of `find`
-module _ (s : State) (id size : ℕ) (r : Survey) (is : r ≡ surveyOf s id) where
-  pub find-unfit : r.fits ≡ false → Place.Refused OUTSIDE-LIMITS ≡ place_of s id size
+module _ (s : State) (id size : ℕ) (r : Survey) (is : r ≡ survey_of s id) where
+  pub find_unfit : r.fits ≡ false → Place.Refused OUTSIDE-LIMITS ≡ place_of s id size
   unfolding place_of
-  find-unfit e = rw (survey-unfit s id r is e)
+  find_unfit e = rw (survey_unfit s id r is e)
 
   module _ (fits : r.fits ≡ true) where
-    total-is : r.total.0 ≡ sizes s.channels
+    total_is : r.total.0 ≡ sizes s.channels
     unfolding surveyed
-    total-is = rw (survey-at s id r is fits)
+    total_is = rw (survey_at s id r is fits)
 
     index_is : r.index ≡ indexOf id (ids s.channels)
     unfolding surveyed
-    index_is = rw (survey-at s id r is fits)
+    index_is = rw (survey_at s id r is fits)
 
-    pub find-long : (r.total.0 ≡ size → ⊥) → Place.Refused OUTSIDE-LIMITS ≡ place_of s id size
+    pub find_long : (r.total.0 ≡ size → ⊥) → Place.Refused OUTSIDE-LIMITS ≡ place_of s id size
     unfolding place_of
-    find-long other = rw (ne_eqb size (sizes s.channels) (λ e. other (total-is ∙ sym e)), and-false)
+    find_long other = rw (ne_eqb size (sizes s.channels) (λ e. other (total_is ∙ sym e)), and-false)
 
     module _ (long : r.total.0 ≡ size) where
-      judged : (stateFits s && eqb size (sizes s.channels)) ≡ true
-      judged = rw (survey-fits s id r is fits, eq-eqb size (sizes s.channels) (sym long ∙ total-is))
+      judged : (state_fits s && eqb size (sizes s.channels)) ≡ true
+      judged = rw (survey_fits s id r is fits, eq-eqb size (sizes s.channels) (sym long ∙ total_is))
 
       pub find_none : r.index ≡ length s.channels → Place.Refused NO-CHANNEL ≡ place_of s id size
       unfolding place_of
@@ -97,39 +97,39 @@ module _ (s : State) (id size : ℕ) (r : Survey) (is : r ≡ surveyOf s id) whe
       find_at other = go (among id (ids s.channels)) refl
         where
           go : (b : Bool) → among id (ids s.channels) ≡ b → Place.At (record { index = r.index; start = r.start.0 }) ≡ place_of s id size
-          go true t = rw (judged, t, index_is, survey-at s id r is fits, surveyed-start s id t)
+          go true t = rw (judged, t, index_is, survey_at s id r is fits, surveyed_start s id t)
           go false t = absurd (other (index_is ∙ lost s id t))
 
 -- ---- what a place that was found says
 pub record Finds (w : World) (id : ℕ) (found : Found) : Type 0 where
   pub located : Located w found
-  pub named : (channelIn w found.index).setting.id ≡ id
-  pub at-index : indexIn w id ≡ found.index
+  pub named : (channel_in w found.index).setting.id ≡ id
+  pub at_index : index_in w id ≡ found.index
 
 pub place_found : (w : World) (id : ℕ) (there : Found) → place_of w.state id (length w.memory) ≡ Place.At there → Finds w id there
-unfolding place_of memoryFits
-place_found w id there e = go (worldFits w) refl (isConfigured w id) refl
+unfolding place_of memory_fits
+place_found w id there e = go (world_fits w) refl (is_configured w id) refl
   where
-    go : (fits : Bool) → worldFits w ≡ fits → (known : Bool) → isConfigured w id ≡ known → Finds w id there
+    go : (fits : Bool) → world_fits w ≡ fits → (known : Bool) → is_configured w id ≡ known → Finds w id there
     go false f known t = clash (cc (rw f at e))
     go true f false t = clash (cc (rw (f, t) at e))
     go true f true t =
-        let is : ◌≡◌ {A = Found} (record { index = indexIn w id; start = start_of w.state (indexIn w id) }) there = cc (rw (f, t) at e) in
-        let i : indexIn w id ≡ there.index = ap (λ (x : Found). x.index) is in
-        let p : start_of w.state (indexIn w id) ≡ there.start = ap (λ (x : Found). x.start) is in
+        let is : ◌≡◌ {A = Found} (record { index = index_in w id; start = start_of w.state (index_in w id) }) there = cc (rw (f, t) at e) in
+        let i : index_in w id ≡ there.index = ap (λ (x : Found). x.index) is in
+        let p : start_of w.state (index_in w id) ≡ there.start = ap (λ (x : Found). x.start) is in
         record {
           located = record { fits = f; within = rw i at (found w.state id t).0; starts = sym p ∙ rw i };
           named = rw i at (found w.state id t).1;
-          at-index = i;
+          at_index = i;
         }
 
 -- and what a refusal says: 19 outside the limits, 12 within them where no channel has the ID
-pub place-refused : (w : World) (id number : ℕ) → place_of w.state id (length w.memory) ≡ Place.Refused number
-    → ((worldFits w ≡ false) × (number ≡ OUTSIDE-LIMITS)) ⊎ ((worldFits w ≡ true) × (isConfigured w id ≡ false) × (number ≡ NO-CHANNEL))
-unfolding place_of memoryFits
-place-refused w id number e = go (worldFits w) refl (isConfigured w id) refl
+pub place_refused : (w : World) (id number : ℕ) → place_of w.state id (length w.memory) ≡ Place.Refused number
+    → ((world_fits w ≡ false) × (number ≡ OUTSIDE-LIMITS)) ⊎ ((world_fits w ≡ true) × (is_configured w id ≡ false) × (number ≡ NO-CHANNEL))
+unfolding place_of memory_fits
+place_refused w id number e = go (world_fits w) refl (is_configured w id) refl
   where
-    go : (fits : Bool) → worldFits w ≡ fits → (known : Bool) → isConfigured w id ≡ known
+    go : (fits : Bool) → world_fits w ≡ fits → (known : Bool) → is_configured w id ≡ known
         → ((fits ≡ false) × (number ≡ OUTSIDE-LIMITS)) ⊎ ((fits ≡ true) × (known ≡ false) × (number ≡ NO-CHANNEL))
     go false f known t = let p : OUTSIDE-LIMITS ≡ number = cc (rw f at e) in inl (refl, sym p)
     go true f false t = let p : NO-CHANNEL ≡ number = cc (rw (f, t) at e) in inr (refl, refl, sym p)

@@ -8,117 +8,117 @@ use native.Mathlib.Omega.{arith}
 use lib.ListN.{length, take, drop, set, get_or, replicate}
 use lib.Seq.{take_all}
 use Rattle.quantity.specs.Limits.{LARGEST-STORE}
-use Rattle.ips_state.specs.State.{State, channelAt}
-use Rattle.ips_state.specs.Limits.{channelFits}
+use Rattle.ips_state.specs.State.{State, channel_at}
+use Rattle.ips_state.specs.Limits.{channel_fits}
 use Rattle.ips_state.proofs.Channels.{fitting}
-use Rattle.ips_words.specs.Words.{HEAD, SLOT, ID, SIZE, word, slot, slotStart, channelIn, state_of, spelled, all_spelled}
-use Rattle.ips_words.proofs.Whole.{channels-length, channel-at, slot-word, all-spelled-at}
-use Rattle.ips_words_survey.specs.Survey.{unfit, walked, Counted, walkedIn}
-use Rattle.ips_words_survey.proofs.Walking.{passed, upcoming, one_more, BYTES, Walking, walk_start, walk-most, walk_here, walk-other, walk-unfit, walk-twice, walk_none, walk_end}
+use Rattle.ips_words.specs.Words.{HEAD, SLOT, ID, SIZE, word, slot, slot_start, channel_in, state_of, spelled, all_spelled}
+use Rattle.ips_words.proofs.Whole.{channels_length, channel_at_lem, slot_word, all_spelled_at}
+use Rattle.ips_words_survey.specs.Survey.{unfit, walked, Counted, walked_in}
+use Rattle.ips_words_survey.proofs.Walking.{passed, upcoming, one_more, BYTES, Walking, walk_start, walk_most, walk_here, walk_other, walk_unfit, walk_twice, walk_none, walk_end}
 
 pub record Surveying (words : List ℕ) (id count : ℕ) (seen : List Bool) (total index start at from : ℕ) : Type 0 where
   pub inside : at ≤ count
-  pub from_is : from ≡ slotStart at
+  pub from_is : from ≡ slot_start at
   pub spell : all_spelled words at ≡ true
   pub walking : Walking id count (take at (state_of words).channels) seen total index start
 
-pub survey-start : (words : List ℕ) (id count : ℕ) → Surveying words id count (replicate BYTES false) 0 count 0 0 HEAD
+pub survey_start : (words : List ℕ) (id count : ℕ) → Surveying words id count (replicate BYTES false) 0 count 0 0 HEAD
 unfolding all_spelled
-survey-start words id count = record { inside = omega arith; from_is = omega arith; spell = refl; walking = walk_start id count }
+survey_start words id count = record { inside = omega arith; from_is = omega arith; spell = refl; walking = walk_start id count }
 
 module _ (words : List ℕ) (count : ℕ) (counted : Counted words count) where
   abbrev s : State
   s = state_of words
 
-  channels-are : length s.channels ≡ count
-  channels-are = channels-length words ∙ sym counted.count-is
+  channels_are : length s.channels ≡ count
+  channels_are = channels_length words ∙ sym counted.count_is
 
   -- ---- one channel
-  module _ (at from : ℕ) (inside : at < count) (from_is : from ≡ slotStart at) where
+  module _ (at from : ℕ) (inside : at < count) (from_is : from ≡ slot_start at) where
     within : at < length s.channels
-    within = omega (arith, channels-are)
+    within = omega (arith, channels_are)
 
-    channel-is : channelAt s at ≡ channelIn (slot words at)
-    channel-is = channel-at words at (omega (arith, counted.count-is))
+    channel_is : channel_at s at ≡ channel_in (slot words at)
+    channel_is = channel_at_lem words at (omega (arith, counted.count_is))
 
-    pub part-is : take (from + SLOT - from) (drop from words) ≡ slot words at
+    pub part_is : take (from + SLOT - from) (drop from words) ≡ slot words at
     unfolding slot
-    part-is = let n : from + SLOT - from ≡ SLOT = omega arith in rw (n, from_is)
+    part_is = let n : from + SLOT - from ≡ SLOT = omega arith in rw (n, from_is)
 
-    pub id-is : word words (from + ID) ≡ (channelAt s at).setting.id
-    unfolding channelIn
-    id-is = rw (channel-is, from_is) (sym (slot-word words at ID (omega arith)))
+    pub id_is : word words (from + ID) ≡ (channel_at s at).setting.id
+    unfolding channel_in
+    id_is = rw (channel_is, from_is) (sym (slot_word words at ID (omega arith)))
 
-    pub size_is : word words (from + SIZE) ≡ (channelAt s at).setting.size.0
-    unfolding channelIn
-    size_is = rw (channel-is, from_is) (sym (slot-word words at SIZE (omega arith)))
+    pub size_is : word words (from + SIZE) ≡ (channel_at s at).setting.size.0
+    unfolding channel_in
+    size_is = rw (channel_is, from_is) (sym (slot_word words at SIZE (omega arith)))
 
-    module _ (id : ℕ) (seen : List Bool) (total index start : ℕ) (v : Surveying words id count seen total index start at from) (fits : Bool) (judged : fits ≡ (spelled (slot words at) && channelFits (channelIn (slot words at)))) where
-      pub out-unfit : fits ≡ false → unfit ≡ walkedIn words count id
-      unfolding walkedIn
-      out-unfit f = go (all_spelled words count) refl
+    module _ (id : ℕ) (seen : List Bool) (total index start : ℕ) (v : Surveying words id count seen total index start at from) (fits : Bool) (judged : fits ≡ (spelled (slot words at) && channel_fits (channel_in (slot words at)))) where
+      pub out_unfit : fits ≡ false → unfit ≡ walked_in words count id
+      unfolding walked_in
+      out_unfit f = go (all_spelled words count) refl
         where
           go : (b : Bool) → all_spelled words count ≡ b → unfit ≡ cond b (walked s.channels id) unfit
           go false e = refl
           go true e =
-              let bad : channelFits (channelAt s at) ≡ false = rw channel-is (sym (sym f ∙ judged ∙ rw (all-spelled-at words count e at inside))) in
-              walk-unfit s.channels (take at s.channels) (drop (suc at) s.channels) (channelAt s at) id (upcoming s at within) bad
+              let bad : channel_fits (channel_at s at) ≡ false = rw channel_is (sym (sym f ∙ judged ∙ rw (all_spelled_at words count e at inside))) in
+              walk_unfit s.channels (take at s.channels) (drop (suc at) s.channels) (channel_at s at) id (upcoming s at within) bad
 
       module _ (good : fits ≡ true) where
-        spelled-here : spelled (slot words at) ≡ true
-        spelled-here = ((and-eq-true_iff (spelled (slot words at)) _).0 (sym judged ∙ good)).0
+        spelled_here : spelled (slot words at) ≡ true
+        spelled_here = ((and-eq-true_iff (spelled (slot words at)) _).0 (sym judged ∙ good)).0
 
-        fits-here : channelFits (channelAt s at) ≡ true
-        fits-here = rw channel-is ((and-eq-true_iff (spelled (slot words at)) _).0 (sym judged ∙ good)).1
+        fits_here : channel_fits (channel_at s at) ≡ true
+        fits_here = rw channel_is ((and-eq-true_iff (spelled (slot words at)) _).0 (sym judged ∙ good)).1
 
-        pub id-small : (channelAt s at).setting.id < BYTES
-        id-small = omega (arith, (fitting (channelAt s at) fits-here).unreserved)
+        pub id_small : (channel_at s at).setting.id < BYTES
+        id_small = omega (arith, (fitting (channel_at s at) fits_here).unreserved)
 
-        more-spelled : all_spelled words (at + 1) ≡ true
+        more_spelled : all_spelled words (at + 1) ≡ true
         unfolding all_spelled
-        more-spelled = rw (add-one at, v.spell, spelled-here)
+        more_spelled = rw (add-one at, v.spell, spelled_here)
 
-        module _ (here : ℕ) (here-is : here ≡ (channelAt s at).setting.id) where
-          pub out-twice : get_or seen here false ≡ true → unfit ≡ walkedIn words count id
-          unfolding walkedIn
-          out-twice e = go (all_spelled words count)
+        module _ (here : ℕ) (here-is : here ≡ (channel_at s at).setting.id) where
+          pub out_twice : get_or seen here false ≡ true → unfit ≡ walked_in words count id
+          unfolding walked_in
+          out_twice e = go (all_spelled words count)
             where
               go : (b : Bool) → unfit ≡ cond b (walked s.channels id) unfit
               go false = refl
               go true =
-                  walk-twice id count (take at s.channels) seen total index start v.walking (channelAt s at) id-small s.channels _
+                  walk_twice id count (take at s.channels) seen total index start v.walking (channel_at s at) id_small s.channels _
                   (upcoming s at within) (rw here-is at e)
 
-          module _ (unseen : get_or seen here false ≡ false) (size end index' start' : ℕ) (size-here : size ≡ (channelAt s at).setting.size.0) (end_is : end ≡ from + SLOT) where
-            goes_on : Walking id count (take at s.channels ++ (channelAt s at ∷ [])) (set seen here true) (total + size) index' start'
+          module _ (unseen : get_or seen here false ≡ false) (size end index' start' : ℕ) (size_here : size ≡ (channel_at s at).setting.size.0) (end_is : end ≡ from + SLOT) where
+            goes_on : Walking id count (take at s.channels ++ (channel_at s at ∷ [])) (set seen here true) (total + size) index' start'
                 → Surveying words id count (set seen here true) (total + size) index' start' (at + 1) end
-            goes_on w = record { inside = omega arith; from_is = omega arith; spell = more-spelled; walking = rw (one_more s at within) w }
+            goes_on w = record { inside = omega arith; from_is = omega arith; spell = more_spelled; walking = rw (one_more s at within) w }
 
-            pub on-here : here ≡ id → index' ≡ at → start' ≡ total → Surveying words id count (set seen here true) (total + size) index' start' (at + 1) end
-            on-here e i j =
-                goes_on (rw (here-is, size-here) (walk_here id count _ seen total index start v.walking (channelAt s at) id-small fits-here (rw here-is at unseen) (sym here-is ∙ e) index' start'
+            pub on_here : here ≡ id → index' ≡ at → start' ≡ total → Surveying words id count (set seen here true) (total + size) index' start' (at + 1) end
+            on_here e i j =
+                goes_on (rw (here-is, size_here) (walk_here id count _ seen total index start v.walking (channel_at s at) id_small fits_here (rw here-is at unseen) (sym here-is ∙ e) index' start'
                 (i ∙ sym (passed s at within)) j))
 
-            pub on-other : (here ≡ id → ⊥) → index' ≡ index → start' ≡ start → Surveying words id count (set seen here true) (total + size) index' start' (at + 1) end
-            on-other f i j =
-                goes_on (rw (here-is, size-here) (walk-other id count _ seen total index start v.walking (channelAt s at) id-small fits-here (rw here-is at unseen) (λ e. f (here-is ∙ e)) index' start' i j))
+            pub on_other : (here ≡ id → ⊥) → index' ≡ index → start' ≡ start → Surveying words id count (set seen here true) (total + size) index' start' (at + 1) end
+            on_other f i j =
+                goes_on (rw (here-is, size_here) (walk_other id count _ seen total index start v.walking (channel_at s at) id_small fits_here (rw here-is at unseen) (λ e. f (here-is ∙ e)) index' start' i j))
 
   -- ---- all are passed
   module _ (id : ℕ) (seen : List Bool) (total index start at from : ℕ) (v : Surveying words id count seen total index start at from) where
-    pub survey-most : total ≤ LARGEST-STORE * at
-    survey-most = walk-most s.channels at id count seen total index start v.walking
+    pub survey_most : total ≤ LARGEST-STORE * at
+    survey_most = walk_most s.channels at id count seen total index start v.walking
 
     module _ (over : count ≤ at) where
-      all-walked : Walking id count s.channels seen total index start
-      all-walked = rw (take_all at s.channels (omega (arith, channels-are))) at v.walking
+      all_walked : Walking id count s.channels seen total index start
+      all_walked = rw (take_all at s.channels (omega (arith, channels_are))) at v.walking
 
-      all-spell : all_spelled words count ≡ true
-      all-spell = let e : at ≡ count = omega (arith, v.inside) in rw e at v.spell
+      all_spell : all_spelled words count ≡ true
+      all_spell = let e : at ≡ count = omega (arith, v.inside) in rw e at v.spell
 
-      pub out_none : get_or seen 0 false ≡ false → unfit ≡ walkedIn words count id
-      unfolding walkedIn
-      out_none e = rw all-spell (walk_none id count s.channels seen total index start all-walked e)
+      pub out_none : get_or seen 0 false ≡ false → unfit ≡ walked_in words count id
+      unfolding walked_in
+      out_none e = rw all_spell (walk_none id count s.channels seen total index start all_walked e)
 
-      pub survey-end : get_or seen 0 false ≡ true → record { fits = true; total = record { 0 = total }; index = index; start = record { 0 = start } } ≡ walkedIn words count id
-      unfolding walkedIn
-      survey-end e = rw all-spell (walk_end id count s.channels seen total index start all-walked e (sym channels-are))
+      pub survey_end : get_or seen 0 false ≡ true → record { fits = true; total = record { 0 = total }; index = index; start = record { 0 = start } } ≡ walked_in words count id
+      unfolding walked_in
+      survey_end e = rw all_spell (walk_end id count s.channels seen total index start all_walked e (sym channels_are))

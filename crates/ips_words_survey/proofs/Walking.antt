@@ -13,23 +13,23 @@ use lib.Seq.{split_at, take-suc, length-take-le, take-append-le, take-append_sea
 use Rattle.quantity.specs.Limits.{FEWEST-CHANNELS, MOST-CHANNELS, LARGEST-STORE}
 use Rattle.meaning.specs.Kinds.{among}
 use Rattle.ips_channel.specs.declared.state.Channel.{Channel}
-use Rattle.ips_state.specs.State.{State, noChannel, channelAt}
-use Rattle.ips_state.specs.Limits.{channelFits, allFitUnder, all_fit, ids, distinct, channelsFitUnder, sizes, indexOf, headFits, stateFitsUnder}
-use Rattle.ips_words_survey.specs.Survey.{unfit, surveyed, walked, surveyOf}
-use Rattle.ips_state.proofs.Channels.{among_first, among_later, among-join, index-first, index-here, index-past, index-none, index-stands, distinct_more, distinct-twice, all_join, ids-join, ids-length, sizes-join, sizes-most, same_or_not}
+use Rattle.ips_state.specs.State.{State, no_channel, channel_at}
+use Rattle.ips_state.specs.Limits.{channel_fits, all_fit_under, all_fit, ids, distinct, channels_fit_under, sizes, indexOf, head_fits, state_fits_under}
+use Rattle.ips_words_survey.specs.Survey.{unfit, surveyed, walked, survey_of}
+use Rattle.ips_state.proofs.Channels.{among_first, among_later, among_join, index_first, index_here, index_past, index_none, index_stands, distinct_more, distinct_twice, all_join, ids_join, ids_length, sizes_join, sizes_most, same_or_not}
 
 -- ---- the channels, one by one
 module _ (s : State) (at : ℕ) (inside : at < length s.channels) where
   pub passed : length (take at s.channels) ≡ at
   passed = length-take-le at s.channels (omega arith)
 
-  pub upcoming : s.channels ≡ take at s.channels ++ (channelAt s at ∷ drop (suc at) s.channels)
-  unfolding channelAt
-  upcoming = split_at s.channels at noChannel inside
+  pub upcoming : s.channels ≡ take at s.channels ++ (channel_at s at ∷ drop (suc at) s.channels)
+  unfolding channel_at
+  upcoming = split_at s.channels at no_channel inside
 
-  pub one_more : take (at + 1) s.channels ≡ take at s.channels ++ (channelAt s at ∷ [])
-  unfolding channelAt
-  one_more = rw add-one (take-suc s.channels at noChannel inside)
+  pub one_more : take (at + 1) s.channels ≡ take at s.channels ++ (channel_at s at ∷ [])
+  unfolding channel_at
+  one_more = rw add-one (take-suc s.channels at no_channel inside)
 
 -- the values of a byte
 abbrev pub BYTES : ℕ
@@ -40,17 +40,17 @@ pub record Walking (id count : ℕ) (done : List Channel) (seen : List Bool) (to
   pub full : length seen ≡ BYTES
   pub fit : all_fit done ≡ true
   pub apart : distinct (ids done) ≡ true
-  pub seen-is : (k : ℕ) → k < BYTES → get_or seen k false ≡ among k (ids done)
-  pub total-is : total ≡ sizes done
+  pub seen_is : (k : ℕ) → k < BYTES → get_or seen k false ≡ among k (ids done)
+  pub total_is : total ≡ sizes done
   pub index_is : index ≡ cond (among id (ids done)) (indexOf id (ids done)) count
   pub start_is : start ≡ cond (among id (ids done)) (sizes (take (indexOf id (ids done)) done)) 0
 
 pub walk_start : (id count : ℕ) → Walking id count [] (replicate BYTES false) 0 count 0
-unfolding allFitUnder ids distinct sizes
-walk_start id count = record { full = length-replicate BYTES false; fit = refl; apart = refl; seen-is = λ k h. get_or-replicate BYTES k false false h; total-is = refl; index_is = refl; start_is = refl }
+unfolding all_fit_under ids distinct sizes
+walk_start id count = record { full = length-replicate BYTES false; fit = refl; apart = refl; seen_is = λ k h. get_or-replicate BYTES k false false h; total_is = refl; index_is = refl; start_is = refl }
 
-pub walk-most : (cs : List Channel) (at id count : ℕ) (seen : List Bool) (total index start : ℕ) → Walking id count (take at cs) seen total index start → total ≤ LARGEST-STORE * at
-walk-most cs at id count seen total index start w = omega (arith, w.total-is, sizes-most (take at cs) w.fit, length-take at cs, min-le_left at (length cs))
+pub walk_most : (cs : List Channel) (at id count : ℕ) (seen : List Bool) (total index start : ℕ) → Walking id count (take at cs) seen total index start → total ≤ LARGEST-STORE * at
+walk_most cs at id count seen total index start w = omega (arith, w.total_is, sizes_most (take at cs) w.fit, length-take at cs, min-le_left at (length cs))
 
 -- one channel more, whose ID is new
 module _ (done : List Channel) (c : Channel) (new : among c.setting.id (ids done) ≡ false) where
@@ -59,55 +59,55 @@ module _ (done : List Channel) (c : Channel) (new : among c.setting.id (ids done
 
   ids_more : ids more ≡ ids done ++ (c.setting.id ∷ [])
   unfolding ids
-  ids_more = ids-join done (c ∷ [])
+  ids_more = ids_join done (c ∷ [])
 
-  among-new : among c.setting.id (ids more) ≡ true
-  among-new = rw (ids_more, among-join c.setting.id (ids done) (c.setting.id ∷ []), new, among_first c.setting.id c.setting.id [] refl)
+  among_new : among c.setting.id (ids more) ≡ true
+  among_new = rw (ids_more, among_join c.setting.id (ids done) (c.setting.id ∷ []), new, among_first c.setting.id c.setting.id [] refl)
 
-  among-other : (k : ℕ) → (c.setting.id ≡ k → ⊥) → among k (ids more) ≡ among k (ids done)
-  among-other k f = rw (ids_more, among-join k (ids done) (c.setting.id ∷ []), among_later k c.setting.id [] f) (truth (among k (ids done)))
+  among_other : (k : ℕ) → (c.setting.id ≡ k → ⊥) → among k (ids more) ≡ among k (ids done)
+  among_other k f = rw (ids_more, among_join k (ids done) (c.setting.id ∷ []), among_later k c.setting.id [] f) (truth (among k (ids done)))
     where
       truth : (b : Bool) → cond b true false ≡ b
       truth true = refl
       truth false = refl
 
-  index-new : indexOf c.setting.id (ids more) ≡ length done
-  index-new = rw (ids_more, index-past c.setting.id (ids done) (c.setting.id ∷ []) new, index-first c.setting.id c.setting.id [] refl, ids-length) (omega arith)
+  index_new : indexOf c.setting.id (ids more) ≡ length done
+  index_new = rw (ids_more, index_past c.setting.id (ids done) (c.setting.id ∷ []) new, index_first c.setting.id c.setting.id [] refl, ids_length) (omega arith)
 
-  start-new : sizes (take (indexOf c.setting.id (ids more)) more) ≡ sizes done
-  start-new = rw (index-new, take-append_seam)
+  start_new : sizes (take (indexOf c.setting.id (ids more)) more) ≡ sizes done
+  start_new = rw (index_new, take-append_seam)
 
   module _ (k : ℕ) (there : among k (ids done) ≡ true) where
-    index-old : indexOf k (ids more) ≡ indexOf k (ids done)
-    index-old = rw ids_more (index-here k (ids done) (c.setting.id ∷ []) there)
+    index_old : indexOf k (ids more) ≡ indexOf k (ids done)
+    index_old = rw ids_more (index_here k (ids done) (c.setting.id ∷ []) there)
 
-    start-old : sizes (take (indexOf k (ids more)) more) ≡ sizes (take (indexOf k (ids done)) done)
-    start-old = rw (index-old, take-append-le (indexOf k (ids done)) done (c ∷ []) (omega (arith, (index-stands k (ids done) there).inside, ids-length done)))
+    start_old : sizes (take (indexOf k (ids more)) more) ≡ sizes (take (indexOf k (ids done)) done)
+    start_old = rw (index_old, take-append-le (indexOf k (ids done)) done (c ∷ []) (omega (arith, (index_stands k (ids done) there).inside, ids_length done)))
 
 module _ (id count : ℕ) (done : List Channel) (seen : List Bool) (total index start : ℕ) (w : Walking id count done seen total index start) (c : Channel) (byte : c.setting.id < BYTES) where
   known : get_or seen c.setting.id false ≡ among c.setting.id (ids done)
-  known = w.seen-is c.setting.id byte
+  known = w.seen_is c.setting.id byte
 
-  module _ (fits : channelFits c ≡ true) (unseen : get_or seen c.setting.id false ≡ false) where
+  module _ (fits : channel_fits c ≡ true) (unseen : get_or seen c.setting.id false ≡ false) where
     new : among c.setting.id (ids done) ≡ false
     new = sym known ∙ unseen
 
     seen_more : (k : ℕ) → k < BYTES → get_or (set seen c.setting.id true) k false ≡ among k (ids (more done c new))
     seen_more k h =
-        ⊎_elim (λ (e : c.setting.id ≡ k). rw (← e, get_or-set_same seen c.setting.id true false (omega (arith, w.full)), among-new done c new))
-        (λ (f : c.setting.id ≡ k → ⊥). get_or-set_other seen c.setting.id k true false (λ e. f (sym e)) ∙ w.seen-is k h ∙ sym (among-other done c new k f)) (same_or_not c.setting.id k)
+        ⊎_elim (λ (e : c.setting.id ≡ k). rw (← e, get_or-set_same seen c.setting.id true false (omega (arith, w.full)), among_new done c new))
+        (λ (f : c.setting.id ≡ k → ⊥). get_or-set_other seen c.setting.id k true false (λ e. f (sym e)) ∙ w.seen_is k h ∙ sym (among_other done c new k f)) (same_or_not c.setting.id k)
 
-    walk-on : (index' start' : ℕ)
+    walk_on : (index' start' : ℕ)
         → index' ≡ cond (among id (ids (more done c new))) (indexOf id (ids (more done c new))) count
         → start' ≡ cond (among id (ids (more done c new))) (sizes (take (indexOf id (ids (more done c new))) (more done c new))) 0
         → Walking id count (more done c new) (set seen c.setting.id true) (total + c.setting.size.0) index' start'
-    unfolding allFitUnder sizes
-    walk-on index' start' i j = record {
+    unfolding all_fit_under sizes
+    walk_on index' start' i j = record {
       full = simp length-set w.full;
       fit = all_join done (c ∷ []) ∙ rw (w.fit, fits);
       apart = rw (ids_more done c new) (distinct_more (ids done) c.setting.id w.apart new);
-      seen-is = seen_more;
-      total-is = rw (sizes-join done (c ∷ []), w.total-is) (omega arith);
+      seen_is = seen_more;
+      total_is = rw (sizes_join done (c ∷ []), w.total_is) (omega arith);
       index_is = i;
       start_is = j;
     }
@@ -115,64 +115,64 @@ module _ (id count : ℕ) (done : List Channel) (seen : List Bool) (total index 
     pub walk_here : c.setting.id ≡ id → (index' start' : ℕ) → index' ≡ length done → start' ≡ total
         → Walking id count (done ++ (c ∷ [])) (set seen c.setting.id true) (total + c.setting.size.0) index' start'
     walk_here e index' start' i j =
-        walk-on index' start' (rw (← e, among-new done c new, index-new done c new) i) (rw (← e, among-new done c new, start-new done c new) (j ∙ w.total-is))
+        walk_on index' start' (rw (← e, among_new done c new, index_new done c new) i) (rw (← e, among_new done c new, start_new done c new) (j ∙ w.total_is))
 
-    pub walk-other : (c.setting.id ≡ id → ⊥) → (index' start' : ℕ) → index' ≡ index → start' ≡ start
+    pub walk_other : (c.setting.id ≡ id → ⊥) → (index' start' : ℕ) → index' ≡ index → start' ≡ start
         → Walking id count (done ++ (c ∷ [])) (set seen c.setting.id true) (total + c.setting.size.0) index' start'
-    walk-other f index' start' i j =
-        walk-on index' start' (rw (among-other done c new id f) (i ∙ w.index_is ∙ same_index (among id (ids done)) refl)) (rw (among-other done c new id f) (j ∙ w.start_is ∙ same_start (among id (ids done)) refl))
+    walk_other f index' start' i j =
+        walk_on index' start' (rw (among_other done c new id f) (i ∙ w.index_is ∙ same_index (among id (ids done)) refl)) (rw (among_other done c new id f) (j ∙ w.start_is ∙ same_start (among id (ids done)) refl))
       where
         same_index : (b : Bool) → among id (ids done) ≡ b → cond b (indexOf id (ids done)) count ≡ cond b (indexOf id (ids (more done c new))) count
-        same_index true t = sym (index-old done c new id t)
+        same_index true t = sym (index_old done c new id t)
         same_index false t = refl
 
         same_start : (b : Bool) → among id (ids done) ≡ b
             → cond b (sizes (take (indexOf id (ids done)) done)) 0 ≡ cond b (sizes (take (indexOf id (ids (more done c new))) (more done c new))) 0
-        same_start true t = sym (start-old done c new id t)
+        same_start true t = sym (start_old done c new id t)
         same_start false t = refl
 
   -- the way out at a channel whose ID was there before
   module _ (cs rest : List Channel) (d : cs ≡ done ++ (c ∷ rest)) where
-    pub walk-twice : get_or seen c.setting.id false ≡ true → unfit ≡ walked cs id
-    unfolding walked channelsFitUnder ids
-    walk-twice e = rw (d, ids-join done (c ∷ rest), distinct-twice (ids done) (ids rest) c.setting.id (sym known ∙ e), and-false)
+    pub walk_twice : get_or seen c.setting.id false ≡ true → unfit ≡ walked cs id
+    unfolding walked channels_fit_under ids
+    walk_twice e = rw (d, ids_join done (c ∷ rest), distinct_twice (ids done) (ids rest) c.setting.id (sym known ∙ e), and-false)
 
 -- a channel outside the limits, whatever its ID
-pub walk-unfit : (cs done rest : List Channel) (c : Channel) (id : ℕ) → cs ≡ done ++ (c ∷ rest) → channelFits c ≡ false → unfit ≡ walked cs id
-unfolding walked channelsFitUnder allFitUnder
-walk-unfit cs done rest c id d e = rw (d, all_join done (c ∷ rest), e, and-false)
+pub walk_unfit : (cs done rest : List Channel) (c : Channel) (id : ℕ) → cs ≡ done ++ (c ∷ rest) → channel_fits c ≡ false → unfit ≡ walked cs id
+unfolding walked channels_fit_under all_fit_under
+walk_unfit cs done rest c id d e = rw (d, all_join done (c ∷ rest), e, and-false)
 
 -- ---- all are passed
 module _ (id count : ℕ) (cs : List Channel) (seen : List Bool) (total index start : ℕ) (w : Walking id count cs seen total index start) where
   pub walk_none : get_or seen 0 false ≡ false → unfit ≡ walked cs id
-  unfolding walked channelsFitUnder
-  walk_none e = rw (w.fit, w.apart, sym (w.seen-is 0 (omega arith)) ∙ e)
+  unfolding walked channels_fit_under
+  walk_none e = rw (w.fit, w.apart, sym (w.seen_is 0 (omega arith)) ∙ e)
 
   pub walk_end : get_or seen 0 false ≡ true → count ≡ length cs → record { fits = true; total = record { 0 = total }; index = index; start = record { 0 = start } } ≡ walked cs id
-  unfolding walked channelsFitUnder surveyed
-  walk_end e l = rw (w.fit, w.apart, sym (w.seen-is 0 (omega arith)) ∙ e, w.total-is, w.start_is, place)
+  unfolding walked channels_fit_under surveyed
+  walk_end e l = rw (w.fit, w.apart, sym (w.seen_is 0 (omega arith)) ∙ e, w.total_is, w.start_is, place)
     where
       last : (b : Bool) → among id (ids cs) ≡ b → cond b (indexOf id (ids cs)) count ≡ indexOf id (ids cs)
       last true t = refl
-      last false t = l ∙ sym (index-none id (ids cs) t ∙ ids-length cs)
+      last false t = l ∙ sym (index_none id (ids cs) t ∙ ids_length cs)
 
       place : index ≡ indexOf id (ids cs)
       place = w.index_is ∙ last (among id (ids cs)) refl
 
 -- ---- the state's other limits, before the pass
 module _ (s : State) (id : ℕ) where
-  pub survey-few : length s.channels < FEWEST-CHANNELS → unfit ≡ surveyOf s id
-  unfolding surveyOf stateFitsUnder
-  survey-few h = rw (lt-leb FEWEST-CHANNELS (length s.channels) h)
+  pub survey_few : length s.channels < FEWEST-CHANNELS → unfit ≡ survey_of s id
+  unfolding survey_of state_fits_under
+  survey_few h = rw (lt-leb FEWEST-CHANNELS (length s.channels) h)
 
-  pub survey-many : MOST-CHANNELS < length s.channels → unfit ≡ surveyOf s id
-  unfolding surveyOf stateFitsUnder
-  survey-many h = rw (lt-leb (length s.channels) MOST-CHANNELS h, and-false)
+  pub survey_many : MOST-CHANNELS < length s.channels → unfit ≡ survey_of s id
+  unfolding survey_of state_fits_under
+  survey_many h = rw (lt-leb (length s.channels) MOST-CHANNELS h, and-false)
 
-  pub survey-head : headFits s ≡ false → unfit ≡ surveyOf s id
-  unfolding surveyOf stateFitsUnder
-  survey-head e = rw (e, and-false)
+  pub survey_head : head_fits s ≡ false → unfit ≡ survey_of s id
+  unfolding survey_of state_fits_under
+  survey_head e = rw (e, and-false)
 
-  pub survey-walk : FEWEST-CHANNELS ≤ length s.channels → length s.channels ≤ MOST-CHANNELS → headFits s ≡ true → walked s.channels id ≡ surveyOf s id
-  unfolding surveyOf stateFitsUnder walked
-  survey-walk some few e = rw (le-leb FEWEST-CHANNELS (length s.channels) some, le-leb (length s.channels) MOST-CHANNELS few, e)
+  pub survey_walk : FEWEST-CHANNELS ≤ length s.channels → length s.channels ≤ MOST-CHANNELS → head_fits s ≡ true → walked s.channels id ≡ survey_of s id
+  unfolding survey_of state_fits_under walked
+  survey_walk some few e = rw (le-leb FEWEST-CHANNELS (length s.channels) some, le-leb (length s.channels) MOST-CHANNELS few, e)

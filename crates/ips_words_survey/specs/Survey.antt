@@ -4,8 +4,8 @@ use Rattle.quantity.specs.Limits.{MOST-CHANNELS}
 use Rattle.meaning.specs.Kinds.{among}
 use Rattle.ips_channel.specs.declared.state.Channel.{Channel}
 use Rattle.ips_state.specs.State.{State}
-use Rattle.ips_state.specs.Limits.{ids, channelsFit, stateFits, sizes, indexOf}
-use Rattle.ips_words.specs.Words.{COUNT-WORD, CONTROLLED, FREE, wordsFor, word, state_of, all_spelled}
+use Rattle.ips_state.specs.Limits.{ids, channels_fit, state_fits, sizes, indexOf}
+use Rattle.ips_words.specs.Words.{COUNT-WORD, CONTROLLED, FREE, words_for, word, state_of, all_spelled}
 use Rattle.ips_words_survey.specs.declared.survey.Survey.{Survey}
 
 unfoldable pub unfit : Survey
@@ -16,21 +16,21 @@ surveyed cs id =
     record { fits = true; total = record { 0 = sizes cs }; index = indexOf id (ids cs); start = record { 0 = cond (among id (ids cs)) (sizes (take (indexOf id (ids cs)) cs)) 0 } }
 
 unfoldable pub walked : List Channel → ℕ → Survey
-walked cs id = cond (channelsFit cs) (surveyed cs id) unfit
+walked cs id = cond (channels_fit cs) (surveyed cs id) unfit
 
-unfoldable pub surveyOf : State → ℕ → Survey
-surveyOf s id = cond (stateFits s) (surveyed s.channels id) unfit
+unfoldable pub survey_of : State → ℕ → Survey
+survey_of s id = cond (state_fits s) (surveyed s.channels id) unfit
 
 -- ---- the same over words
 -- a plain channel is free
-abbrev pub plainFree : (kind tag : ℕ) → Bool
-plainFree kind tag = cond (eqb kind CONTROLLED) true (eqb tag FREE)
+abbrev pub plain_free : (kind tag : ℕ) → Bool
+plain_free kind tag = cond (eqb kind CONTROLLED) true (eqb tag FREE)
 
 -- what has been tested before the pass, and what the pass gives
 pub record Counted (words : List ℕ) (count : ℕ) : Type 0 where
-  pub long : length words ≡ wordsFor count
-  pub count-is : count ≡ word words COUNT-WORD
+  pub long : length words ≡ words_for count
+  pub count_is : count ≡ word words COUNT-WORD
   pub few : count ≤ MOST-CHANNELS
 
-unfoldable pub walkedIn : List ℕ → ℕ → ℕ → Survey
-walkedIn words count id = cond (all_spelled words count) (walked (state_of words).channels id) unfit
+unfoldable pub walked_in : List ℕ → ℕ → ℕ → Survey
+walked_in words count id = cond (all_spelled words count) (walked (state_of words).channels id) unfit

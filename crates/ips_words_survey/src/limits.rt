@@ -2,11 +2,11 @@
 ghost use Rattle.std.specs.Prelude.{◌≡◌, ◌&&◌, length, leb, ltb};
 ghost use Rattle.quantity.specs.Limits.{RESERVED-CHANNEL, SMALLEST-STORE, LARGEST-STORE};
 ghost use Rattle.meaning.specs.declared.message.End.TheVariants as ends;
-ghost use Rattle.writable.specs.Allowed.{statusAllowed};
-ghost use Rattle.store.specs.Waiting.{wellFormed};
-ghost use Rattle.ips_state.specs.Limits.{channelFits};
-ghost use Rattle.ips_words.specs.Words.{SLOT, statusOf, queueIn, channelIn, spelled};
-ghost use Rattle.ips_words_survey.specs.Survey.{plainFree};
+ghost use Rattle.writable.specs.Allowed.{status_allowed};
+ghost use Rattle.store.specs.Waiting.{well_formed};
+ghost use Rattle.ips_state.specs.Limits.{channel_fits};
+ghost use Rattle.ips_words.specs.Words.{SLOT, status_of, queue_in, channel_in, spelled};
+ghost use Rattle.ips_words_survey.specs.Survey.{plain_free};
 
 use ips_words::layout::{
     ABSENT, BYTE_VALUES, CONTROLLED, COUNT_VALUES, ENTRY, FIXED, FLOW_TAG, FLOW_WINDOW, FREE,
@@ -38,7 +38,7 @@ fn setting_fits(id: u64, size: usize) -> bool
 }
 
 fn status_fits(tag: u64, value: u64) -> bool
-    ensures { result ≡ statusAllowed ends.Radio (statusOf tag value) }
+    ensures { result ≡ status_allowed ends.Radio (status_of tag value) }
 {
     if tag == ABSENT {
         return true;
@@ -48,7 +48,7 @@ fn status_fits(tag: u64, value: u64) -> bool
 
 // A plain channel is free.
 fn flow_fits(kind: u64, tag: u64) -> bool
-    ensures { result ≡ plainFree kind tag }
+    ensures { result ≡ plain_free kind tag }
 {
     if kind == CONTROLLED {
         return true;
@@ -59,7 +59,7 @@ fn flow_fits(kind: u64, tag: u64) -> bool
 // Whether what waits is what a store of this size can hold.
 fn well_formed(part: &[u64], size: usize) -> bool
     requires { length part.now ≡ SLOT }
-    ensures { result ≡ wellFormed (queueIn part.now) size }
+    ensures { result ≡ well_formed (queue_in part.now) size }
 {
     let count = waiting::narrow(part[WAITING]);
     if count > MOST_WAITING {
@@ -86,7 +86,7 @@ fn well_formed(part: &[u64], size: usize) -> bool
 // Whether the words say a channel within the limits.
 pub(crate) fn channel_fits(part: &[u64]) -> bool
     requires { length part.now ≡ SLOT }
-    ensures { result ≡ (spelled part.now && channelFits (channelIn part.now)) }
+    ensures { result ≡ (spelled part.now && channel_fits (channel_in part.now)) }
 {
     let size = waiting::narrow(part[SIZE]);
     is_spelled(part)

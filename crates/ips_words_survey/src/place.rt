@@ -1,6 +1,6 @@
 // Where a call finds its channel and its store, or the refusal: 19, then 12.
 ghost use Rattle.std.specs.Prelude.{◌≡◌};
-ghost use Rattle.ips_words.specs.Words.{stateIn};
+ghost use Rattle.ips_words.specs.Words.{state_in};
 ghost use Rattle.ips_words_survey.specs.Places.{place_of};
 
 use crate::survey;
@@ -23,7 +23,7 @@ pub enum Place {
 
 // The place of a channel's words and store, where the memory has this length.
 pub fn find(words: &[u64], id: u8, size: usize) -> Place
-    ensures { result ≡ place_of (stateIn words.now) id size }
+    ensures { result ≡ place_of (state_in words.now) id size }
 {
     let survey = survey::survey_words(words, id);
     if !survey.fits {

@@ -1,8 +1,8 @@
 // One pass over the words: whether the state that they stand for is within the limits, and where a channel and its store stand.
 ghost use Rattle.std.specs.Prelude.{◌≡◌, ◌≤◌, length};
-ghost use Rattle.ips_state.specs.Limits.{namesFit, headFits};
-ghost use Rattle.ips_words.specs.Words.{HEAD, state_of, stateIn, headSpelled};
-ghost use Rattle.ips_words_survey.specs.Survey.{unfit, Counted, walkedIn, surveyOf};
+ghost use Rattle.ips_state.specs.Limits.{names_fit, head_fits};
+ghost use Rattle.ips_words.specs.Words.{HEAD, state_of, state_in, head_spelled};
+ghost use Rattle.ips_words_survey.specs.Survey.{unfit, Counted, walked_in, survey_of};
 
 use crate::limits;
 use ips_words::layout::{
@@ -42,7 +42,7 @@ fn outside() -> Survey
 // The channels one after another: `seen` has the Channel IDs before.
 fn walk(words: &[u64], count: usize, id: u8) -> Survey
     requires { Counted words.now count }
-    ensures { result ≡ walkedIn words.now count id }
+    ensures { result ≡ walked_in words.now count id }
 {
     let mut seen = [false; BYTES];
     let mut total: usize = 0;
@@ -82,7 +82,7 @@ fn walk(words: &[u64], count: usize, id: u8) -> Survey
 // Link Instance and Context within their lengths.
 fn names_fit(words: &[u64]) -> bool
     requires { HEAD ≤ length words.now }
-    ensures { result ≡ namesFit (state_of words.now) }
+    ensures { result ≡ names_fit (state_of words.now) }
 {
     let instance = head::instance(words);
     let context = head::context(words);
@@ -92,7 +92,7 @@ fn names_fit(words: &[u64]) -> bool
 // The two waits too.
 fn head_fits(words: &[u64]) -> bool
     requires { HEAD ≤ length words.now }
-    ensures { result ≡ headFits (state_of words.now) }
+    ensures { result ≡ head_fits (state_of words.now) }
 {
     let kept = head::pacer(words);
     names_fit(words) && pacer::fits(kept.hello, kept.limit)
@@ -100,7 +100,7 @@ fn head_fits(words: &[u64]) -> bool
 
 fn head_spelled(words: &[u64]) -> bool
     requires { HEAD ≤ length words.now }
-    ensures { result ≡ headSpelled words.now }
+    ensures { result ≡ head_spelled words.now }
 {
     words[DATALINK_WORD] < BYTE_VALUES
         && (words[INSTANCE_TAG] <= GIVEN
@@ -109,7 +109,7 @@ fn head_spelled(words: &[u64]) -> bool
 
 // Whether the state is within the limits, the length of the memory it asks for, and where the channel of an ID and its store stand.
 pub fn survey_words(words: &[u64], id: u8) -> Survey
-    ensures { result ≡ surveyOf (stateIn words.now) id }
+    ensures { result ≡ survey_of (state_in words.now) id }
 {
     if words.len() < layout::HEAD {
         return outside();

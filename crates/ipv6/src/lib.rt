@@ -1,6 +1,6 @@
 // An offered packet, judged by the fixed header of RFC 8200.
 ghost use Rattle.std.specs.Prelude.{◌≡◌};
-ghost use Rattle.ipv6.specs.Ipv6.{isIpv6};
+ghost use Rattle.ipv6.specs.Ipv6.{is_ipv6};
 
 use quantity::limit::SHORTEST_PACKET;
 
@@ -15,7 +15,7 @@ const PAYLOAD_LENGTH_END: usize = 6;
 
 // Whether number 13 lets a packet pass: 40 bytes, version 6, and the Payload Length is the rest.
 pub fn is_ipv6(packet: &[u8]) -> bool
-    ensures { result ≡ isIpv6 packet.now }
+    ensures { result ≡ is_ipv6 packet.now }
 {
     if packet.len() < SHORTEST_PACKET {
         return false;

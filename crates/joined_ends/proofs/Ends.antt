@@ -14,50 +14,50 @@ use Rattle.facts.proofs.Tests.{clash}
 use Rattle.quantity.specs.declared.count.ByteCount.{ByteCount}
 use Rattle.quantity.specs.declared.count.DatalinkId.{DatalinkId}
 use Rattle.quantity.specs.declared.count.FlowSequence.{FlowSequence}
-use Rattle.quantity.specs.Window.{sequenceAt}
+use Rattle.quantity.specs.Window.{sequence_at}
 use Rattle.meaning.specs.declared.message.Sequence.{Sequence}
 use Rattle.meaning.specs.declared.message.Window.{Window}
 use Rattle.meaning.specs.declared.message.Control.{Control}
 use Rattle.radio_flow.specs.Granting.{granted}
-use Rattle.radio_flow.specs.Numbers.{heardAll}
-use Rattle.radio_end_state.specs.Channel.{windowNow}
+use Rattle.radio_flow.specs.Numbers.{heard_all}
+use Rattle.radio_end_state.specs.Channel.{window_now}
 use Rattle.radio_end_state.specs.State as state
-use Rattle.radio_end_state.specs.Message.{messageOf}
+use Rattle.radio_end_state.specs.Message.{message_of}
 use Rattle.radio_end_run.specs.Run as station
 use Rattle.ips_channel_rules.specs.Rules.{next, Tried, sent, Answer, answered, called, call, Terms, Condition, step, final}
-use Rattle.ips_channel_rules.specs.Simple.{Limit, free, none, up_to, Counter, fitsBelow, countOn, simple}
+use Rattle.ips_channel_rules.specs.Simple.{Limit, free, none, up_to, Counter, fits_below, count_on, simple}
 use Rattle.ips_state.specs.State.{Configuration, start_at}
-use Rattle.ips_state.specs.Limits.{configurationTaken}
+use Rattle.ips_state.specs.Limits.{configuration_taken}
 use Rattle.ips_state.specs.Memory.{World}
-use Rattle.ips_radio.specs.Heard.{windowIn}
+use Rattle.ips_radio.specs.Heard.{window_in}
 use Rattle.ips_run.specs.Calling.{calling}
 use Rattle.ips_run.specs.Run.{Call, on, radio, pace, query}
 use Rattle.ips_run.specs.Run as run
-use Rattle.ips_run.specs.Demand.{bytesIn, ruled, simplyAt}
-use Rattle.ips_calls.specs.Replies.{replyOf, handedOut}
-use Rattle.joined.specs.Net.{Heard, unheard, word_of, afterHearing, reachOf, Told, Net, afterHear, afterTell, AGE, MOST-GRANTED, Reach, stays, goes_on}
+use Rattle.ips_run.specs.Demand.{bytes_in, ruled, simply_at}
+use Rattle.ips_calls.specs.Replies.{reply_of, handed_out}
+use Rattle.joined.specs.Net.{Heard, unheard, word_of, after_hearing, reach_of, Told, Net, after_hear, after_tell, AGE, MOST-GRANTED, Reach, stays, goes_on}
 use Rattle.joined.specs.Net as net
-use Rattle.joined.proofs.Net.{heard-words, together, never-past, never-free}
-use Rattle.joined_ends.specs.Ends.{writtenIn, Sent, Down, Watched, Ends, count_of, statedIn, UpArrives, MayAct, MayCall, sentAt, downAs, heardNow, allowanceAt, boundIf, tellingOf, told, lifeAfter, afterAct, heardIn, heardAfter, channelAfter, after_call, Step, acts, calls, NotPast, start}
+use Rattle.joined.proofs.Net.{heard_words_lem, together, never_past, never_free}
+use Rattle.joined_ends.specs.Ends.{written_in, Sent, Down, Watched, Ends, count_of, stated_in, UpArrives, MayAct, MayCall, sent_at, down_as, heard_now, allowance_at, bound_if, telling_of, told, life_after, after_act, heard_in, heard_after, channel_after, after_call, Step, acts, calls, NotPast, start}
 use Rattle.joined_ends.proofs.Moves.{Moves}
 use Rattle.joined_ends.proofs.Stated.{StatesOf, After, Went}
-use Rattle.joined_ends.proofs.Acting.{Own, own_fresh, own-step, own-after, Comes, act-moves, handed-states}
-use Rattle.joined_ends.proofs.Telling.{heard-few, heard-none, Radio, radio-step, written_is, window-granted, received_is, stated-window}
+use Rattle.joined_ends.proofs.Acting.{Own, own_fresh, own_step, own_after, Comes, act_moves, handed_states}
+use Rattle.joined_ends.proofs.Telling.{heard_few, heard_none, Radio, radio_step, written_is, window_granted, received_is, stated_window}
 
 -- ---- what arrives is made of bytes
-pub act-bytes : (x : Watched) (c : Call) → MayAct c x → bytesIn c
-act-bytes x (on id c) m = tt
-act-bytes x (radio time datagram) m = m.octets
-act-bytes x (pace time) m = tt
-act-bytes x (query out) m = tt
+pub act_bytes : (x : Watched) (c : Call) → MayAct c x → bytes_in c
+act_bytes x (on id c) m = tt
+act_bytes x (radio time datagram) m = m.octets
+act_bytes x (pace time) m = tt
+act_bytes x (query out) m = tt
 
-call-bytes : (k : Terms) (x : Watched) (c : station.Call) → MayCall k c x → station.bytesIn c
-call-bytes k x (station.hear datagram out) m = m.octets
-call-bytes k x (station.status id value out) m = tt
-call-bytes k x (station.queued id bytes out) m = tt
-call-bytes k x (station.context value out) m = tt
-call-bytes k x (station.link instance) m = tt
-call-bytes k x (station.tell out) m = tt
+call_bytes : (k : Terms) (x : Watched) (c : station.Call) → MayCall k c x → station.bytes_in c
+call_bytes k x (station.hear datagram out) m = m.octets
+call_bytes k x (station.status id value out) m = tt
+call_bytes k x (station.queued id bytes out) m = tt
+call_bytes k x (station.context value out) m = tt
+call_bytes k x (station.link instance) m = tt
+call_bytes k x (station.tell out) m = tt
 
 -- ---- one of some new ones, or one of the old
 among : {A B : Type 0} (f : A → B) (xs : List A) (ys : List B) (b : B) → Memᴰ b (map f xs ++ ys) → ((a : A) × Memᴰ a xs × (b ≡ f a)) ⊎ Memᴰ b ys
@@ -74,38 +74,38 @@ told_same a b v w p q e f g = rw (e, f, g)
 
 -- ---- what was heard, in the net
 pub record Listens (x : Net) (hd : Heard) (ss : List FlowSequence) : Type 0 where
-  pub net-is : Net
-  pub reach : Reach (net.Step AGE MOST-GRANTED) x net-is
-  pub counter-is : net-is.counter ≡ x.counter
-  pub heard-is : net-is.heard ≡ heardNow hd ss
-  pub top-is : net-is.top ≡ x.top
-  pub ups-are : net-is.ups ≡ x.ups
-  pub downs-are : net-is.downs ≡ x.downs
-  pub word : heardAll (word_of hd) ss ≡ word_of (heardNow hd ss)
+  pub net_is : Net
+  pub reach : Reach (net.Step AGE MOST-GRANTED) x net_is
+  pub counter_is : net_is.counter ≡ x.counter
+  pub heard_is : net_is.heard ≡ heard_now hd ss
+  pub top_is : net_is.top ≡ x.top
+  pub ups_are : net_is.ups ≡ x.ups
+  pub downs_are : net_is.downs ≡ x.downs
+  pub word : heard_all (word_of hd) ss ≡ word_of (heard_now hd ss)
 
-listens-none : (x : Net) (hd : Heard) → x.heard ≡ hd → Listens x hd []
-listens-none x hd e = record { net-is = x; reach = stays x; counter-is = refl; heard-is = e; top-is = refl; ups-are = refl; downs-are = refl; word = refl }
+listens_none : (x : Net) (hd : Heard) → x.heard ≡ hd → Listens x hd []
+listens_none x hd e = record { net_is = x; reach = stays x; counter_is = refl; heard_is = e; top_is = refl; ups_are = refl; downs_are = refl; word = refl }
 
-listens-one : (x : Net) (hd : Heard) (at : ℕ) → x.heard ≡ hd → Memᴰ at x.ups → x.counter.count < at + AGE → Listens x hd (sequenceAt at ∷ [])
-listens-one x hd at e m young =
+listens_one : (x : Net) (hd : Heard) (at : ℕ) → x.heard ≡ hd → Memᴰ at x.ups → x.counter.count < at + AGE → Listens x hd (sequence_at at ∷ [])
+listens_one x hd at e m young =
     record {
-      net-is = afterHear at x;
-      reach = goes_on x x (afterHear at x) (stays x) (net.hears x at m young);
-      counter-is = refl;
-      heard-is = ap (λ (h : Heard). afterHearing h (sequenceAt at)) e;
-      top-is = refl;
-      ups-are = refl;
-      downs-are = refl;
-      word = sym (heard-words hd (sequenceAt at) (omega arith));
+      net_is = after_hear at x;
+      reach = goes_on x x (after_hear at x) (stays x) (net.hears x at m young);
+      counter_is = refl;
+      heard_is = ap (λ (h : Heard). after_hearing h (sequence_at at)) e;
+      top_is = refl;
+      ups_are = refl;
+      downs_are = refl;
+      word = sym (heard_words_lem hd (sequence_at at) (omega arith));
     }
 
 -- what fits on a channel that isn't free is counted whole
-grows_all : (count : ℕ) (l : Limit) (n : ℕ) → (l ≡ free → ⊥) → fitsBelow count l n ≡ true → countOn count l n ≡ count + n
+grows_all : (count : ℕ) (l : Limit) (n : ℕ) → (l ≡ free → ⊥) → fits_below count l n ≡ true → count_on count l n ≡ count + n
 grows_all count free n not e = absurd (not refl)
 grows_all count none n not e = clash e
 grows_all count (up_to z) n not e = refl
 
-module _ (conf : Configuration) (fits : configurationTaken conf ≡ true) (small : (i : ℕ) → i < length conf.starts → (start_at conf i).first.0 < 2 ^ 32)
+module _ (conf : Configuration) (fits : configuration_taken conf ≡ true) (small : (i : ℕ) → i < length conf.starts → (start_at conf i).first.0 < 2 ^ 32)
     (index : ℕ) (inside : index < length conf.starts) (controlled : (start_at conf index).setting.controlled ≡ true) (j : ℕ) where
   abbrev k : Terms
   k = ruled conf index
@@ -115,240 +115,240 @@ module _ (conf : Configuration) (fits : configurationTaken conf ≡ true) (small
 
   record DownIs (d : Down) : Type 0 where
     message : Control
-    got : run.receivedIn k.datalink d.datagram ≡ run.stated message
-    window-is : windowIn message k.id ≡ d.told.window
+    got : run.received_in k.datalink d.datagram ≡ run.stated message
+    window_is : window_in message k.id ≡ d.told.window
 
   record Joined (x : Ends) : Type 0 where
     own : OwnIn x.world x.watched.life
     far : Radio k j x.station x.watched.heard
-    net-is : Net
-    reach : Reach (net.Step AGE MOST-GRANTED) (net.start (start_at conf index).first) net-is
-    counter-is : net-is.counter ≡ x.watched.life.counting
-    heard-is : net-is.heard ≡ x.watched.heard
-    top-is : net-is.top ≡ x.watched.top
-    ups-there : (u : Sent) → Memᴰ u x.watched.ups → Memᴰ u.at net-is.ups
-    ups-state : (u : Sent) → Memᴰ u x.watched.ups → StatesOf k.datalink k.id u.datagram u.at
-    downs-there : (d : Down) → Memᴰ d x.watched.downs → Memᴰ d.told net-is.downs
-    downs-state : (d : Down) → Memᴰ d x.watched.downs → DownIs d
+    net_is : Net
+    reach : Reach (net.Step AGE MOST-GRANTED) (net.start (start_at conf index).first) net_is
+    counter_is : net_is.counter ≡ x.watched.life.counting
+    heard_is : net_is.heard ≡ x.watched.heard
+    top_is : net_is.top ≡ x.watched.top
+    ups_there : (u : Sent) → Memᴰ u x.watched.ups → Memᴰ u.at net_is.ups
+    ups_state : (u : Sent) → Memᴰ u x.watched.ups → StatesOf k.datalink k.id u.datagram u.at
+    downs_there : (d : Down) → Memᴰ d x.watched.downs → Memᴰ d.told net_is.downs
+    downs_state : (d : Down) → Memᴰ d x.watched.downs → DownIs d
 
   -- ---- a call of the endpoint
-  act-comes : (x : Ends) (i : Joined x) (c : Call) → MayAct c x.watched → Comes conf fits small index inside controlled x.world x.watched.life i.own i.net-is c
-  act-comes x i (on id c) m = tt
-  act-comes x i (radio time datagram) m =
+  act_comes : (x : Ends) (i : Joined x) (c : Call) → MayAct c x.watched → Comes conf fits small index inside controlled x.world x.watched.life i.own i.net_is c
+  act_comes x i (on id c) m = tt
+  act_comes x i (radio time datagram) m =
       let d = m.one in
-      let is = i.downs-state d m.there in
+      let is = i.downs_state d m.there in
       record {
         one = d.told;
-        there = i.downs-there d m.there;
+        there = i.downs_there d m.there;
         young = m.young;
         message = is.message;
-        received_is = ap (run.receivedIn k.datalink) m.is ∙ is.got;
-        window-is = is.window-is;
+        received_is = ap (run.received_in k.datalink) m.is ∙ is.got;
+        window_is = is.window_is;
       }
-  act-comes x i (pace time) m = tt
-  act-comes x i (query out) m = tt
+  act_comes x i (pace time) m = tt
+  act_comes x i (query out) m = tt
 
-  act-keeps : (x : Ends) (c : Call) → MayAct c x.watched → Joined x → Joined (afterAct k c x)
-  act-keeps x c may i =
-      let at = (lifeAfter k c x).counting.count in
-      let moves : Moves i.net-is (lifeAfter k c x).counting = act-moves conf fits small index inside controlled x.world x.watched.life i.own i.net-is i.counter-is c (act-comes x i c may) in
-      let datagrams = handedOut (replyOf c x.world) in
+  act_keeps : (x : Ends) (c : Call) → MayAct c x.watched → Joined x → Joined (after_act k c x)
+  act_keeps x c may i =
+      let at = (life_after k c x).counting.count in
+      let moves : Moves i.net_is (life_after k c x).counting = act_moves conf fits small index inside controlled x.world x.watched.life i.own i.net_is i.counter_is c (act_comes x i c may) in
+      let datagrams = handed_out (reply_of c x.world) in
       record {
-        own = own-step conf fits small index inside controlled x.world x.watched.life i.own c (act-bytes x.watched c may);
+        own = own_step conf fits small index inside controlled x.world x.watched.life i.own c (act_bytes x.watched c may);
         far = i.far;
-        net-is = moves.net;
-        reach = together AGE MOST-GRANTED (net.start (start_at conf index).first) i.net-is moves.net i.reach moves.reach;
-        counter-is = moves.counter-is;
-        heard-is = moves.heard-is ∙ i.heard-is;
-        top-is = moves.top-is ∙ i.top-is;
-        ups-there = λ u m.
+        net_is = moves.net;
+        reach = together AGE MOST-GRANTED (net.start (start_at conf index).first) i.net_is moves.net i.reach moves.reach;
+        counter_is = moves.counter_is;
+        heard_is = moves.heard_is ∙ i.heard_is;
+        top_is = moves.top_is ∙ i.top_is;
+        ups_there = λ u m.
             ⊎_elim
-            (λ (n : (d : List ℕ) × Memᴰ d datagrams × (u ≡ sentAt at d)). subst (λ (v : Sent). Memᴰ v.at moves.net.ups) (sym n.2) moves.new)
-            (λ (n : Memᴰ u x.watched.ups). moves.old u.at (i.ups-there u n))
-            (among (sentAt at) datagrams x.watched.ups u m);
-        ups-state = λ u m.
+            (λ (n : (d : List ℕ) × Memᴰ d datagrams × (u ≡ sent_at at d)). subst (λ (v : Sent). Memᴰ v.at moves.net.ups) (sym n.2) moves.new)
+            (λ (n : Memᴰ u x.watched.ups). moves.old u.at (i.ups_there u n))
+            (among (sent_at at) datagrams x.watched.ups u m);
+        ups_state = λ u m.
             ⊎_elim
-            (λ (n : (d : List ℕ) × Memᴰ d datagrams × (u ≡ sentAt at d)).
+            (λ (n : (d : List ℕ) × Memᴰ d datagrams × (u ≡ sent_at at d)).
             subst (λ (v : Sent). StatesOf k.datalink k.id v.datagram v.at) (sym n.2)
-            (handed-states conf fits small index inside controlled x.world x.watched.life i.own c n.0 n.1))
-            (λ (n : Memᴰ u x.watched.ups). i.ups-state u n)
-            (among (sentAt at) datagrams x.watched.ups u m);
-        downs-there = λ d m. subst (λ (ts : List Told). Memᴰ d.told ts) (sym moves.downs-are) (i.downs-there d m);
-        downs-state = i.downs-state;
+            (handed_states conf fits small index inside controlled x.world x.watched.life i.own c n.0 n.1))
+            (λ (n : Memᴰ u x.watched.ups). i.ups_state u n)
+            (among (sent_at at) datagrams x.watched.ups u m);
+        downs_there = λ d m. subst (λ (ts : List Told). Memᴰ d.told ts) (sym moves.downs_are) (i.downs_there d m);
+        downs_state = i.downs_state;
       }
 
   -- ---- a call of the radio's end
   module _ (x : Ends) (i : Joined x) where
-    nothing : (c : station.Call) → station.heardBy c x.station k.id ≡ [] → Listens i.net-is x.watched.heard (station.heardBy c x.station k.id)
-    nothing c e = subst (Listens i.net-is x.watched.heard) (sym e) (listens-none i.net-is x.watched.heard i.heard-is)
+    nothing : (c : station.Call) → station.heard_by c x.station k.id ≡ [] → Listens i.net_is x.watched.heard (station.heard_by c x.station k.id)
+    nothing c e = subst (Listens i.net_is x.watched.heard) (sym e) (listens_none i.net_is x.watched.heard i.heard_is)
 
-    hears-up : (datagram out : List ℕ) → UpArrives k x.watched datagram → Listens i.net-is x.watched.heard (station.heardBy (station.hear datagram out) x.station k.id)
-    hears-up datagram out m =
+    hears_up : (datagram out : List ℕ) → UpArrives k x.watched datagram → Listens i.net_is x.watched.heard (station.heard_by (station.hear datagram out) x.station k.id)
+    hears_up datagram out m =
         let u = m.one in
         let states : StatesOf x.station.datalink k.id datagram u.at =
-        subst (λ (id : DatalinkId). StatesOf id k.id datagram u.at) (sym i.far.datalink-is) (subst (λ (d : List ℕ). StatesOf k.datalink k.id d u.at) (sym m.is) (i.ups-state u m.there)) in
-        let few = heard-few x.station k.id u.at datagram out states in
-        let old : statedIn k datagram ≡ Sequence.Absent → Listens i.net-is x.watched.heard (station.heardBy (station.hear datagram out) x.station k.id) =
-        (λ e. nothing (station.hear datagram out) (heard-none x.station k.id datagram out (ap (λ (id : DatalinkId). station.statedOf k.id (station.receivedIn id datagram)) i.far.datalink-is ∙ e))) in
+        subst (λ (id : DatalinkId). StatesOf id k.id datagram u.at) (sym i.far.datalink_is) (subst (λ (d : List ℕ). StatesOf k.datalink k.id d u.at) (sym m.is) (i.ups_state u m.there)) in
+        let few = heard_few x.station k.id u.at datagram out states in
+        let old : stated_in k datagram ≡ Sequence.Absent → Listens i.net_is x.watched.heard (station.heard_by (station.hear datagram out) x.station k.id) =
+        (λ e. nothing (station.hear datagram out) (heard_none x.station k.id datagram out (ap (λ (id : DatalinkId). station.stated_of k.id (station.received_in id datagram)) i.far.datalink_is ∙ e))) in
         ⊎_elim old
         (λ (young : count_of x.watched < u.at + AGE).
         ⊎_elim
-        (λ (e : station.heardBy (station.hear datagram out) x.station k.id ≡ []). nothing (station.hear datagram out) e)
-        (λ (e : station.heardBy (station.hear datagram out) x.station k.id ≡ sequenceAt u.at ∷ []).
-        subst (Listens i.net-is x.watched.heard) (sym e)
-        (listens-one i.net-is x.watched.heard u.at i.heard-is (i.ups-there u m.there) (subst (λ (c : Counter). c.count < u.at + AGE) (sym i.counter-is) young)))
+        (λ (e : station.heard_by (station.hear datagram out) x.station k.id ≡ []). nothing (station.hear datagram out) e)
+        (λ (e : station.heard_by (station.hear datagram out) x.station k.id ≡ sequence_at u.at ∷ []).
+        subst (Listens i.net_is x.watched.heard) (sym e)
+        (listens_one i.net_is x.watched.heard u.at i.heard_is (i.ups_there u m.there) (subst (λ (c : Counter). c.count < u.at + AGE) (sym i.counter_is) young)))
         few)
         m.young
 
-    listens : (c : station.Call) → MayCall k c x.watched → Listens i.net-is x.watched.heard (station.heardBy c x.station k.id)
-    unfolding station.heardBy
-    listens (station.hear datagram out) m = hears-up datagram out m
-    listens (station.status id value out) m = listens-none i.net-is x.watched.heard i.heard-is
-    listens (station.queued id bytes out) m = listens-none i.net-is x.watched.heard i.heard-is
-    listens (station.context told out) m = listens-none i.net-is x.watched.heard i.heard-is
-    listens (station.link instance) m = listens-none i.net-is x.watched.heard i.heard-is
-    listens (station.tell out) m = listens-none i.net-is x.watched.heard i.heard-is
+    listens : (c : station.Call) → MayCall k c x.watched → Listens i.net_is x.watched.heard (station.heard_by c x.station k.id)
+    unfolding station.heard_by
+    listens (station.hear datagram out) m = hears_up datagram out m
+    listens (station.status id value out) m = listens_none i.net_is x.watched.heard i.heard_is
+    listens (station.queued id bytes out) m = listens_none i.net_is x.watched.heard i.heard_is
+    listens (station.context told out) m = listens_none i.net_is x.watched.heard i.heard_is
+    listens (station.link instance) m = listens_none i.net_is x.watched.heard i.heard_is
+    listens (station.tell out) m = listens_none i.net_is x.watched.heard i.heard_is
 
     module _ (c : station.Call) (may : MayCall k c x.watched) where
       abbrev s' : state.State
-      s' = station.stateAfter c x.station
+      s' = station.state_after c x.station
 
       abbrev hd' : Heard
-      hd' = heardAfter k c x
+      hd' = heard_after k c x
 
       abbrev t : Told
-      t = tellingOf (heardIn k c x) (channelAfter j c x) x.watched
+      t = telling_of (heard_in k c x) (channel_after j c x) x.watched
 
-      l : Listens i.net-is x.watched.heard (station.heardBy c x.station k.id)
+      l : Listens i.net_is x.watched.heard (station.heard_by c x.station k.id)
       l = listens c may
 
       far' : Radio k j s' hd'
-      far' = radio-step k j x.station x.watched.heard i.far c (call-bytes k x.watched c may) hd' l.word
+      far' = radio_step k j x.station x.watched.heard i.far c (call_bytes k x.watched c may) hd' l.word
 
-      down_is : (d : List ℕ) → Memᴰ d (writtenIn (station.after_call c x.station)) → DownIs (downAs t d)
+      down_is : (d : List ℕ) → Memᴰ d (written_in (station.after_call c x.station)) → DownIs (down_as t d)
       down_is d m =
           record {
-            message = messageOf s';
-            got = ap (run.receivedIn k.datalink) (written_is k j x.station x.watched.heard i.far c (call-bytes k x.watched c may) d m) ∙ received_is k j s' hd' far';
-            window-is = stated-window k j s' hd' far' ∙ sym (window-granted k j s' hd' far');
+            message = message_of s';
+            got = ap (run.received_in k.datalink) (written_is k j x.station x.watched.heard i.far c (call_bytes k x.watched c may) d m) ∙ received_is k j s' hd' far';
+            window_is = stated_window k j s' hd' far' ∙ sym (window_granted k j s' hd' far');
           }
 
-      reach-there : Reach (net.Step AGE MOST-GRANTED) (net.start (start_at conf index).first) l.net-is
-      reach-there = together AGE MOST-GRANTED (net.start (start_at conf index).first) i.net-is l.net-is i.reach l.reach
+      reach_there : Reach (net.Step AGE MOST-GRANTED) (net.start (start_at conf index).first) l.net_is
+      reach_there = together AGE MOST-GRANTED (net.start (start_at conf index).first) i.net_is l.net_is i.reach l.reach
 
       -- what the net tells is what was written
       abbrev a : ByteCount
-      a = allowanceAt (channelAfter j c x)
+      a = allowance_at (channel_after j c x)
 
-      telling-same : net.tellingOf a l.net-is ≡ t
-      telling-same =
-          told_same l.net-is.counter.count (count_of x.watched) (granted (word_of l.net-is.heard) a) (windowNow (channelAfter j c x)) (reachOf l.net-is.heard a) (reachOf hd' a)
-          (ap (λ (y : Counter). y.count) (l.counter-is ∙ i.counter-is))
-          (ap (λ (h : Heard). granted (word_of h) a) l.heard-is ∙ sym (window-granted k j s' hd' far'))
-          (ap (λ (h : Heard). reachOf h a) l.heard-is)
+      telling_same : net.telling_of a l.net_is ≡ t
+      telling_same =
+          told_same l.net_is.counter.count (count_of x.watched) (granted (word_of l.net_is.heard) a) (window_now (channel_after j c x)) (reach_of l.net_is.heard a) (reach_of hd' a)
+          (ap (λ (y : Counter). y.count) (l.counter_is ∙ i.counter_is))
+          (ap (λ (h : Heard). granted (word_of h) a) l.heard_is ∙ sym (window_granted k j s' hd' far'))
+          (ap (λ (h : Heard). reach_of h a) l.heard_is)
 
       abbrev Left : List (List ℕ) → Ends
-      Left ds = record { world = x.world; station = s'; watched = told (heardIn k c x) (channelAfter j c x) ds x.watched }
+      Left ds = record { world = x.world; station = s'; watched = told (heard_in k c x) (channel_after j c x) ds x.watched }
 
-      keeps-by : (ds : List (List ℕ)) → boundIf ds hd' a → ((d : List ℕ) → Memᴰ d ds → DownIs (downAs t d)) → Joined (Left ds)
-      keeps-by [] bound down =
+      keeps_by : (ds : List (List ℕ)) → bound_if ds hd' a → ((d : List ℕ) → Memᴰ d ds → DownIs (down_as t d)) → Joined (Left ds)
+      keeps_by [] bound down =
           record {
             own = i.own;
             far = far';
-            net-is = l.net-is;
-            reach = reach-there;
-            counter-is = l.counter-is ∙ i.counter-is;
-            heard-is = l.heard-is;
-            top-is = l.top-is ∙ i.top-is;
-            ups-there = λ u m. subst (λ (us : List ℕ). Memᴰ u.at us) (sym l.ups-are) (i.ups-there u m);
-            ups-state = i.ups-state;
-            downs-there = λ d m. subst (λ (ts : List Told). Memᴰ d.told ts) (sym l.downs-are) (i.downs-there d m);
-            downs-state = i.downs-state;
+            net_is = l.net_is;
+            reach = reach_there;
+            counter_is = l.counter_is ∙ i.counter_is;
+            heard_is = l.heard_is;
+            top_is = l.top_is ∙ i.top_is;
+            ups_there = λ u m. subst (λ (us : List ℕ). Memᴰ u.at us) (sym l.ups_are) (i.ups_there u m);
+            ups_state = i.ups_state;
+            downs_there = λ d m. subst (λ (ts : List Told). Memᴰ d.told ts) (sym l.downs_are) (i.downs_there d m);
+            downs_state = i.downs_state;
           }
-      keeps-by (e ∷ es) bound down =
-          let y = afterTell a l.net-is in
+      keeps_by (e ∷ es) bound down =
+          let y = after_tell a l.net_is in
           let ds : List (List ℕ) = e ∷ es in
           record {
             own = i.own;
             far = far';
-            net-is = y;
-            reach = goes_on (net.start (start_at conf index).first) l.net-is y reach-there (net.tells l.net-is a (subst (λ (h : Heard). net.Bounded MOST-GRANTED h a) (sym l.heard-is) bound));
-            counter-is = l.counter-is ∙ i.counter-is;
-            heard-is = l.heard-is;
-            top-is = ap (λ (n : ℕ). max n (reachOf l.net-is.heard a)) (l.top-is ∙ i.top-is) ∙ ap (λ (h : Heard). max x.watched.top (reachOf h a)) l.heard-is;
-            ups-there = λ u m. subst (λ (us : List ℕ). Memᴰ u.at us) (sym l.ups-are) (i.ups-there u m);
-            ups-state = i.ups-state;
-            downs-there = λ d m.
+            net_is = y;
+            reach = goes_on (net.start (start_at conf index).first) l.net_is y reach_there (net.tells l.net_is a (subst (λ (h : Heard). net.Bounded MOST-GRANTED h a) (sym l.heard_is) bound));
+            counter_is = l.counter_is ∙ i.counter_is;
+            heard_is = l.heard_is;
+            top_is = ap (λ (n : ℕ). max n (reach_of l.net_is.heard a)) (l.top_is ∙ i.top_is) ∙ ap (λ (h : Heard). max x.watched.top (reach_of h a)) l.heard_is;
+            ups_there = λ u m. subst (λ (us : List ℕ). Memᴰ u.at us) (sym l.ups_are) (i.ups_there u m);
+            ups_state = i.ups_state;
+            downs_there = λ d m.
                 ⊎_elim
-                (λ (n : (g : List ℕ) × Memᴰ g ds × (d ≡ downAs t g)). Memᴰ.head (ap (λ (v : Down). v.told) n.2 ∙ sym telling-same))
-                (λ (n : Memᴰ d x.watched.downs). Memᴰ.tail (subst (λ (ts : List Told). Memᴰ d.told ts) (sym l.downs-are) (i.downs-there d n)))
-                (among (downAs t) ds x.watched.downs d m);
-            downs-state = λ d m.
+                (λ (n : (g : List ℕ) × Memᴰ g ds × (d ≡ down_as t g)). Memᴰ.head (ap (λ (v : Down). v.told) n.2 ∙ sym telling_same))
+                (λ (n : Memᴰ d x.watched.downs). Memᴰ.tail (subst (λ (ts : List Told). Memᴰ d.told ts) (sym l.downs_are) (i.downs_there d n)))
+                (among (down_as t) ds x.watched.downs d m);
+            downs_state = λ d m.
                 ⊎_elim
-                (λ (n : (g : List ℕ) × Memᴰ g ds × (d ≡ downAs t g)). subst DownIs (sym n.2) (down n.0 n.1))
-                (λ (n : Memᴰ d x.watched.downs). i.downs-state d n)
-                (among (downAs t) ds x.watched.downs d m);
+                (λ (n : (g : List ℕ) × Memᴰ g ds × (d ≡ down_as t g)). subst DownIs (sym n.2) (down n.0 n.1))
+                (λ (n : Memᴰ d x.watched.downs). i.downs_state d n)
+                (among (down_as t) ds x.watched.downs d m);
           }
 
-      call-keeps : boundIf (writtenIn (station.after_call c x.station)) hd' a → Joined (after_call k j c x)
-      call-keeps bound = keeps-by (writtenIn (station.after_call c x.station)) bound down_is
+      call_keeps : bound_if (written_in (station.after_call c x.station)) hd' a → Joined (after_call k j c x)
+      call_keeps bound = keeps_by (written_in (station.after_call c x.station)) bound down_is
 
   keeps : (x y : Ends) → Step k j x y → Joined x → Joined y
-  keeps _ _ (acts x c may) i = act-keeps x c may i
-  keeps _ _ (calls x c may bound) i = call-keeps x i c may bound
+  keeps _ _ (acts x c may) i = act_keeps x c may i
+  keeps _ _ (calls x c may bound) i = call_keeps x i c may bound
 
-  keeps-all : (x y : Ends) → Reach (Step k j) x y → Joined x → Joined y
-  keeps-all _ _ (stays x) i = i
-  keeps-all _ _ (goes_on x y z r s) i = keeps y z s (keeps-all x y r i)
+  keeps_all : (x y : Ends) → Reach (Step k j) x y → Joined x → Joined y
+  keeps_all _ _ (stays x) i = i
+  keeps_all _ _ (goes_on x y z r s) i = keeps y z s (keeps_all x y r i)
 
   -- ---- from a fresh start of both: a radio's end that has heard nothing on the channel
   module _ (s : state.State) (far : Radio k j s unheard) where
     abbrev pub fresh : Ends
-    fresh = start (run.freshWorld conf) s (simplyAt conf index)
+    fresh = start (run.fresh_world conf) s (simply_at conf index)
 
-    joined-fresh : Joined fresh
-    joined-fresh =
+    joined_fresh : Joined fresh
+    joined_fresh =
         record {
           own = own_fresh conf fits small index inside controlled;
           far = far;
-          net-is = net.start (start_at conf index).first;
+          net_is = net.start (start_at conf index).first;
           reach = stays (net.start (start_at conf index).first);
-          counter-is = rw controlled;
-          heard-is = refl;
-          top-is = refl;
-          ups-there = λ u m. absurd (Memᴰ.not-nil m);
-          ups-state = λ u m. absurd (Memᴰ.not-nil m);
-          downs-there = λ d m. absurd (Memᴰ.not-nil m);
-          downs-state = λ d m. absurd (Memᴰ.not-nil m);
+          counter_is = rw controlled;
+          heard_is = refl;
+          top_is = refl;
+          ups_there = λ u m. absurd (Memᴰ.not-nil m);
+          ups_state = λ u m. absurd (Memᴰ.not-nil m);
+          downs_there = λ d m. absurd (Memᴰ.not-nil m);
+          downs_state = λ d m. absurd (Memᴰ.not-nil m);
         }
 
     goes : (x : Ends) → Reach (Step k j) fresh x → (time : ℕ) (out packet : List ℕ) (carried : Sequence)
         → (calling k.id (next time out) x.world).answer ≡ answered (sent packet carried) → Went packet carried x.watched.life.counting (step simple k (call (next time out)) x.watched.life).counting
     goes x r time out packet carried given =
-        let i = keeps-all fresh x r joined-fresh in
+        let i = keeps_all fresh x r joined_fresh in
         subst (λ (a : Answer Tried). After (called (next time out) a) x.watched.life.counting (step simple k (call (next time out)) x.watched.life).counting) given
-        (own-after conf fits small index inside controlled x.world x.watched.life i.own (next time out))
+        (own_after conf fits small index inside controlled x.world x.watched.life i.own (next time out))
 
     -- THE THEOREM: whatever is called at either end, and whatever the net does: a packet that Next hands over on the channel isn't past the highest window ever granted
-    pub all-never-past : (x : Ends) → Reach (Step k j) fresh x → (time : ℕ) (out packet : List ℕ) (carried : Sequence)
+    pub all_never_past : (x : Ends) → Reach (Step k j) fresh x → (time : ℕ) (out packet : List ℕ) (carried : Sequence)
         → (calling k.id (next time out) x.world).answer ≡ answered (sent packet carried) → count_of x.watched + length packet ≤ x.watched.top
-    all-never-past x r time out packet carried given =
-        let i = keeps-all fresh x r joined-fresh in
+    all_never_past x r time out packet carried given =
+        let i = keeps_all fresh x r joined_fresh in
         let n : ByteCount = record { 0 = length packet } in
         let went = goes x r time out packet carried given in
-        let may : simple.fits i.net-is.counter n ≡ true = subst (λ (y : Counter). simple.fits y n ≡ true) (sym i.counter-is) went.fits in
-        let below : i.net-is.counter.count + length packet ≤ i.net-is.top = never-past (start_at conf index).first (small index inside) i.net-is i.reach n may in
-        subst (λ (y : Counter). y.count + length packet ≤ x.watched.top) i.counter-is (subst (λ (t : ℕ). i.net-is.counter.count + length packet ≤ t) i.top-is below)
+        let may : simple.fits i.net_is.counter n ≡ true = subst (λ (y : Counter). simple.fits y n ≡ true) (sym i.counter_is) went.fits in
+        let below : i.net_is.counter.count + length packet ≤ i.net_is.top = never_past (start_at conf index).first (small index inside) i.net_is i.reach n may in
+        subst (λ (y : Counter). y.count + length packet ≤ x.watched.top) i.counter_is (subst (λ (t : ℕ). i.net_is.counter.count + length packet ≤ t) i.top_is below)
 
-    never-free-there : (x : Ends) → Reach (Step k j) fresh x → x.watched.life.counting.limit ≡ free → ⊥
-    never-free-there x r e =
-        let i = keeps-all fresh x r joined-fresh in
-        never-free (start_at conf index).first (small index inside) i.net-is i.reach (ap (λ (y : Counter). y.limit) i.counter-is ∙ e)
+    never_free_there : (x : Ends) → Reach (Step k j) fresh x → x.watched.life.counting.limit ≡ free → ⊥
+    never_free_there x r e =
+        let i = keeps_all fresh x r joined_fresh in
+        never_free (start_at conf index).first (small index inside) i.net_is i.reach (ap (λ (y : Counter). y.limit) i.counter_is ∙ e)
 
     -- each of its bytes is counted: the channel is never free
-    pub all-counted : (x : Ends) → Reach (Step k j) fresh x → (time : ℕ) (out packet : List ℕ) (carried : Sequence)
-        → (calling k.id (next time out) x.world).answer ≡ answered (sent packet carried) → count_of (afterAct k (on k.id (next time out)) x).watched ≡ count_of x.watched + length packet
-    all-counted x r time out packet carried given = by (eqb k.id k.id) refl
+    pub all_counted : (x : Ends) → Reach (Step k j) fresh x → (time : ℕ) (out packet : List ℕ) (carried : Sequence)
+        → (calling k.id (next time out) x.world).answer ≡ answered (sent packet carried) → count_of (after_act k (on k.id (next time out)) x).watched ≡ count_of x.watched + length packet
+    all_counted x r time out packet carried given = by (eqb k.id k.id) refl
       where
         c : Counter
         c = x.watched.life.counting
@@ -356,16 +356,16 @@ module _ (conf : Configuration) (fits : configurationTaken conf ≡ true) (small
         by : (b : Bool) → eqb k.id k.id ≡ b → (final simple k (cond b (call (next time out) ∷ []) []) x.watched.life).counting.count ≡ c.count + length packet
         by true e =
             let went = goes x r time out packet carried given in
-            ap (λ (y : Counter). y.count) went.counter-is ∙ grows_all c.count c.limit (length packet) (never-free-there x r) went.fits
+            ap (λ (y : Counter). y.count) went.counter_is ∙ grows_all c.count c.limit (length packet) (never_free_there x r) went.fits
         by false e = absurd (eqb-false k.id k.id e refl)
 
-    pub all-not-past : (x : Ends) → Reach (Step k j) fresh x → (time : ℕ) (out packet : List ℕ) (carried : Sequence)
+    pub all_not_past : (x : Ends) → Reach (Step k j) fresh x → (time : ℕ) (out packet : List ℕ) (carried : Sequence)
         → (calling k.id (next time out) x.world).answer ≡ answered (sent packet carried) → NotPast k time out x
-    all-not-past x r time out packet carried given =
+    all_not_past x r time out packet carried given =
         record {
           packet = packet;
           carried = carried;
           goes = given;
-          below = all-never-past x r time out packet carried given;
-          counted = all-counted x r time out packet carried given;
+          below = all_never_past x r time out packet carried given;
+          counted = all_counted x r time out packet carried given;
         }

@@ -12,35 +12,35 @@ use Rattle.records.specs.declared.Came.{Came}
 use Rattle.records.specs.Unread.{start_of}
 use Rattle.records.specs.Files.{Report}
 use Rattle.records.specs.Reading.{MOST-TURNS, Comes}
-use Rattle.records.proofs.Pieces.{came-inside, Going, Gone, going_start, going_on, going_end, going-refused, going-tired}
+use Rattle.records.proofs.Pieces.{came_inside, Going, Gone, going_start, going_on, going_end, going_refused, going_tired}
 use Rattle.ethernet.specs.declared.Ports.{Ports}
 use Rattle.conduct.specs.declared.verdict.Seen.{Seen}
 use Rattle.conduct.specs.declared.verdict.Tally.{Tally}
-use Rattle.conduct.specs.Outcomes.{outcomeOf, seenOf, talliedBy, talliedAll}
-use Rattle.conduct.specs.Words.{undecided, judgedBy, judgedAll}
+use Rattle.conduct.specs.Outcomes.{outcome_of, seen_of, tallied_by, tallied_all}
+use Rattle.conduct.specs.Words.{undecided, judged_by, judged_all}
 use Rattle.judge.specs.declared.Left.{Left}
-use Rattle.judge.specs.Serving.{TurnedTo, noTally, Served, Judged}
+use Rattle.judge.specs.Serving.{TurnedTo, no_tally, Served, Judged}
 
 module _ {ports : Ports} {id : DatalinkId} {number : ℕ} {lent buffer : List ℕ} {input : Input} {tally : Tally} {words : List ℕ} {came : Came}
     (c : Comes lent input came buffer) where
   pub turn_end : came ≡ Came.End → TurnedTo ports id number lent input tally words (record { came = came; tally = tally }) buffer words
-  unfolding judgedAll talliedAll
-  turn_end e = record { comes = c; words_are = rw e; tally-is = rw e }
+  unfolding judged_all tallied_all
+  turn_end e = record { comes = c; words_are = rw e; tally_is = rw e }
 
-  pub turn-refused : {refusal : ℕ} {words' : List ℕ} → came ≡ Came.Refused refusal → words' ≡ undecided words
+  pub turn_refused : {refusal : ℕ} {words' : List ℕ} → came ≡ Came.Refused refusal → words' ≡ undecided words
       → TurnedTo ports id number lent input tally words (record { came = came; tally = tally }) buffer words'
-  unfolding judgedAll talliedAll
-  turn-refused e w = record { comes = c; words_are = rw e w; tally-is = rw e }
+  unfolding judged_all tallied_all
+  turn_refused e w = record { comes = c; words_are = rw e w; tally_is = rw e }
 
   module _ {from to original : ℕ} {rest : Input} (e : came ≡ Came.Record from to original rest) where
-    pub turn-record : {words' : List ℕ} {seen : Seen} {tally' : Tally} → words' ≡ judgedBy number (outcomeOf ports id original (take (to - from) (drop from buffer))) words
-        → seen ≡ seenOf ports id original (take (to - from) (drop from buffer)) → tally' ≡ talliedBy tally seen
+    pub turn_record : {words' : List ℕ} {seen : Seen} {tally' : Tally} → words' ≡ judged_by number (outcome_of ports id original (take (to - from) (drop from buffer))) words
+        → seen ≡ seen_of ports id original (take (to - from) (drop from buffer)) → tally' ≡ tallied_by tally seen
         → TurnedTo ports id number lent input tally words (record { came = Came.Record from to original rest; tally = tally' }) buffer words'
-    unfolding judgedAll talliedAll
-    turn-record w s t =
+    unfolding judged_all tallied_all
+    turn_record w s t =
         let comes : Comes lent input (Came.Record from to original rest) buffer = rw (← e) c in
-        let frame : slice from to buffer ≡ take (to - from) (drop from buffer) = slice_is from to buffer (came-inside c e).0 (came-inside c e).1 in
-        record { comes = comes; words_are = rw frame w; tally-is = rw (frame, ← s) t }
+        let frame : slice from to buffer ≡ take (to - from) (drop from buffer) = slice_is from to buffer (came_inside c e).0 (came_inside c e).1 in
+        record { comes = comes; words_are = rw frame w; tally_is = rw (frame, ← s) t }
 
 -- what the turns come to, by the number of the next record, the words and the counts so far
 abbrev pub Made : Type 0
@@ -48,59 +48,59 @@ Made = ℕ × List ℕ × Tally
 
 module _ (ports : Ports) (id : DatalinkId) where
   abbrev pub judging : Made → List Report → List ℕ × Tally
-  judging made reports = (judgedAll ports id made.0 reports made.1, talliedAll ports id reports made.2)
+  judging made reports = (judged_all ports id made.0 reports made.1, tallied_all ports id reports made.2)
 
   pub record Serving (lent words₀ buffer words : List ℕ) (input : Input) (tally : Tally) (number : ℕ) : Type 0 where
-    pub going : Going judging lent (1, words₀, noTally) number buffer input (suc number, words, tally)
+    pub going : Going judging lent (1, words₀, no_tally) number buffer input (suc number, words, tally)
     pub words_size : length words ≡ length words₀
     pub most : number ≤ MOST-TURNS
 
 module _ {ports : Ports} {id : DatalinkId} where
-  pub serving-start : (lent words : List ℕ) → Serving ports id lent words lent words start_of noTally 0
-  serving-start lent words = record { going = going_start (judging ports id) lent (1, words, noTally); words_size = refl; most = omega arith }
+  pub serving_start : (lent words : List ℕ) → Serving ports id lent words lent words start_of no_tally 0
+  serving_start lent words = record { going = going_start (judging ports id) lent (1, words, no_tally); words_size = refl; most = omega arith }
 
-  served : {lent words₀ words : List ℕ} {tally : Tally} → Gone (judging ports id) lent (1, words₀, noTally) (words, tally) → Served ports id lent words₀ tally words
+  served : {lent words₀ words : List ℕ} {tally : Tally} → Gone (judging ports id) lent (1, words₀, no_tally) (words, tally) → Served ports id lent words₀ tally words
   served gone =
       record {
         reports = gone.reports;
         ran = gone.ran;
         words_are = ap (λ (p : List ℕ × Tally). p.0) gone.same;
-        tally-is = ap (λ (p : List ℕ × Tally). p.1) gone.same;
+        tally_is = ap (λ (p : List ℕ × Tally). p.1) gone.same;
       }
 
   module _ {lent words₀ buffer words : List ℕ} {input : Input} {tally : Tally} {number : ℕ} (k : Serving ports id lent words₀ buffer words input tally number) where
-    pub serving-tired : MOST-TURNS ≤ number → Served ports id lent words₀ tally words
-    unfolding judgedAll talliedAll
-    serving-tired e = served (going-tired (judging ports id) k.going (omega (arith, e, k.most)))
+    pub serving_tired : MOST-TURNS ≤ number → Served ports id lent words₀ tally words
+    unfolding judged_all tallied_all
+    serving_tired e = served (going_tired (judging ports id) k.going (omega (arith, e, k.most)))
 
     module _ {number' : ℕ} {left : Left} {buffer' words' : List ℕ} (n : number' ≡ suc number) (t : TurnedTo ports id number' buffer input tally words left buffer' words') where
-      pub serving-end : left.came ≡ Came.End → Served ports id lent words₀ left.tally words'
-      unfolding judgedAll talliedAll
-      serving-end e =
+      pub serving_end : left.came ≡ Came.End → Served ports id lent words₀ left.tally words'
+      unfolding judged_all tallied_all
+      serving_end e =
           let comes : Comes buffer input Came.End buffer' = rw (← e) t.comes in
           let w : words' ≡ words = t.words_are ∙ rw e in
-          let s : left.tally ≡ tally = t.tally-is ∙ rw e in
+          let s : left.tally ≡ tally = t.tally_is ∙ rw e in
           rw (w, s) (served (going_end (judging ports id) k.going comes))
 
-      pub serving-refused : {refusal : ℕ} → left.came ≡ Came.Refused refusal → Served ports id lent words₀ left.tally words'
-      unfolding judgedAll talliedAll
-      serving-refused {refusal} e =
+      pub serving_refused : {refusal : ℕ} → left.came ≡ Came.Refused refusal → Served ports id lent words₀ left.tally words'
+      unfolding judged_all tallied_all
+      serving_refused {refusal} e =
           let comes : Comes buffer input (Came.Refused refusal) buffer' = rw (← e) t.comes in
           let w : words' ≡ undecided words = t.words_are ∙ rw e in
-          let s : left.tally ≡ tally = t.tally-is ∙ rw e in
-          rw (w, s) (served (going-refused (judging ports id) k.going comes))
+          let s : left.tally ≡ tally = t.tally_is ∙ rw e in
+          rw (w, s) (served (going_refused (judging ports id) k.going comes))
 
-      pub serving-on : {from to original : ℕ} {rest : Input} → number < MOST-TURNS → left.came ≡ Came.Record from to original rest → length buffer' ≡ length buffer → length words' ≡ length words
+      pub serving_on : {from to original : ℕ} {rest : Input} → number < MOST-TURNS → left.came ≡ Came.Record from to original rest → length buffer' ≡ length buffer → length words' ≡ length words
           → Serving ports id lent words₀ buffer' words' rest left.tally number'
-      unfolding judgedAll talliedAll
-      serving-on {from} {to} {original} {rest} m e b s =
+      unfolding judged_all tallied_all
+      serving_on {from} {to} {original} {rest} m e b s =
           let comes : Comes buffer input (Came.Record from to original rest) buffer' = rw (← e) t.comes in
-          let w : words' ≡ judgedBy number' (outcomeOf ports id original (slice from to buffer')) words = t.words_are ∙ rw e in
-          let c : left.tally ≡ talliedBy tally (seenOf ports id original (slice from to buffer')) = t.tally-is ∙ rw e in
-          let on : Going (judging ports id) lent (1, words₀, noTally) (suc number) buffer' rest (suc number', words', left.tally) =
+          let w : words' ≡ judged_by number' (outcome_of ports id original (slice from to buffer')) words = t.words_are ∙ rw e in
+          let c : left.tally ≡ tallied_by tally (seen_of ports id original (slice from to buffer')) = t.tally_is ∙ rw e in
+          let on : Going (judging ports id) lent (1, words₀, no_tally) (suc number) buffer' rest (suc number', words', left.tally) =
           going_on (judging ports id) k.going comes b (λ more. rw (w, c, n) refl) in
           record { going = rw n (rw n at on); words_size = s ∙ k.words_size; most = omega (arith, n, m) }
 
   -- the turns from zeros on
-  pub judged-by : {lent words₀ words : List ℕ} {n : ℕ} {tally : Tally} → words₀ ≡ replicate n 0 → Served ports id lent words₀ tally words → Judged ports id lent n words
-  judged-by e k = record { reports = k.reports; ran = k.ran; words_are = rw (← e) k.words_are }
+  pub judged_by_lem : {lent words₀ words : List ℕ} {n : ℕ} {tally : Tally} → words₀ ≡ replicate n 0 → Served ports id lent words₀ tally words → Judged ports id lent n words
+  judged_by_lem e k = record { reports = k.reports; ran = k.ran; words_are = rw (← e) k.words_are }

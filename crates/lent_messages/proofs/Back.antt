@@ -8,7 +8,7 @@ use native.Mathlib.Omega.{arith}
 use lib.ListN.{length, get_or, length-append, get_or-append}
 use lib.Seq.{ext_get_or, get_or-append-add}
 use Rattle.facts.specs.Tables.{tabulate}
-use Rattle.facts.proofs.Tables.{length-tabulate, get_d_tabulate}
+use Rattle.facts.proofs.Tables.{length_tabulate, get_d_tabulate}
 use Rattle.quantity.specs.Limits.{CHANNEL-IDS}
 use Rattle.meaning.specs.declared.message.Datalink.{Datalink}
 use Rattle.meaning.specs.declared.message.Instance.{Instance}
@@ -24,58 +24,58 @@ use Rattle.meaning.specs.declared.message.SequenceCell.{SequenceCell}
 use Rattle.meaning.specs.declared.message.WindowCell.{WindowCell}
 use Rattle.meaning.specs.declared.message.Control.{Control}
 use Rattle.meaning.specs.declared.message.Data.{Data}
-use Rattle.meaning.specs.Cells.{noStatus, noSequence, noWindow}
+use Rattle.meaning.specs.Cells.{no_status, no_sequence, no_window}
 use Rattle.lent_messages.specs.Layout as layout
 use Rattle.lent_messages.specs.Layout.{CONTROL-HEAD, CHANNEL-WORDS, CONTROL-WORDS}
-use Rattle.lent_messages.specs.Stated.{datalinkStated, instanceStated, contextStated, statusStated, sequenceStated, windowStated, countedStated, channelStated, expirationStated, datalinkOf, instanceOf, context_of, statusOf, sequenceOf, windowOf, countedOf, channelOf, expirationOf}
-use Rattle.lent_messages.specs.Words.{word, channelStart, statusAt, sequenceAt, windowAt, controlOf, headWords, channelWords, wordsAt, joined, controlWords, data_of, dataWords}
+use Rattle.lent_messages.specs.Stated.{datalink_stated, instance_stated, context_stated, status_stated, sequence_stated, window_stated, counted_stated, channel_stated, expiration_stated, datalink_of, instance_of, context_of, status_of, sequence_of, window_of, counted_of, channel_of, expiration_of}
+use Rattle.lent_messages.specs.Words.{word, channel_start, status_at, sequence_at, window_at, control_of, head_words, channel_words, words_at, joined, control_words, data_of, data_words}
 
 -- ---- one thing that may be stated
-datalink-back : (stated : Datalink) → datalinkOf (datalinkStated stated).tag (datalinkStated stated).first ≡ stated
-unfolding datalinkOf
-datalink-back Datalink.Absent = refl
-datalink-back (Datalink.Given id) = refl
+datalink_back : (stated : Datalink) → datalink_of (datalink_stated stated).tag (datalink_stated stated).first ≡ stated
+unfolding datalink_of
+datalink_back Datalink.Absent = refl
+datalink_back (Datalink.Given id) = refl
 
-instance-back : (stated : Instance) → instanceOf (instanceStated stated).tag (instanceStated stated).first (instanceStated stated).second ≡ stated
-unfolding instanceOf
-instance-back Instance.Absent = refl
-instance-back (Instance.Given id size) = refl
+instance_back : (stated : Instance) → instance_of (instance_stated stated).tag (instance_stated stated).first (instance_stated stated).second ≡ stated
+unfolding instance_of
+instance_back Instance.Absent = refl
+instance_back (Instance.Given id size) = refl
 
-context-back : (stated : Context) → context_of (contextStated stated).tag (contextStated stated).first (contextStated stated).second ≡ stated
+context_back : (stated : Context) → context_of (context_stated stated).tag (context_stated stated).first (context_stated stated).second ≡ stated
 unfolding context_of
-context-back Context.Absent = refl
-context-back (Context.Given bytes size) = refl
+context_back Context.Absent = refl
+context_back (Context.Given bytes size) = refl
 
-status-back : (stated : Status) → statusOf (statusStated stated).tag (statusStated stated).first ≡ stated
-unfolding statusOf
-status-back Status.Absent = refl
-status-back (Status.Given value) = refl
+status_back : (stated : Status) → status_of (status_stated stated).tag (status_stated stated).first ≡ stated
+unfolding status_of
+status_back Status.Absent = refl
+status_back (Status.Given value) = refl
 
-sequence-back : (stated : Sequence) → sequenceOf (sequenceStated stated).tag (sequenceStated stated).first ≡ stated
-unfolding sequenceOf
-sequence-back Sequence.Absent = refl
-sequence-back (Sequence.Given value) = refl
+sequence_back : (stated : Sequence) → sequence_of (sequence_stated stated).tag (sequence_stated stated).first ≡ stated
+unfolding sequence_of
+sequence_back Sequence.Absent = refl
+sequence_back (Sequence.Given value) = refl
 
-window-back : (stated : Window) → windowOf (windowStated stated).tag (windowStated stated).first ≡ stated
-unfolding windowOf
-window-back Window.Absent = refl
-window-back Window.Empty = refl
-window-back (Window.Given value) = refl
+window_back : (stated : Window) → window_of (window_stated stated).tag (window_stated stated).first ≡ stated
+unfolding window_of
+window_back Window.Absent = refl
+window_back Window.Empty = refl
+window_back (Window.Given value) = refl
 
-counted_back : (stated : Counted) → countedOf (countedStated stated).tag (countedStated stated).first (countedStated stated).second ≡ stated
-unfolding countedOf
+counted_back : (stated : Counted) → counted_of (counted_stated stated).tag (counted_stated stated).first (counted_stated stated).second ≡ stated
+unfolding counted_of
 counted_back Counted.Absent = refl
 counted_back (Counted.Given id value) = refl
 
-channel-back : (stated : Channel) → channelOf (channelStated stated).tag (channelStated stated).first ≡ stated
-unfolding channelOf
-channel-back Channel.Absent = refl
-channel-back (Channel.Given id) = refl
+channel_back : (stated : Channel) → channel_of (channel_stated stated).tag (channel_stated stated).first ≡ stated
+unfolding channel_of
+channel_back Channel.Absent = refl
+channel_back (Channel.Given id) = refl
 
-expiration-back : (stated : Expiration) → expirationOf (expirationStated stated).tag (expirationStated stated).first ≡ stated
-unfolding expirationOf
-expiration-back Expiration.Absent = refl
-expiration-back (Expiration.Given time) = refl
+expiration_back : (stated : Expiration) → expiration_of (expiration_stated stated).tag (expiration_stated stated).first ≡ stated
+unfolding expiration_of
+expiration_back Expiration.Absent = refl
+expiration_back (Expiration.Given time) = refl
 
 -- ---- words one behind another, as many for each
 module _ (words_of : ℕ → List ℕ) (six : (id : ℕ) → length (words_of id) ≡ CHANNEL-WORDS) where
@@ -94,71 +94,71 @@ module _ (words_of : ℕ → List ℕ) (six : (id : ℕ) → length (words_of id
       (eq-or-lt_of_le (omega arith))
 
 -- a table by its places
-table-back : {A : Type 0} (absent : A) (size : ℕ) (f : ℕ → A) (cells : List A) → length cells ≡ size → ((id : ℕ) → id < size → f id ≡ get_or cells id absent) → tabulate size f ≡ cells
-table-back absent size f cells long each =
-    ext_get_or absent (tabulate size f) cells (length-tabulate size f ∙ sym long)
-    (λ id h. let less : id < size = omega (arith, length-tabulate size f) in get_d_tabulate size f id absent less ∙ each id less)
+table_back : {A : Type 0} (absent : A) (size : ℕ) (f : ℕ → A) (cells : List A) → length cells ≡ size → ((id : ℕ) → id < size → f id ≡ get_or cells id absent) → tabulate size f ≡ cells
+table_back absent size f cells long each =
+    ext_get_or absent (tabulate size f) cells (length_tabulate size f ∙ sym long)
+    (λ id h. let less : id < size = omega (arith, length_tabulate size f) in get_d_tabulate size f id absent less ∙ each id less)
 
 -- ---- a control message
 module _ (m : Control) where
   abbrev stated : ℕ → List ℕ
-  stated = wordsAt m.statuses m.sequences m.windows
+  stated = words_at m.statuses m.sequences m.windows
 
   six : (id : ℕ) → length (stated id) ≡ CHANNEL-WORDS
-  unfolding wordsAt
+  unfolding words_at
   six id = refl
 
-  pub control-length : length (controlWords m) ≡ CONTROL-WORDS
-  unfolding controlWords
-  control-length =
-      length-append (headWords m.datalink m.instance m.context) (joined stated CHANNEL-IDS) ∙ ap (λ (n : ℕ). CONTROL-HEAD + n) (joined_length stated six CHANNEL-IDS)
+  pub control_length : length (control_words m) ≡ CONTROL-WORDS
+  unfolding control_words
+  control_length =
+      length-append (head_words m.datalink m.instance m.context) (joined stated CHANNEL-IDS) ∙ ap (λ (n : ℕ). CONTROL-HEAD + n) (joined_length stated six CHANNEL-IDS)
 
-  at-channel : (id k : ℕ) → id < CHANNEL-IDS → k < CHANNEL-WORDS → word (controlWords m) (channelStart id + k) ≡ word (stated id) k
-  unfolding controlWords
-  at-channel id k h less =
-      let place : channelStart id + k ≡ CONTROL-HEAD + (CHANNEL-WORDS * id + k) = omega arith in
-      rw place (get_or-append-add (headWords m.datalink m.instance m.context) (joined stated CHANNEL-IDS) (CHANNEL-WORDS * id + k) 0 ∙ joined_at stated six CHANNEL-IDS id k h less)
+  at_channel_lem : (id k : ℕ) → id < CHANNEL-IDS → k < CHANNEL-WORDS → word (control_words m) (channel_start id + k) ≡ word (stated id) k
+  unfolding control_words
+  at_channel_lem id k h less =
+      let place : channel_start id + k ≡ CONTROL-HEAD + (CHANNEL-WORDS * id + k) = omega arith in
+      rw place (get_or-append-add (head_words m.datalink m.instance m.context) (joined stated CHANNEL-IDS) (CHANNEL-WORDS * id + k) 0 ∙ joined_at stated six CHANNEL-IDS id k h less)
 
-  status-cell : (id : ℕ) → id < CHANNEL-IDS → statusAt (controlWords m) (channelStart id) ≡ get_or m.statuses id noStatus
-  unfolding statusAt wordsAt
-  status-cell id h =
-      rw (at-channel id layout.STATUS-TAG h (omega arith), at-channel id layout.STATUS-VALUE h (omega arith))
-      (ap (λ (stated : Status). record { status = stated }) (status-back (get_or m.statuses id noStatus).status))
+  status_cell : (id : ℕ) → id < CHANNEL-IDS → status_at (control_words m) (channel_start id) ≡ get_or m.statuses id no_status
+  unfolding status_at words_at
+  status_cell id h =
+      rw (at_channel_lem id layout.STATUS-TAG h (omega arith), at_channel_lem id layout.STATUS-VALUE h (omega arith))
+      (ap (λ (stated : Status). record { status = stated }) (status_back (get_or m.statuses id no_status).status))
 
-  sequence-cell : (id : ℕ) → id < CHANNEL-IDS → sequenceAt (controlWords m) (channelStart id) ≡ get_or m.sequences id noSequence
-  unfolding sequenceAt wordsAt
-  sequence-cell id h =
-      rw (at-channel id layout.SEQUENCE-TAG h (omega arith), at-channel id layout.SEQUENCE-VALUE h (omega arith))
-      (ap (λ (stated : Sequence). record { sequence = stated }) (sequence-back (get_or m.sequences id noSequence).sequence))
+  sequence_cell : (id : ℕ) → id < CHANNEL-IDS → sequence_at (control_words m) (channel_start id) ≡ get_or m.sequences id no_sequence
+  unfolding sequence_at words_at
+  sequence_cell id h =
+      rw (at_channel_lem id layout.SEQUENCE-TAG h (omega arith), at_channel_lem id layout.SEQUENCE-VALUE h (omega arith))
+      (ap (λ (stated : Sequence). record { sequence = stated }) (sequence_back (get_or m.sequences id no_sequence).sequence))
 
-  window-cell : (id : ℕ) → id < CHANNEL-IDS → windowAt (controlWords m) (channelStart id) ≡ get_or m.windows id noWindow
-  unfolding windowAt wordsAt
-  window-cell id h =
-      rw (at-channel id layout.WINDOW-TAG h (omega arith), at-channel id layout.WINDOW-VALUE h (omega arith))
-      (ap (λ (stated : Window). record { window = stated }) (window-back (get_or m.windows id noWindow).window))
+  window_cell : (id : ℕ) → id < CHANNEL-IDS → window_at (control_words m) (channel_start id) ≡ get_or m.windows id no_window
+  unfolding window_at words_at
+  window_cell id h =
+      rw (at_channel_lem id layout.WINDOW-TAG h (omega arith), at_channel_lem id layout.WINDOW-VALUE h (omega arith))
+      (ap (λ (stated : Window). record { window = stated }) (window_back (get_or m.windows id no_window).window))
 
-  head-datalink : datalinkOf (word (controlWords m) layout.DATALINK-TAG) (word (controlWords m) layout.DATALINK-VALUE) ≡ m.datalink
-  unfolding controlWords
-  head-datalink = datalink-back m.datalink
+  head_datalink : datalink_of (word (control_words m) layout.DATALINK-TAG) (word (control_words m) layout.DATALINK-VALUE) ≡ m.datalink
+  unfolding control_words
+  head_datalink = datalink_back m.datalink
 
-  head-instance : instanceOf (word (controlWords m) layout.INSTANCE-TAG) (word (controlWords m) layout.INSTANCE-VALUE) (word (controlWords m) layout.INSTANCE-LENGTH) ≡ m.instance
-  unfolding controlWords
-  head-instance = instance-back m.instance
+  head_instance : instance_of (word (control_words m) layout.INSTANCE-TAG) (word (control_words m) layout.INSTANCE-VALUE) (word (control_words m) layout.INSTANCE-LENGTH) ≡ m.instance
+  unfolding control_words
+  head_instance = instance_back m.instance
 
-  head-context : context_of (word (controlWords m) layout.CONTEXT-TAG) (word (controlWords m) layout.CONTEXT-VALUE) (word (controlWords m) layout.CONTEXT-LENGTH) ≡ m.context
-  unfolding controlWords
-  head-context = context-back m.context
+  head_context : context_of (word (control_words m) layout.CONTEXT-TAG) (word (control_words m) layout.CONTEXT-VALUE) (word (control_words m) layout.CONTEXT-LENGTH) ≡ m.context
+  unfolding control_words
+  head_context = context_back m.context
 
   -- a message with a place for each Channel ID comes back
-  pub control-back : length m.statuses ≡ CHANNEL-IDS → length m.sequences ≡ CHANNEL-IDS → length m.windows ≡ CHANNEL-IDS → controlOf (controlWords m) ≡ m
-  unfolding controlOf
-  control-back a b c =
-      let statuses = table-back noStatus CHANNEL-IDS (λ id. statusAt (controlWords m) (channelStart id)) m.statuses a status-cell in
-      let sequences = table-back noSequence CHANNEL-IDS (λ id. sequenceAt (controlWords m) (channelStart id)) m.sequences b sequence-cell in
-      let windows = table-back noWindow CHANNEL-IDS (λ id. windowAt (controlWords m) (channelStart id)) m.windows c window-cell in
-      rw (statuses, sequences, windows, head-datalink, head-instance, head-context)
+  pub control_back : length m.statuses ≡ CHANNEL-IDS → length m.sequences ≡ CHANNEL-IDS → length m.windows ≡ CHANNEL-IDS → control_of (control_words m) ≡ m
+  unfolding control_of
+  control_back a b c =
+      let statuses = table_back no_status CHANNEL-IDS (λ id. status_at (control_words m) (channel_start id)) m.statuses a status_cell in
+      let sequences = table_back no_sequence CHANNEL-IDS (λ id. sequence_at (control_words m) (channel_start id)) m.sequences b sequence_cell in
+      let windows = table_back no_window CHANNEL-IDS (λ id. window_at (control_words m) (channel_start id)) m.windows c window_cell in
+      rw (statuses, sequences, windows, head_datalink, head_instance, head_context)
 
 -- ---- a data message
-pub data-back : (m : Data) (start size : ℕ) → data_of (dataWords m start size) ≡ m
-unfolding data_of dataWords
-data-back m start size = rw (datalink-back m.datalink, counted_back m.sequence, channel-back m.channel, expiration-back m.expiration)
+pub data_back : (m : Data) (start size : ℕ) → data_of (data_words m start size) ≡ m
+unfolding data_of data_words
+data_back m start size = rw (datalink_back m.datalink, counted_back m.sequence, channel_back m.channel, expiration_back m.expiration)

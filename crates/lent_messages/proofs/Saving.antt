@@ -9,18 +9,18 @@ use lib.Seq.{sets, sets-eq, take_all, take_at, take-append-le}
 use Rattle.quantity.specs.Limits.{CHANNEL-IDS}
 use Rattle.lent_messages.specs.Layout.{CONTROL-HEAD, CHANNEL-WORDS, CONTROL-WORDS, DATA-WORDS}
 use Rattle.meaning.specs.declared.message.Control.{Control}
-use Rattle.lent_messages.specs.Words.{headWords, wordsAt, joined, channelStart, controlWords}
+use Rattle.lent_messages.specs.Words.{head_words, words_at, joined, channel_start, control_words}
 
 -- eight words one behind another, from the first on
-pub head-set : (w : List ℕ) (a b c d e f g h : ℕ) → CONTROL-HEAD ≤ length w
+pub head_set : (w : List ℕ) (a b c d e f g h : ℕ) → CONTROL-HEAD ≤ length w
     → set (set (set (set (set (set (set (set w 0 a) 1 b) 2 c) 3 d) 4 e) 5 f) 6 g) 7 h ≡ (a ∷ b ∷ c ∷ d ∷ e ∷ f ∷ g ∷ h ∷ []) ++ drop CONTROL-HEAD w
-head-set w a b c d e f g h long = sets-eq (a ∷ b ∷ c ∷ d ∷ e ∷ f ∷ g ∷ h ∷ []) w 0 (omega arith)
+head_set w a b c d e f g h long = sets-eq (a ∷ b ∷ c ∷ d ∷ e ∷ f ∷ g ∷ h ∷ []) w 0 (omega arith)
 
 -- six words one behind another, from a place on
-pub channel-set : (w : List ℕ) (from a b c d e f : ℕ) → from + CHANNEL-WORDS ≤ length w
+pub channel_set : (w : List ℕ) (from a b c d e f : ℕ) → from + CHANNEL-WORDS ≤ length w
     → set (set (set (set (set (set w (from + 0) a) (from + 1) b) (from + 2) c) (from + 3) d) (from + 4) e) (from + 5) f
     ≡ take from w ++ ((a ∷ b ∷ c ∷ d ∷ e ∷ f ∷ []) ++ drop (from + CHANNEL-WORDS) w)
-channel-set w from a b c d e f long =
+channel_set w from a b c d e f long =
     let first : from + 0 ≡ from = omega arith in
     let second : from + 1 ≡ suc from = omega arith in
     let third : from + 2 ≡ suc (suc from) = omega arith in
@@ -32,7 +32,7 @@ channel-set w from a b c d e f long =
 -- where the loop over the Channel IDs stands: the words of those passed stand behind the first words
 pub record Going (words_of : ℕ → List ℕ) (head w : List ℕ) (from id : ℕ) : Type 0 where
   pub most : id ≤ CHANNEL-IDS
-  pub place : from ≡ channelStart id
+  pub place : from ≡ channel_start id
   pub long : length w ≡ CONTROL-WORDS
   pub saved : take from w ≡ head ++ joined words_of id
 
@@ -62,15 +62,15 @@ module _ (words_of : ℕ → List ℕ) (head : List ℕ) where
       let whole : length w ≤ from = omega (arith, g.long, g.place) in
       sym (take_all from w whole) ∙ g.saved ∙ ap (λ (n : ℕ). head ++ joined words_of n) last
 
-pub whole-saved : (m : Control) (w w' w'' : List ℕ) → w' ≡ headWords m.datalink m.instance m.context ++ drop CONTROL-HEAD w
-    → w'' ≡ take CONTROL-HEAD w' ++ joined (wordsAt m.statuses m.sequences m.windows) CHANNEL-IDS → w'' ≡ controlWords m
-unfolding controlWords
-whole-saved m w w' w'' e f = rw (f, e)
+pub whole_saved : (m : Control) (w w' w'' : List ℕ) → w' ≡ head_words m.datalink m.instance m.context ++ drop CONTROL-HEAD w
+    → w'' ≡ take CONTROL-HEAD w' ++ joined (words_at m.statuses m.sequences m.windows) CHANNEL-IDS → w'' ≡ control_words m
+unfolding control_words
+whole_saved m w w' w'' e f = rw (f, e)
 
 -- eleven words, all that there are
-pub data-set : (w : List ℕ) (a b c d e f g h i j k : ℕ) → length w ≡ DATA-WORDS
+pub data_set : (w : List ℕ) (a b c d e f g h i j k : ℕ) → length w ≡ DATA-WORDS
     → set (set (set (set (set (set (set (set (set (set (set w 0 a) 1 b) 2 c) 3 d) 4 e) 5 f) 6 g) 7 h) 8 i) 9 j) 10 k
     ≡ a ∷ b ∷ c ∷ d ∷ e ∷ f ∷ g ∷ h ∷ i ∷ j ∷ k ∷ []
-data-set w a b c d e f g h i j k long =
+data_set w a b c d e f g h i j k long =
     let words : List ℕ = a ∷ b ∷ c ∷ d ∷ e ∷ f ∷ g ∷ h ∷ i ∷ j ∷ k ∷ [] in
     sets-eq words w 0 (omega arith) ∙ rw (drop_of_length-le w {i = DATA-WORDS} (omega arith)) (append-nil words)

@@ -2,7 +2,7 @@
 ghost use Rattle.std.specs.Prelude.{◌≡◌, ◌++◌, ◌+◌, ◌≤◌, length, take, drop};
 ghost use Rattle.quantity.specs.Limits.{CHANNEL-IDS};
 ghost use Rattle.lent_messages.specs.Layout.{CONTROL-HEAD, CHANNEL-WORDS, CONTROL-WORDS};
-ghost use Rattle.lent_messages.specs.Words.{headWords, channelWords, wordsAt, joined, controlWords, statusAt, sequenceAt, windowAt, controlOf, headSpelled, channelSpelled, channelsSpelled, ChannelSays, ControlSays, controlSpelled};
+ghost use Rattle.lent_messages.specs.Words.{head_words, channel_words, words_at, joined, control_words, status_at, sequence_at, window_at, control_of, head_spelled, channel_spelled, channels_spelled, ChannelSays, ControlSays, control_spelled};
 
 use crate::layout::{
     BYTE, CHANNEL_WORDS, CONTEXT_LENGTH, CONTEXT_TAG, CONTEXT_VALUE, CONTROL_HEAD, CONTROL_WORDS,
@@ -19,7 +19,7 @@ use quantity::limit::CHANNEL_IDS;
 
 fn save_head(words: &mut [u64], datalink: Datalink, instance: Instance, context: Context)
     requires { CONTROL-HEAD ≤ length words.old }
-    ensures { words.new ≡ headWords datalink instance context ++ drop CONTROL-HEAD words.old }
+    ensures { words.new ≡ head_words datalink instance context ++ drop CONTROL-HEAD words.old }
 {
     let link = stated::datalink(datalink);
     let named = stated::instance(instance);
@@ -37,7 +37,7 @@ fn save_head(words: &mut [u64], datalink: Datalink, instance: Instance, context:
 // The words of one Channel ID, from a place on.
 fn save_channel(words: &mut [u64], from: usize, status: Status, sequence: Sequence, window: Window)
     requires { from + CHANNEL-WORDS ≤ length words.old }
-    ensures { words.new ≡ take from words.old ++ (channelWords status sequence window ++ drop (from + CHANNEL-WORDS) words.old) }
+    ensures { words.new ≡ take from words.old ++ (channel_words status sequence window ++ drop (from + CHANNEL-WORDS) words.old) }
 {
     let state = stated::status(status);
     let counted = stated::sequence(sequence);
@@ -57,7 +57,7 @@ fn save_channels(
     windows: [WindowCell; CHANNEL_IDS],
 )
     requires { length words.old ≡ CONTROL-WORDS }
-    ensures { words.new ≡ take CONTROL-HEAD words.old ++ joined (wordsAt statuses sequences windows) CHANNEL-IDS }
+    ensures { words.new ≡ take CONTROL-HEAD words.old ++ joined (words_at statuses sequences windows) CHANNEL-IDS }
 {
     let mut from = CONTROL_HEAD;
     let mut id = 0;
@@ -77,7 +77,7 @@ fn save_channels(
 // The words of a message, over all that stood there.
 pub fn save(words: &mut [u64], message: Control)
     requires { length words.old ≡ CONTROL-WORDS }
-    ensures { words.new ≡ controlWords message }
+    ensures { words.new ≡ control_words message }
 {
     let datalink = message.datalink;
     let instance = message.instance;
@@ -92,7 +92,7 @@ pub fn save(words: &mut [u64], message: Control)
 // The words say something: tags that there are, and numbers no wider than what they are numbers of.
 fn head_spelled(words: &[u64]) -> bool
     requires { length words.now ≡ CONTROL-WORDS }
-    ensures { result ≡ headSpelled words.now }
+    ensures { result ≡ head_spelled words.now }
 {
     stated::fits(words[DATALINK_TAG], GIVEN, words[DATALINK_VALUE], BYTE)
         && (words[INSTANCE_TAG] <= GIVEN && words[CONTEXT_TAG] <= GIVEN)
@@ -100,7 +100,7 @@ fn head_spelled(words: &[u64]) -> bool
 
 fn channel_spelled(words: &[u64], from: usize) -> bool
     requires { from + CHANNEL-WORDS ≤ length words.now }
-    ensures { result ≡ channelSpelled words.now from }
+    ensures { result ≡ channel_spelled words.now from }
 {
     stated::fits(
         words[from + STATUS_TAG],
@@ -122,7 +122,7 @@ fn channel_spelled(words: &[u64], from: usize) -> bool
 
 fn channels_spelled(words: &[u64]) -> bool
     requires { length words.now ≡ CONTROL-WORDS }
-    ensures { result ≡ channelsSpelled words.now CHANNEL-IDS }
+    ensures { result ≡ channels_spelled words.now CHANNEL-IDS }
 {
     let mut from = CONTROL_HEAD;
     let mut id = 0;
@@ -137,7 +137,7 @@ fn channels_spelled(words: &[u64]) -> bool
 }
 
 pub fn spelled(words: &[u64]) -> bool
-    ensures { result ≡ controlSpelled words.now }
+    ensures { result ≡ control_spelled words.now }
 {
     words.len() == CONTROL_WORDS && (head_spelled(words) && channels_spelled(words))
 }
@@ -145,7 +145,7 @@ pub fn spelled(words: &[u64]) -> bool
 // What is stated of one Channel ID, whose words start at a place.
 fn status_at(words: &[u64], from: usize) -> StatusCell
     requires { ChannelSays words.now from }
-    ensures { result ≡ statusAt words.now from }
+    ensures { result ≡ status_at words.now from }
 {
     StatusCell {
         status: stated::status_of(words[from + STATUS_TAG], words[from + STATUS_VALUE]),
@@ -154,7 +154,7 @@ fn status_at(words: &[u64], from: usize) -> StatusCell
 
 fn sequence_at(words: &[u64], from: usize) -> SequenceCell
     requires { ChannelSays words.now from }
-    ensures { result ≡ sequenceAt words.now from }
+    ensures { result ≡ sequence_at words.now from }
 {
     SequenceCell {
         sequence: stated::sequence_of(words[from + SEQUENCE_TAG], words[from + SEQUENCE_VALUE]),
@@ -163,7 +163,7 @@ fn sequence_at(words: &[u64], from: usize) -> SequenceCell
 
 fn window_at(words: &[u64], from: usize) -> WindowCell
     requires { ChannelSays words.now from }
-    ensures { result ≡ windowAt words.now from }
+    ensures { result ≡ window_at words.now from }
 {
     WindowCell {
         window: stated::window_of(words[from + WINDOW_TAG], words[from + WINDOW_VALUE]),
@@ -173,7 +173,7 @@ fn window_at(words: &[u64], from: usize) -> WindowCell
 // The message that the words state.
 pub fn load(words: &[u64]) -> Control
     requires { ControlSays words.now }
-    ensures { result ≡ controlOf words.now }
+    ensures { result ≡ control_of words.now }
 {
     let mut statuses = [StatusCell {
         status: Status::Absent,

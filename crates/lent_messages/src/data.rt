@@ -1,7 +1,7 @@
 // A data message in words, with where its packet stands.
 ghost use Rattle.std.specs.Prelude.{◌≡◌, length};
 ghost use Rattle.lent_messages.specs.Layout.{DATA-WORDS};
-ghost use Rattle.lent_messages.specs.Words.{dataWords, data_of, dataSpelled, DataSays, partsSpelled};
+ghost use Rattle.lent_messages.specs.Words.{data_words, data_of, data_spelled, DataSays, parts_spelled};
 
 use crate::layout::{
     BYTE, CHANNEL_TAG, CHANNEL_VALUE, COUNTED_CHANNEL, COUNTED_SEQUENCE, COUNTED_TAG, DATA_WORDS,
@@ -14,7 +14,7 @@ use meaning::message::Data;
 // The words of a message, over all that stood there.
 pub fn save(words: &mut [u64], message: Data, start: usize, size: usize)
     requires { length words.old ≡ DATA-WORDS }
-    ensures { words.new ≡ dataWords message start size }
+    ensures { words.new ≡ data_words message start size }
 {
     let datalink = message.datalink;
     let sequence = message.sequence;
@@ -40,7 +40,7 @@ pub fn save(words: &mut [u64], message: Data, start: usize, size: usize)
 // Tags that there are, and numbers no wider than what they are numbers of.
 fn parts_spelled(words: &[u64]) -> bool
     requires { length words.now ≡ DATA-WORDS }
-    ensures { result ≡ partsSpelled words.now }
+    ensures { result ≡ parts_spelled words.now }
 {
     stated::fits(words[DATALINK_TAG], GIVEN, words[DATALINK_VALUE], BYTE)
         && (stated::fits(words[COUNTED_TAG], GIVEN, words[COUNTED_CHANNEL], BYTE)
@@ -50,7 +50,7 @@ fn parts_spelled(words: &[u64]) -> bool
 }
 
 pub fn spelled(words: &[u64]) -> bool
-    ensures { result ≡ dataSpelled words.now }
+    ensures { result ≡ data_spelled words.now }
 {
     words.len() == DATA_WORDS && parts_spelled(words)
 }

@@ -1,7 +1,7 @@
 // One thing that a message may state, as numbers and back.
 ghost use Rattle.std.specs.Prelude.{◌≡◌, ◌<◌, ◌^◌, true};
 ghost use Rattle.lent_messages.specs.Layout.{BYTE, HALF, GIVEN, FIELD-GIVEN};
-ghost use Rattle.lent_messages.specs.Stated.{fits, unstated, statedAs, datalinkStated, instanceStated, contextStated, statusStated, sequenceStated, windowStated, countedStated, channelStated, expirationStated, datalinkOf, instanceOf, context_of, statusOf, sequenceOf, windowOf, countedOf, channelOf, expirationOf};
+ghost use Rattle.lent_messages.specs.Stated.{fits, unstated, stated_as, datalink_stated, instance_stated, context_stated, status_stated, sequence_stated, window_stated, counted_stated, channel_stated, expiration_stated, datalink_of, instance_of, context_of, status_of, sequence_of, window_of, counted_of, channel_of, expiration_of};
 
 use crate::layout::{ABSENT, FIELD_EMPTY, FIELD_GIVEN, GIVEN};
 use meaning::message::{
@@ -54,7 +54,7 @@ fn nothing() -> Stated
 }
 
 fn given(first: u64, second: u64) -> Stated
-    ensures { result ≡ statedAs first second }
+    ensures { result ≡ stated_as first second }
 {
     Stated {
         tag: GIVEN,
@@ -64,7 +64,7 @@ fn given(first: u64, second: u64) -> Stated
 }
 
 pub fn datalink(stated: Datalink) -> Stated
-    ensures { result ≡ datalinkStated stated }
+    ensures { result ≡ datalink_stated stated }
 {
     match stated {
         Datalink::Absent => nothing(),
@@ -73,7 +73,7 @@ pub fn datalink(stated: Datalink) -> Stated
 }
 
 pub fn instance(stated: Instance) -> Stated
-    ensures { result ≡ instanceStated stated }
+    ensures { result ≡ instance_stated stated }
 {
     match stated {
         Instance::Absent => nothing(),
@@ -82,7 +82,7 @@ pub fn instance(stated: Instance) -> Stated
 }
 
 pub fn context(stated: Context) -> Stated
-    ensures { result ≡ contextStated stated }
+    ensures { result ≡ context_stated stated }
 {
     match stated {
         Context::Absent => nothing(),
@@ -91,7 +91,7 @@ pub fn context(stated: Context) -> Stated
 }
 
 pub fn status(stated: Status) -> Stated
-    ensures { result ≡ statusStated stated }
+    ensures { result ≡ status_stated stated }
 {
     match stated {
         Status::Absent => nothing(),
@@ -100,7 +100,7 @@ pub fn status(stated: Status) -> Stated
 }
 
 pub fn sequence(stated: Sequence) -> Stated
-    ensures { result ≡ sequenceStated stated }
+    ensures { result ≡ sequence_stated stated }
 {
     match stated {
         Sequence::Absent => nothing(),
@@ -109,7 +109,7 @@ pub fn sequence(stated: Sequence) -> Stated
 }
 
 pub fn counted(stated: Counted) -> Stated
-    ensures { result ≡ countedStated stated }
+    ensures { result ≡ counted_stated stated }
 {
     match stated {
         Counted::Absent => nothing(),
@@ -118,7 +118,7 @@ pub fn counted(stated: Counted) -> Stated
 }
 
 pub fn channel(stated: Channel) -> Stated
-    ensures { result ≡ channelStated stated }
+    ensures { result ≡ channel_stated stated }
 {
     match stated {
         Channel::Absent => nothing(),
@@ -127,7 +127,7 @@ pub fn channel(stated: Channel) -> Stated
 }
 
 pub fn expiration(stated: Expiration) -> Stated
-    ensures { result ≡ expirationStated stated }
+    ensures { result ≡ expiration_stated stated }
 {
     match stated {
         Expiration::Absent => nothing(),
@@ -136,7 +136,7 @@ pub fn expiration(stated: Expiration) -> Stated
 }
 
 pub fn window(stated: Window) -> Stated
-    ensures { result ≡ windowStated stated }
+    ensures { result ≡ window_stated stated }
 {
     match stated {
         Window::Absent => nothing(),
@@ -155,7 +155,7 @@ pub fn window(stated: Window) -> Stated
 
 pub fn datalink_of(tag: u64, value: u64) -> Datalink
     requires { fits tag GIVEN value BYTE ≡ true }
-    ensures { result ≡ datalinkOf tag value }
+    ensures { result ≡ datalink_of tag value }
 {
     if tag == ABSENT {
         return Datalink::Absent;
@@ -164,7 +164,7 @@ pub fn datalink_of(tag: u64, value: u64) -> Datalink
 }
 
 pub fn instance_of(tag: u64, value: u64, length: u64) -> Instance
-    ensures { result ≡ instanceOf tag value length }
+    ensures { result ≡ instance_of tag value length }
 {
     if tag == ABSENT {
         return Instance::Absent;
@@ -183,7 +183,7 @@ pub fn context_of(tag: u64, value: u64, length: u64) -> Context
 
 pub fn status_of(tag: u64, value: u64) -> Status
     requires { fits tag GIVEN value BYTE ≡ true }
-    ensures { result ≡ statusOf tag value }
+    ensures { result ≡ status_of tag value }
 {
     if tag == ABSENT {
         return Status::Absent;
@@ -193,7 +193,7 @@ pub fn status_of(tag: u64, value: u64) -> Status
 
 pub fn sequence_of(tag: u64, value: u64) -> Sequence
     requires { fits tag GIVEN value HALF ≡ true }
-    ensures { result ≡ sequenceOf tag value }
+    ensures { result ≡ sequence_of tag value }
 {
     if tag == ABSENT {
         return Sequence::Absent;
@@ -204,7 +204,7 @@ pub fn sequence_of(tag: u64, value: u64) -> Sequence
 pub fn counted_of(tag: u64, channel: u64, sequence: u64) -> Counted
     requires channel_value { fits tag GIVEN channel BYTE ≡ true }
     requires sequence_value { fits tag GIVEN sequence HALF ≡ true }
-    ensures { result ≡ countedOf tag channel sequence }
+    ensures { result ≡ counted_of tag channel sequence }
 {
     if tag == ABSENT {
         return Counted::Absent;
@@ -214,7 +214,7 @@ pub fn counted_of(tag: u64, channel: u64, sequence: u64) -> Counted
 
 pub fn channel_of(tag: u64, value: u64) -> Channel
     requires { fits tag GIVEN value BYTE ≡ true }
-    ensures { result ≡ channelOf tag value }
+    ensures { result ≡ channel_of tag value }
 {
     if tag == ABSENT {
         return Channel::Absent;
@@ -224,7 +224,7 @@ pub fn channel_of(tag: u64, value: u64) -> Channel
 
 pub fn expiration_of(tag: u64, value: u64) -> Expiration
     requires { fits tag GIVEN value HALF ≡ true }
-    ensures { result ≡ expirationOf tag value }
+    ensures { result ≡ expiration_of tag value }
 {
     if tag == ABSENT {
         return Expiration::Absent;
@@ -234,7 +234,7 @@ pub fn expiration_of(tag: u64, value: u64) -> Expiration
 
 pub fn window_of(tag: u64, value: u64) -> Window
     requires { fits tag FIELD-GIVEN value HALF ≡ true }
-    ensures { result ≡ windowOf tag value }
+    ensures { result ≡ window_of tag value }
 {
     if tag == ABSENT {
         return Window::Absent;

@@ -12,20 +12,20 @@ use borrow.Author.Tests.{eq-eqb, ne_eqb, lt-ltb, le-ltb, leb-true, leb-false}
 use lib.Dec.{eqb, ltb, leb}
 use lib.ListN.{length, take, drop, get_or, set, drop_of_length-le, length-append, length-drop, length-take, length-set, take-append-drop}
 use lib.Seq.{drop-cons, drop-drop, take-add, take_at, drop_at, take_all, take-suc-set, drop-set-lt, length-take-le, get_or-take, drop-length}
-use Rattle.text.specs.Words.{word_of, beyondOf}
-use Rattle.text.specs.Numbers.{parseOf}
-use Rattle.text.specs.Strings.{hexedOf, pairsOf, unhexed, readableOf}
+use Rattle.text.specs.Words.{word_of, beyond_of}
+use Rattle.text.specs.Numbers.{parse_of}
+use Rattle.text.specs.Strings.{hexed_of, pairs_of, unhexed, readable_of}
 use Rattle.text.specs.Laying.{laid}
 use Rattle.text.specs.declared.Number.{Number}
 use Rattle.text.specs.declared.Hexed.{Hexed}
-use Rattle.text.proofs.Hexadecimal.{unhex-inside, unhex-bytes, unhex-bad, unhex-long, pairs-most}
-use Rattle.text.proofs.Spaces.{parts-length}
-use Rattle.text.specs.Words.{tailOf}
+use Rattle.text.proofs.Hexadecimal.{unhex_inside, unhex_bytes, unhex_bad, unhex_long, pairs_most}
+use Rattle.text.proofs.Spaces.{parts_length}
+use Rattle.text.specs.Words.{tail_of}
 use borrow.Rule.Slice.PartMut.{put_mid, mid_of}
 use Rattle.text.proofs.Writing.{laid_in}
 use Rattle.line_rows.specs.declared.row.Cursor.{Cursor}
-use Rattle.line_rows.specs.Rows.{NUMBER, BYTES, LIST, OPTIONAL, spellsOf, choice_of, lengthSaid, value_of, bytes_of, behindOf, Said, stopped, onNumber, saidMore, item_of, items_of, list_of, lastNumber, itemOrListOf, leftOutOf, row_of, read_by, goodBy, over, ReadsRow}
-use Rattle.line_rows.specs.Cursors.{bytesGot, lengthLaid, ValueSaid, StartsAt, stoppedAt, Inside, saidAt, Advances}
+use Rattle.line_rows.specs.Rows.{NUMBER, BYTES, LIST, OPTIONAL, spells_of, choice_of, length_said, value_of, bytes_of, behind_of, Said, stopped, on_number, said_more, item_of, items_of, list_of, last_number, item_or_list_of, left_out_of, row_of, read_by, good_by, over, ReadsRow}
+use Rattle.line_rows.specs.Cursors.{bytes_got, length_laid, ValueSaid, StartsAt, stopped_at, Inside, said_at, Advances}
 
 pub clash : {A : Type 0} → true ≡ false → A
 clash e = let z : ◌≡◌ {A = ℕ} 0 1 = cc in absurd (omega arith)
@@ -36,67 +36,67 @@ next s i h = rw (add-one i) (drop-cons s i 0 h)
 
 pub record SpellsSoFar (word : List ℕ) (key left i : ℕ) : Type 0 where
   pub within : i ≤ length word
-  pub same : spellsOf (drop i word) left ≡ spellsOf word key
+  pub same : spells_of (drop i word) left ≡ spells_of word key
 
 module _ {word : List ℕ} {key left i : ℕ} (k : SpellsSoFar word key left i) where
-  pub spells-short : i < length word → left ≡ 0 → false ≡ spellsOf word key
-  unfolding spellsOf
-  spells-short h e = rw (next word i h, eq-eqb left 0 e) at k.same
+  pub spells_short : i < length word → left ≡ 0 → false ≡ spells_of word key
+  unfolding spells_of
+  spells_short h e = rw (next word i h, eq-eqb left 0 e) at k.same
 
-  pub spells-other : i < length word → (left ≡ 0 → ⊥) → (get_or word i 0 ≡ left % 256 → ⊥) → false ≡ spellsOf word key
-  unfolding spellsOf
-  spells-other h e f = rw (next word i h, ne_eqb left 0 e, ne_eqb (get_or word i 0) (left % 256) f) at k.same
+  pub spells_other : i < length word → (left ≡ 0 → ⊥) → (get_or word i 0 ≡ left % 256 → ⊥) → false ≡ spells_of word key
+  unfolding spells_of
+  spells_other h e f = rw (next word i h, ne_eqb left 0 e, ne_eqb (get_or word i 0) (left % 256) f) at k.same
 
-  pub spells-on : i < length word → (left ≡ 0 → ⊥) → get_or word i 0 ≡ left % 256 → SpellsSoFar word key (left / 256) (i + 1)
-  unfolding spellsOf
-  spells-on h e f = record { within = omega arith; same = rw (next word i h, ne_eqb left 0 e, eq-eqb (get_or word i 0) (left % 256) f) at k.same }
+  pub spells_on : i < length word → (left ≡ 0 → ⊥) → get_or word i 0 ≡ left % 256 → SpellsSoFar word key (left / 256) (i + 1)
+  unfolding spells_of
+  spells_on h e f = record { within = omega arith; same = rw (next word i h, ne_eqb left 0 e, eq-eqb (get_or word i 0) (left % 256) f) at k.same }
 
-  pub spells-end : length word ≤ i → eqb left 0 ≡ spellsOf word key
-  unfolding spellsOf
-  spells-end h = rw (drop_of_length-le word {i = i} h) at k.same
+  pub spells_end : length word ≤ i → eqb left 0 ≡ spells_of word key
+  unfolding spells_of
+  spells_end h = rw (drop_of_length-le word {i = i} h) at k.same
 
 -- ---- items left out
 module _ (skip a b : ℕ) where
-  pub left-out-on : 0 < skip → skip - 1 ≡ leftOutOf skip a b
-  unfolding leftOutOf
-  left-out-on h = rw (lt-ltb 0 skip h)
+  pub left_out_on : 0 < skip → skip - 1 ≡ left_out_of skip a b
+  unfolding left_out_of
+  left_out_on h = rw (lt-ltb 0 skip h)
 
-  pub left-out-many : skip ≤ 0 → a ≡ LIST → b ≡ leftOutOf skip a b
-  unfolding leftOutOf
-  left-out-many h e = rw (le-ltb 0 skip h, eq-eqb a LIST e)
+  pub left_out_many : skip ≤ 0 → a ≡ LIST → b ≡ left_out_of skip a b
+  unfolding left_out_of
+  left_out_many h e = rw (le-ltb 0 skip h, eq-eqb a LIST e)
 
-  pub left-out-none : skip ≤ 0 → (a ≡ LIST → ⊥) → 0 ≡ leftOutOf skip a b
-  unfolding leftOutOf
-  left-out-none h e = rw (le-ltb 0 skip h, ne_eqb a LIST e)
+  pub left_out_none : skip ≤ 0 → (a ≡ LIST → ⊥) → 0 ≡ left_out_of skip a b
+  unfolding left_out_of
+  left_out_none h e = rw (le-ltb 0 skip h, ne_eqb a LIST e)
 
 -- ---- the last number
 module _ (numbers : List ℕ) (count : ℕ) where
-  pub last_none : count ≡ 0 → 0 ≡ lastNumber (take count numbers)
-  unfolding lastNumber
+  pub last_none : count ≡ 0 → 0 ≡ last_number (take count numbers)
+  unfolding last_number
   last_none e = rw e
 
-  pub last_some : 0 < count → count ≤ length numbers → get_or numbers (count - 1) 0 ≡ lastNumber (take count numbers)
-  unfolding lastNumber
+  pub last_some : 0 < count → count ≤ length numbers → get_or numbers (count - 1) 0 ≡ last_number (take count numbers)
+  unfolding last_number
   last_some h g =
       let more : count ≡ suc (count - 1) = omega arith in
       rw (length-take-le count numbers g) (sym (ap (λ (k : ℕ). get_or (0 ∷ take count numbers) k 0) more ∙ get_or-take count numbers (count - 1) 0 (omega arith)))
 
 -- ---- the first items
 module _ (row : List ℕ) (count : ℕ) where
-  pub group-all : length row < count * 2 → take (length row - 0) (drop 0 row) ≡ take (count * 2) row
-  group-all h = take_all (length row - 0) row (omega arith) ∙ sym (take_all (count * 2) row (omega arith))
+  pub group_all : length row < count * 2 → take (length row - 0) (drop 0 row) ≡ take (count * 2) row
+  group_all h = take_all (length row - 0) row (omega arith) ∙ sym (take_all (count * 2) row (omega arith))
 
-  pub group-some : take (count * 2 - 0) (drop 0 row) ≡ take (count * 2) row
-  group-some = let z : count * 2 - 0 ≡ count * 2 = omega arith in rw z
+  pub group_some : take (count * 2 - 0) (drop 0 row) ≡ take (count * 2) row
+  group_some = let z : count * 2 - 0 ≡ count * 2 = omega arith in rw z
 
 -- ---- what a word says
-got-none : (a : ℕ) (word : List ℕ) (r : Number) → (a ≡ BYTES → ⊥) → bytesGot a word r ≡ []
+got_none : (a : ℕ) (word : List ℕ) (r : Number) → (a ≡ BYTES → ⊥) → bytes_got a word r ≡ []
 unfolding bytes_of
-got-none a word Number.Bad h = refl
-got-none a word (Number.Value v) h = rw (ne_eqb a BYTES h)
+got_none a word Number.Bad h = refl
+got_none a word (Number.Value v) h = rw (ne_eqb a BYTES h)
 
-laid_none : (a : ℕ) (word : List ℕ) (r : Number) → (a ≡ BYTES → ⊥) → onNumber 0 (lengthLaid a) r ≡ length (bytesGot a word r)
-unfolding lengthLaid bytes_of
+laid_none : (a : ℕ) (word : List ℕ) (r : Number) → (a ≡ BYTES → ⊥) → on_number 0 (length_laid a) r ≡ length (bytes_got a word r)
+unfolding length_laid bytes_of
 laid_none a word Number.Bad h = refl
 laid_none a word (Number.Value v) h = rw (ne_eqb a BYTES h)
 
@@ -105,98 +105,98 @@ module _ (a b : ℕ) (lent word : List ℕ) where
   plain : {r : Number} → (a ≡ BYTES → ⊥) → r ≡ value_of a b (length lent) word → ValueSaid a b lent word r lent
   plain {r} h e = record {
     answer = e;
-    fits = rw (got-none a word r h) (omega arith);
-    bytes = rw (got-none a word r h);
+    fits = rw (got_none a word r h) (omega arith);
+    bytes = rw (got_none a word r h);
     counted = laid_none a word r h;
   }
 
-  pub value-number : {r : Number} → a ≡ NUMBER → r ≡ parseOf b word → ValueSaid a b lent word r lent
+  pub value_number : {r : Number} → a ≡ NUMBER → r ≡ parse_of b word → ValueSaid a b lent word r lent
   unfolding value_of
-  value-number e f = plain (omega arith) (rw (eq-eqb a NUMBER e) f)
+  value_number e f = plain (omega arith) (rw (eq-eqb a NUMBER e) f)
 
-  pub value_there : {t : Bool} → a ≡ OPTIONAL → t ≡ spellsOf word b → t ≡ true → ValueSaid a b lent word (Number.Value 1) lent
+  pub value_there : {t : Bool} → a ≡ OPTIONAL → t ≡ spells_of word b → t ≡ true → ValueSaid a b lent word (Number.Value 1) lent
   unfolding value_of
   value_there e f g = plain (omega arith) (rw (ne_eqb a NUMBER (omega arith), ne_eqb a BYTES (omega arith), eq-eqb a OPTIONAL e, ← f, g))
 
-  pub value-not-there : {t : Bool} → a ≡ OPTIONAL → t ≡ spellsOf word b → t ≡ false → ValueSaid a b lent word (Number.Value 0) lent
+  pub value_not_there : {t : Bool} → a ≡ OPTIONAL → t ≡ spells_of word b → t ≡ false → ValueSaid a b lent word (Number.Value 0) lent
   unfolding value_of
-  value-not-there e f g = plain (omega arith) (rw (ne_eqb a NUMBER (omega arith), ne_eqb a BYTES (omega arith), eq-eqb a OPTIONAL e, ← f, g))
+  value_not_there e f g = plain (omega arith) (rw (ne_eqb a NUMBER (omega arith), ne_eqb a BYTES (omega arith), eq-eqb a OPTIONAL e, ← f, g))
 
-  pub value-choice : {r : Number} → (a ≡ NUMBER → ⊥) → (a ≡ BYTES → ⊥) → (a ≡ OPTIONAL → ⊥) → r ≡ choice_of a b word → ValueSaid a b lent word r lent
+  pub value_choice : {r : Number} → (a ≡ NUMBER → ⊥) → (a ≡ BYTES → ⊥) → (a ≡ OPTIONAL → ⊥) → r ≡ choice_of a b word → ValueSaid a b lent word r lent
   unfolding value_of
-  value-choice x y z f = plain y (rw (ne_eqb a NUMBER x, ne_eqb a BYTES y, ne_eqb a OPTIONAL z) f)
+  value_choice x y z f = plain y (rw (ne_eqb a NUMBER x, ne_eqb a BYTES y, ne_eqb a OPTIONAL z) f)
 
 -- ---- byte strings
 module _ (out word : List ℕ) where
-  hexed-none : hexedOf (length out) word ≡ Hexed.Bad → unhexed out word ≡ out
-  unfolding hexedOf
-  hexed-none e = go (readableOf word) (leb (length word / 2) (length out)) refl refl e
+  hexed_none : hexed_of (length out) word ≡ Hexed.Bad → unhexed out word ≡ out
+  unfolding hexed_of
+  hexed_none e = go (readable_of word) (leb (length word / 2) (length out)) refl refl e
     where
-      go : (t u : Bool) → readableOf word ≡ t → leb (length word / 2) (length out) ≡ u → cond t (cond u (Hexed.Long (length word / 2)) Hexed.Bad) Hexed.Bad ≡ Hexed.Bad
+      go : (t u : Bool) → readable_of word ≡ t → leb (length word / 2) (length out) ≡ u → cond t (cond u (Hexed.Long (length word / 2)) Hexed.Bad) Hexed.Bad ≡ Hexed.Bad
           → unhexed out word ≡ out
       go true true r q p = let z : ◌≡◌ {A = ℕ} 0 1 = cc in absurd (omega arith)
-      go true false r q p = sym (unhex-long word out r (leb-false (length word / 2) (length out) q)).1
-      go false u r q p = sym (unhex-bad word out r).1
+      go true false r q p = sym (unhex_long word out r (leb-false (length word / 2) (length out) q)).1
+      go false u r q p = sym (unhex_bad word out r).1
 
-  hexed-some : {n : ℕ} → hexedOf (length out) word ≡ Hexed.Long n → (unhexed out word ≡ over (pairsOf word) out) × (length (pairsOf word) ≤ length out)
-  unfolding hexedOf unhexed
-  hexed-some {n} e = go (readableOf word) (leb (length word / 2) (length out)) refl e
+  hexed_some : {n : ℕ} → hexed_of (length out) word ≡ Hexed.Long n → (unhexed out word ≡ over (pairs_of word) out) × (length (pairs_of word) ≤ length out)
+  unfolding hexed_of unhexed
+  hexed_some {n} e = go (readable_of word) (leb (length word / 2) (length out)) refl e
     where
       go : (t u : Bool) → leb (length word / 2) (length out) ≡ u → cond t (cond u (Hexed.Long (length word / 2)) Hexed.Bad) Hexed.Bad ≡ Hexed.Long n
-          → (cond t (laid out 0 (pairsOf word)) out ≡ over (pairsOf word) out) × (length (pairsOf word) ≤ length out)
+          → (cond t (laid out 0 (pairs_of word)) out ≡ over (pairs_of word) out) × (length (pairs_of word) ≤ length out)
       go true true q p =
-          let room : 0 + length (pairsOf word) ≤ length out = omega (arith, leb-true (length word / 2) (length out) q, pairs-most word) in
-          let z : 0 + length (pairsOf word) ≡ length (pairsOf word) = omega arith in
-          (laid_in out 0 (pairsOf word) room ∙ ap (λ (k : ℕ). pairsOf word ++ drop k out) z, omega arith)
+          let room : 0 + length (pairs_of word) ≤ length out = omega (arith, leb-true (length word / 2) (length out) q, pairs_most word) in
+          let z : 0 + length (pairs_of word) ≡ length (pairs_of word) = omega arith in
+          (laid_in out 0 (pairs_of word) room ∙ ap (λ (k : ℕ). pairs_of word ++ drop k out) z, omega arith)
       go true false q p = let z : ◌≡◌ {A = ℕ} 0 1 = cc in absurd (omega arith)
       go false u q p = let z : ◌≡◌ {A = ℕ} 0 1 = cc in absurd (omega arith)
 
-  hexed-count : {n : ℕ} → hexedOf (length out) word ≡ Hexed.Long n → n ≡ length (pairsOf word)
-  hexed-count {n} e =
-      let whole = hexed-some e in
+  hexed_count : {n : ℕ} → hexed_of (length out) word ≡ Hexed.Long n → n ≡ length (pairs_of word)
+  hexed_count {n} e =
+      let whole = hexed_some e in
       let size : length (unhexed out word) ≡ length out = ap length whole.0 ∙ simp (length-append, length-drop) (omega (arith, whole.1)) in
-      sym (length-take-le n (unhexed out word) (omega (arith, size, unhex-inside (length out) word e))) ∙ ap length (unhex-bytes out word e)
+      sym (length-take-le n (unhexed out word) (omega (arith, size, unhex_inside (length out) word e))) ∙ ap length (unhex_bytes out word e)
 
-module _ (a b : ℕ) (lent word : List ℕ) {h : Hexed} {lent' : List ℕ} (e : a ≡ BYTES) (f : h ≡ hexedOf (length lent) word) (g : lent' ≡ unhexed lent word) where
-  value-is : value_of a b (length lent) word ≡ lengthSaid h
+module _ (a b : ℕ) (lent word : List ℕ) {h : Hexed} {lent' : List ℕ} (e : a ≡ BYTES) (f : h ≡ hexed_of (length lent) word) (g : lent' ≡ unhexed lent word) where
+  value_is : value_of a b (length lent) word ≡ length_said h
   unfolding value_of
-  value-is = rw (ne_eqb a NUMBER (omega arith), eq-eqb a BYTES e, f)
+  value_is = rw (ne_eqb a NUMBER (omega arith), eq-eqb a BYTES e, f)
 
-  pub value-no-bytes : h ≡ Hexed.Bad → ValueSaid a b lent word Number.Bad lent'
-  value-no-bytes k = record {
-    answer = sym (value-is ∙ ap lengthSaid k);
+  pub value_no_bytes : h ≡ Hexed.Bad → ValueSaid a b lent word Number.Bad lent'
+  value_no_bytes k = record {
+    answer = sym (value_is ∙ ap length_said k);
     fits = omega arith;
-    bytes = g ∙ hexed-none lent word (sym f ∙ k);
+    bytes = g ∙ hexed_none lent word (sym f ∙ k);
     counted = refl;
   }
 
-  pub value-bytes : {n : ℕ} → h ≡ Hexed.Long n → ValueSaid a b lent word (Number.Value n) lent'
-  unfolding bytes_of lengthLaid
-  value-bytes k = let whole = hexed-some lent word (sym f ∙ k) in
-      let got : bytes_of a word ≡ pairsOf word = rw (eq-eqb a BYTES e) in
+  pub value_bytes : {n : ℕ} → h ≡ Hexed.Long n → ValueSaid a b lent word (Number.Value n) lent'
+  unfolding bytes_of length_laid
+  value_bytes k = let whole = hexed_some lent word (sym f ∙ k) in
+      let got : bytes_of a word ≡ pairs_of word = rw (eq-eqb a BYTES e) in
       record {
-        answer = sym (value-is ∙ ap lengthSaid k);
+        answer = sym (value_is ∙ ap length_said k);
         fits = rw got whole.1;
         bytes = rw got (g ∙ whole.0);
-        counted = rw (got, eq-eqb a BYTES e) (hexed-count lent word (sym f ∙ k));
+        counted = rw (got, eq-eqb a BYTES e) (hexed_count lent word (sym f ∙ k));
       }
 
 -- ---- how many bytes
-pub laid-bytes : (a value : ℕ) → a ≡ BYTES → value ≡ lengthLaid a value
-unfolding lengthLaid
-laid-bytes a value e = rw (eq-eqb a BYTES e)
+pub laid_bytes : (a value : ℕ) → a ≡ BYTES → value ≡ length_laid a value
+unfolding length_laid
+laid_bytes a value e = rw (eq-eqb a BYTES e)
 
-pub laid-nothing : (a value : ℕ) → (a ≡ BYTES → ⊥) → 0 ≡ lengthLaid a value
-unfolding lengthLaid
-laid-nothing a value e = rw (ne_eqb a BYTES e)
+pub laid_nothing : (a value : ℕ) → (a ≡ BYTES → ⊥) → 0 ≡ length_laid a value
+unfolding length_laid
+laid_nothing a value e = rw (ne_eqb a BYTES e)
 
 -- ---- where the rest starts
-module _ (line : List ℕ) (at : ℕ) (h : at ≤ length line) {left : List ℕ} (e : left ≡ beyondOf (mid_of at (length line - at) line)) where
-  beyond-is : left ≡ beyondOf (drop at line)
-  beyond-is = e ∙ ap beyondOf (rest_part at line)
+module _ (line : List ℕ) (at : ℕ) (h : at ≤ length line) {left : List ℕ} (e : left ≡ beyond_of (mid_of at (length line - at) line)) where
+  beyond_is : left ≡ beyond_of (drop at line)
+  beyond_is = e ∙ ap beyond_of (rest_part at line)
 
-  beyond-at : (k : ℕ) → left ≡ drop k line → drop (length line - length left) line ≡ left
-  beyond-at k q = elim (dec_le k (length line)) [
+  beyond_at : (k : ℕ) → left ≡ drop k line → drop (length line - length left) line ≡ left
+  beyond_at k q = elim (dec_le k (length line)) [
     | yes g ↦ let n : length line - length left ≡ k = omega (arith, simp length-drop at (ap length q)) in rw n (sym q)
     | no g ↦
         let none : length left ≡ 0 = omega (arith, simp length-drop at (ap length q)) in
@@ -208,51 +208,51 @@ module _ (line : List ℕ) (at : ℕ) (h : at ≤ length line) {left : List ℕ}
       nothing [] z = refl
       nothing (x ∷ l) z = absurd (omega arith)
 
-  beyond-place : left ≡ drop (at + 1 + indexOf 32 (drop 1 (drop at line))) line
-  unfolding tailOf
-  beyond-place =
+  beyond_place : left ≡ drop (at + 1 + indexOf 32 (drop 1 (drop at line))) line
+  unfolding tail_of
+  beyond_place =
       let sum : at + (1 + indexOf 32 (drop 1 (drop at line))) ≡ at + 1 + indexOf 32 (drop 1 (drop at line)) = omega arith in
-      beyond-is ∙ drop-drop (indexOf 32 (drop 1 (drop at line))) 1 (drop at line) ∙ drop-drop (1 + indexOf 32 (drop 1 (drop at line))) at line
+      beyond_is ∙ drop-drop (indexOf 32 (drop 1 (drop at line))) 1 (drop at line) ∙ drop-drop (1 + indexOf 32 (drop 1 (drop at line))) at line
       ∙ ap (λ (k : ℕ). drop k line) sum
 
-  pub past-short : length left ≤ length line
-  past-short = rw beyond-place (simp length-drop (omega arith))
+  pub past_short : length left ≤ length line
+  past_short = rw beyond_place (simp length-drop (omega arith))
 
-  pub past-from : StartsAt line (length line - length left) (beyondOf (drop at line))
-  past-from = record { within = omega arith; starts = beyond-at (at + 1 + indexOf 32 (drop 1 (drop at line))) beyond-place ∙ beyond-is }
+  pub past_from : StartsAt line (length line - length left) (beyond_of (drop at line))
+  past_from = record { within = omega arith; starts = beyond_at (at + 1 + indexOf 32 (drop 1 (drop at line))) beyond_place ∙ beyond_is }
 
 module _ {line : List ℕ} (at a value : ℕ) {r : ℕ} where
-  pub behind-word : (a ≡ OPTIONAL → ⊥) → StartsAt line r (beyondOf (drop at line)) → StartsAt line r (behindOf a value (drop at line))
-  unfolding behindOf
-  behind-word h k = rw (ne_eqb a OPTIONAL h) k
+  pub behind_word : (a ≡ OPTIONAL → ⊥) → StartsAt line r (beyond_of (drop at line)) → StartsAt line r (behind_of a value (drop at line))
+  unfolding behind_of
+  behind_word h k = rw (ne_eqb a OPTIONAL h) k
 
-  pub behind-there : (value ≡ 0 → ⊥) → StartsAt line r (beyondOf (drop at line)) → StartsAt line r (behindOf a value (drop at line))
-  unfolding behindOf
-  behind-there h k = rw (ne_eqb value 0 h, and-false) k
+  pub behind_there : (value ≡ 0 → ⊥) → StartsAt line r (beyond_of (drop at line)) → StartsAt line r (behind_of a value (drop at line))
+  unfolding behind_of
+  behind_there h k = rw (ne_eqb value 0 h, and-false) k
 
-pub behind-not-there : {line : List ℕ} (at a value : ℕ) → at ≤ length line → a ≡ OPTIONAL → value ≡ 0 → StartsAt line at (behindOf a value (drop at line))
-unfolding behindOf
-behind-not-there at a value w e f = record { within = w; starts = rw (eq-eqb a OPTIONAL e, eq-eqb value 0 f) }
+pub behind_not_there : {line : List ℕ} (at a value : ℕ) → at ≤ length line → a ≡ OPTIONAL → value ≡ 0 → StartsAt line at (behind_of a value (drop at line))
+unfolding behind_of
+behind_not_there at a value w e f = record { within = w; starts = rw (eq-eqb a OPTIONAL e, eq-eqb value 0 f) }
 
 -- ---- one word, from what was said
 module _ (places size a b : ℕ) (s : Said) where
-  pub item-idle : s.good ≡ false → item_of places size a b s ≡ s
+  pub item_idle : s.good ≡ false → item_of places size a b s ≡ s
   unfolding item_of
-  item-idle e = rw e
+  item_idle e = rw e
 
   module _ (g : s.good ≡ true) where
-    pub item-full : places ≤ length s.numbers → item_of places size a b s ≡ stopped s
+    pub item_full : places ≤ length s.numbers → item_of places size a b s ≡ stopped s
     unfolding item_of
-    item-full h = rw (g, le-ltb (length s.numbers) places h)
+    item_full h = rw (g, le-ltb (length s.numbers) places h)
 
     module _ (h : length s.numbers < places) where
-      pub item-bad : value_of a b (size - length s.bytes) (word_of s.rest) ≡ Number.Bad → item_of places size a b s ≡ stopped s
+      pub item_bad : value_of a b (size - length s.bytes) (word_of s.rest) ≡ Number.Bad → item_of places size a b s ≡ stopped s
       unfolding item_of
-      item-bad e = rw (g, lt-ltb (length s.numbers) places h, e)
+      item_bad e = rw (g, lt-ltb (length s.numbers) places h, e)
 
-      pub item-value : {v : ℕ} → value_of a b (size - length s.bytes) (word_of s.rest) ≡ Number.Value v → item_of places size a b s ≡ saidMore a s v
+      pub item_value : {v : ℕ} → value_of a b (size - length s.bytes) (word_of s.rest) ≡ Number.Value v → item_of places size a b s ≡ said_more a s v
       unfolding item_of
-      item-value e = rw (g, lt-ltb (length s.numbers) places h, e)
+      item_value e = rw (g, lt-ltb (length s.numbers) places h, e)
 
 said_same : {g : Bool} {r r' n n' b b' : List ℕ} → r ≡ r' → n ≡ n' → b ≡ b' → ◌≡◌ {A = Said} (record { good = g; rest = r; numbers = n; bytes = b }) (record { good = g; rest = r'; numbers = n'; bytes = b' })
 said_same e f g = rw (e, f, g)
@@ -265,149 +265,149 @@ module _ (bytes : List ℕ) (m : ℕ) (got : List ℕ) (h : m + length got ≤ l
   front : length (take m bytes ++ got) ≡ m + length got
   front = simp length-append (omega (arith, length-take-le m bytes (omega arith)))
 
-  wrote-is : wrote ≡ (take m bytes ++ got) ++ drop (m + length got) bytes
-  wrote-is =
+  wrote_is : wrote ≡ (take m bytes ++ got) ++ drop (m + length got) bytes
+  wrote_is =
       let none : drop (length bytes - m) (drop m bytes) ≡ [] = drop_of_length-le (drop m bytes) {i = length bytes - m} (simp length-drop (omega arith)) in
       rw (rest_part m bytes, none, append-nil, drop-drop (length got) m bytes) (sym (append_assoc (take m bytes) got (drop (m + length got) bytes)))
 
-  wrote-take : take (m + length got) wrote ≡ take m bytes ++ got
-  wrote-take = rw wrote-is (take_at (take m bytes ++ got) (drop (m + length got) bytes) (m + length got) front)
+  wrote_take : take (m + length got) wrote ≡ take m bytes ++ got
+  wrote_take = rw wrote_is (take_at (take m bytes ++ got) (drop (m + length got) bytes) (m + length got) front)
 
-  wrote-drop : drop (m + length got) wrote ≡ drop (m + length got) bytes
-  wrote-drop = rw wrote-is (drop_at (take m bytes ++ got) (drop (m + length got) bytes) (m + length got) front)
+  wrote_drop : drop (m + length got) wrote ≡ drop (m + length got) bytes
+  wrote_drop = rw wrote_is (drop_at (take m bytes ++ got) (drop (m + length got) bytes) (m + length got) front)
 
-  wrote-length : length wrote ≡ length bytes
-  wrote-length = ap length wrote-is ∙ simp (length-append, length-drop) (omega (arith, length-take-le m bytes (omega arith)))
+  wrote_length : length wrote ≡ length bytes
+  wrote_length = ap length wrote_is ∙ simp (length-append, length-drop) (omega (arith, length-take-le m bytes (omega arith)))
 
 -- ---- the way along a line
-pub advance-none : {line numbers bytes : List ℕ} {s : Cursor} → Inside line s numbers bytes → Advances line s numbers bytes (saidAt line s numbers bytes) s numbers bytes
-advance-none k = record {
+pub advance_none : {line numbers bytes : List ℕ} {s : Cursor} → Inside line s numbers bytes → Advances line s numbers bytes (said_at line s numbers bytes) s numbers bytes
+advance_none k = record {
   stands = k;
   said = refl;
-  size-numbers = refl;
-  size-bytes = refl;
+  size_numbers = refl;
+  size_bytes = refl;
   more_numbers = omega arith;
   more_bytes = omega arith;
-  other-numbers = refl;
-  other-bytes = refl;
+  other_numbers = refl;
+  other_bytes = refl;
 }
 
-pub advance-as : {line numbers bytes numbers' bytes' : List ℕ} {s r : Cursor} {u v : Said} → Advances line s numbers bytes u r numbers' bytes' → u ≡ v → Advances line s numbers bytes v r numbers' bytes'
-advance-as k e = rw e at k
+pub advance_as : {line numbers bytes numbers' bytes' : List ℕ} {s r : Cursor} {u v : Said} → Advances line s numbers bytes u r numbers' bytes' → u ≡ v → Advances line s numbers bytes v r numbers' bytes'
+advance_as k e = rw e at k
 
-drop-as : {m n : ℕ} (x y : List ℕ) → m ≤ n → drop m x ≡ drop m y → drop n x ≡ drop n y
-drop-as {m} {n} x y h e =
+drop_as : {m n : ℕ} (x y : List ℕ) → m ≤ n → drop m x ≡ drop m y → drop n x ≡ drop n y
+drop_as {m} {n} x y h e =
     let sum : m + (n - m) ≡ n = omega arith in
     ap (λ (k : ℕ). drop k x) (sym sum) ∙ sym (drop-drop (n - m) m x) ∙ ap (drop (n - m)) e ∙ drop-drop (n - m) m y ∙ ap (λ (k : ℕ). drop k y) sum
 
-pub advance-on : {line numbers bytes numbers' bytes' numbers'' bytes'' : List ℕ} {s r t : Cursor} {u v : Said} → Advances line s numbers bytes u r numbers' bytes' → Advances line r numbers' bytes' v t numbers'' bytes''
+pub advance_on : {line numbers bytes numbers' bytes' numbers'' bytes'' : List ℕ} {s r t : Cursor} {u v : Said} → Advances line s numbers bytes u r numbers' bytes' → Advances line r numbers' bytes' v t numbers'' bytes''
     → Advances line s numbers bytes v t numbers'' bytes''
-advance-on {numbers = numbers} {bytes = bytes} {numbers' = numbers'} {bytes' = bytes'} k l = record {
+advance_on {numbers = numbers} {bytes = bytes} {numbers' = numbers'} {bytes' = bytes'} k l = record {
   stands = l.stands;
   said = l.said;
-  size-numbers = l.size-numbers ∙ k.size-numbers;
-  size-bytes = l.size-bytes ∙ k.size-bytes;
+  size_numbers = l.size_numbers ∙ k.size_numbers;
+  size_bytes = l.size_bytes ∙ k.size_bytes;
   more_numbers = omega (arith, k.more_numbers, l.more_numbers);
   more_bytes = omega (arith, k.more_bytes, l.more_bytes);
-  other-numbers = l.other-numbers ∙ drop-as numbers' numbers l.more_numbers k.other-numbers;
-  other-bytes = l.other-bytes ∙ drop-as bytes' bytes l.more_bytes k.other-bytes;
+  other_numbers = l.other_numbers ∙ drop_as numbers' numbers l.more_numbers k.other_numbers;
+  other_bytes = l.other_bytes ∙ drop_as bytes' bytes l.more_bytes k.other_bytes;
 }
 
 -- ---- one word
 module _ (line : List ℕ) (s : Cursor) (numbers bytes : List ℕ) (k : Inside line s numbers bytes) (a b : ℕ) where
   abbrev whole : Said
-  whole = item_of (length numbers) (length bytes) a b (saidAt line s numbers bytes)
+  whole = item_of (length numbers) (length bytes) a b (said_at line s numbers bytes)
 
-  pub advance-idle : s.good ≡ false → Advances line s numbers bytes whole s numbers bytes
-  advance-idle e = advance-as (advance-none k) (sym (item-idle (length numbers) (length bytes) a b (saidAt line s numbers bytes) e))
+  pub advance_idle : s.good ≡ false → Advances line s numbers bytes whole s numbers bytes
+  advance_idle e = advance_as (advance_none k) (sym (item_idle (length numbers) (length bytes) a b (said_at line s numbers bytes) e))
 
   module _ (g : s.good ≡ true) where
-    said-numbers : length (take s.numbers numbers) ≡ s.numbers
-    said-numbers = length-take-le s.numbers numbers k.numbers-inside
+    said_numbers : length (take s.numbers numbers) ≡ s.numbers
+    said_numbers = length-take-le s.numbers numbers k.numbers_inside
 
-    pub advance-full : {r : Cursor} → length numbers ≤ s.numbers → r ≡ stoppedAt s → Advances line s numbers bytes whole r numbers bytes
-    advance-full h e = rw e (record {
-      stands = record { at-inside = k.at-inside; numbers-inside = k.numbers-inside; bytes_inside = k.bytes_inside };
-      said = sym (item-full (length numbers) (length bytes) a b (saidAt line s numbers bytes) g (omega (arith, said-numbers)));
-      size-numbers = refl;
-      size-bytes = refl;
+    pub advance_full : {r : Cursor} → length numbers ≤ s.numbers → r ≡ stopped_at s → Advances line s numbers bytes whole r numbers bytes
+    advance_full h e = rw e (record {
+      stands = record { at_inside = k.at_inside; numbers_inside = k.numbers_inside; bytes_inside = k.bytes_inside };
+      said = sym (item_full (length numbers) (length bytes) a b (said_at line s numbers bytes) g (omega (arith, said_numbers)));
+      size_numbers = refl;
+      size_bytes = refl;
       more_numbers = omega arith;
       more_bytes = omega arith;
-      other-numbers = refl;
-      other-bytes = refl;
+      other_numbers = refl;
+      other_bytes = refl;
     })
 
     module _ (h : s.numbers < length numbers) {word : List ℕ} (w : word ≡ word_of (mid_of s.at (length line - s.at) line)) {r : Number} {lent : List ℕ} (v : ValueSaid a b (mid_of s.bytes (length bytes - s.bytes) bytes) word r lent) where
-      word-is : word ≡ word_of (drop s.at line)
-      word-is = w ∙ ap word_of (rest_part s.at line)
+      word_is : word ≡ word_of (drop s.at line)
+      word_is = w ∙ ap word_of (rest_part s.at line)
 
-      lent-size : length (mid_of s.bytes (length bytes - s.bytes) bytes) ≡ length bytes - s.bytes
-      lent-size = ap length (rest_part s.bytes bytes) ∙ length-drop s.bytes bytes
+      lent_size : length (mid_of s.bytes (length bytes - s.bytes) bytes) ≡ length bytes - s.bytes
+      lent_size = ap length (rest_part s.bytes bytes) ∙ length-drop s.bytes bytes
 
-      room-is : length (mid_of s.bytes (length bytes - s.bytes) bytes) ≡ length bytes - length (take s.bytes bytes)
-      room-is = lent-size ∙ ap (λ (n : ℕ). length bytes - n) (sym (length-take-le s.bytes bytes k.bytes_inside))
+      room_is : length (mid_of s.bytes (length bytes - s.bytes) bytes) ≡ length bytes - length (take s.bytes bytes)
+      room_is = lent_size ∙ ap (λ (n : ℕ). length bytes - n) (sym (length-take-le s.bytes bytes k.bytes_inside))
 
       value_as : value_of a b (length bytes - length (take s.bytes bytes)) (word_of (drop s.at line)) ≡ r
-      value_as = rw (← room-is, ← word-is) (sym v.answer)
+      value_as = rw (← room_is, ← word_is) (sym v.answer)
 
-      got-fits : s.bytes + length (bytesGot a word r) ≤ length bytes
-      got-fits = omega (arith, lent-size, v.fits, k.bytes_inside)
+      got_fits : s.bytes + length (bytes_got a word r) ≤ length bytes
+      got_fits = omega (arith, lent_size, v.fits, k.bytes_inside)
 
       abbrev after : List ℕ
       after = put_mid s.bytes (length bytes - s.bytes) bytes lent
 
-      after_is : after ≡ wrote bytes s.bytes (bytesGot a word r) got-fits
+      after_is : after ≡ wrote bytes s.bytes (bytes_got a word r) got_fits
       after_is = ap (put_mid s.bytes (length bytes - s.bytes) bytes) v.bytes
 
-      after-take : take (s.bytes + length (bytesGot a word r)) after ≡ take s.bytes bytes ++ bytesGot a word r
-      after-take = rw after_is (wrote-take bytes s.bytes (bytesGot a word r) got-fits)
+      after_take : take (s.bytes + length (bytes_got a word r)) after ≡ take s.bytes bytes ++ bytes_got a word r
+      after_take = rw after_is (wrote_take bytes s.bytes (bytes_got a word r) got_fits)
 
-      after-drop : drop (s.bytes + length (bytesGot a word r)) after ≡ drop (s.bytes + length (bytesGot a word r)) bytes
-      after-drop = rw after_is (wrote-drop bytes s.bytes (bytesGot a word r) got-fits)
+      after_drop : drop (s.bytes + length (bytes_got a word r)) after ≡ drop (s.bytes + length (bytes_got a word r)) bytes
+      after_drop = rw after_is (wrote_drop bytes s.bytes (bytes_got a word r) got_fits)
 
-      after-size : length after ≡ length bytes
-      after-size = rw after_is (wrote-length bytes s.bytes (bytesGot a word r) got-fits)
+      after_size : length after ≡ length bytes
+      after_size = rw after_is (wrote_length bytes s.bytes (bytes_got a word r) got_fits)
 
-      pub advance-bad : {t : Cursor} → r ≡ Number.Bad → t ≡ stoppedAt s → Advances line s numbers bytes whole t numbers after
-      advance-bad e f =
-          let none : bytesGot a word r ≡ [] = ap (bytesGot a word) e in
-          let z : s.bytes + length (bytesGot a word r) ≡ s.bytes = rw none (omega arith) in
-          let front : take s.bytes after ≡ take s.bytes bytes = ap (λ (n : ℕ). take n after) (sym z) ∙ after-take ∙ ap (λ (l : List ℕ). take s.bytes bytes ++ l) none ∙ append-nil (take s.bytes bytes) in
+      pub advance_bad : {t : Cursor} → r ≡ Number.Bad → t ≡ stopped_at s → Advances line s numbers bytes whole t numbers after
+      advance_bad e f =
+          let none : bytes_got a word r ≡ [] = ap (bytes_got a word) e in
+          let z : s.bytes + length (bytes_got a word r) ≡ s.bytes = rw none (omega arith) in
+          let front : take s.bytes after ≡ take s.bytes bytes = ap (λ (n : ℕ). take n after) (sym z) ∙ after_take ∙ ap (λ (l : List ℕ). take s.bytes bytes ++ l) none ∙ append-nil (take s.bytes bytes) in
           rw f (record {
-            stands = record { at-inside = k.at-inside; numbers-inside = k.numbers-inside; bytes_inside = omega (arith, after-size, k.bytes_inside) };
-            said = said_same refl refl front ∙ sym (item-bad (length numbers) (length bytes) a b (saidAt line s numbers bytes) g (omega (arith, said-numbers)) (value_as ∙ e));
-            size-numbers = refl;
-            size-bytes = after-size;
+            stands = record { at_inside = k.at_inside; numbers_inside = k.numbers_inside; bytes_inside = omega (arith, after_size, k.bytes_inside) };
+            said = said_same refl refl front ∙ sym (item_bad (length numbers) (length bytes) a b (said_at line s numbers bytes) g (omega (arith, said_numbers)) (value_as ∙ e));
+            size_numbers = refl;
+            size_bytes = after_size;
             more_numbers = omega arith;
             more_bytes = omega arith;
-            other-numbers = refl;
-            other-bytes = rw z at after-drop;
+            other_numbers = refl;
+            other_bytes = rw z at after_drop;
           })
 
-      pub got-counted : {n : ℕ} → r ≡ Number.Value n → lengthLaid a n ≡ length (bytesGot a word r)
-      got-counted e = ap (onNumber 0 (lengthLaid a)) (sym e) ∙ v.counted
+      pub got_counted : {n : ℕ} → r ≡ Number.Value n → length_laid a n ≡ length (bytes_got a word r)
+      got_counted e = ap (on_number 0 (length_laid a)) (sym e) ∙ v.counted
 
-      pub advance-value : {n l at : ℕ} → r ≡ Number.Value n → l ≡ lengthLaid a n → StartsAt line at (behindOf a n (drop s.at line))
+      pub advance_value : {n l at : ℕ} → r ≡ Number.Value n → l ≡ length_laid a n → StartsAt line at (behind_of a n (drop s.at line))
           → Advances line s numbers bytes whole (record { good = true; at = at; numbers = s.numbers + 1; bytes = s.bytes + l }) (set numbers s.numbers n) after
-      advance-value {n} {l} {at} e f p =
-          let count : l ≡ length (bytesGot a word r) = f ∙ got-counted e in
-          let size : s.bytes + l ≡ s.bytes + length (bytesGot a word r) = ap (λ (m : ℕ). s.bytes + m) count in
-          let got : bytesGot a word r ≡ bytes_of a (word_of (drop s.at line)) = ap (bytesGot a word) e ∙ ap (bytes_of a) word-is in
+      advance_value {n} {l} {at} e f p =
+          let count : l ≡ length (bytes_got a word r) = f ∙ got_counted e in
+          let size : s.bytes + l ≡ s.bytes + length (bytes_got a word r) = ap (λ (m : ℕ). s.bytes + m) count in
+          let got : bytes_got a word r ≡ bytes_of a (word_of (drop s.at line)) = ap (bytes_got a word) e ∙ ap (bytes_of a) word_is in
           let taken : take (s.numbers + 1) (set numbers s.numbers n) ≡ take s.numbers numbers ++ (n ∷ []) = rw (add-one s.numbers) (take-suc-set numbers s.numbers n h) in
-          let front : take (s.bytes + l) after ≡ take s.bytes bytes ++ bytes_of a (word_of (drop s.at line)) = ap (λ (m : ℕ). take m after) size ∙ after-take ∙ ap (λ (x : List ℕ). take s.bytes bytes ++ x) got in
+          let front : take (s.bytes + l) after ≡ take s.bytes bytes ++ bytes_of a (word_of (drop s.at line)) = ap (λ (m : ℕ). take m after) size ∙ after_take ∙ ap (λ (x : List ℕ). take s.bytes bytes ++ x) got in
           record {
-            stands = record { at-inside = p.within; numbers-inside = omega (arith, length-set numbers s.numbers n); bytes_inside = omega (arith, after-size, size, got-fits) };
-            said = said_same p.starts taken front ∙ sym (item-value (length numbers) (length bytes) a b (saidAt line s numbers bytes) g (omega (arith, said-numbers)) (value_as ∙ e));
-            size-numbers = length-set numbers s.numbers n;
-            size-bytes = after-size;
+            stands = record { at_inside = p.within; numbers_inside = omega (arith, length-set numbers s.numbers n); bytes_inside = omega (arith, after_size, size, got_fits) };
+            said = said_same p.starts taken front ∙ sym (item_value (length numbers) (length bytes) a b (said_at line s numbers bytes) g (omega (arith, said_numbers)) (value_as ∙ e));
+            size_numbers = length-set numbers s.numbers n;
+            size_bytes = after_size;
             more_numbers = omega arith;
             more_bytes = omega arith;
-            other-numbers = drop-set-lt (s.numbers + 1) numbers s.numbers n (omega arith);
-            other-bytes = ap (λ (m : ℕ). drop m after) size ∙ after-drop ∙ ap (λ (m : ℕ). drop m bytes) (sym size);
+            other_numbers = drop-set-lt (s.numbers + 1) numbers s.numbers n (omega arith);
+            other_bytes = ap (λ (m : ℕ). drop m after) size ∙ after_drop ∙ ap (λ (m : ℕ). drop m bytes) (sym size);
           }
 
-      pub advance-fits : {n l : ℕ} → r ≡ Number.Value n → l ≡ lengthLaid a n → s.bytes + l ≤ length bytes
-      advance-fits e f = omega (arith, f, got-counted e, got-fits)
+      pub advance_fits : {n l : ℕ} → r ≡ Number.Value n → l ≡ length_laid a n → s.bytes + l ≤ length bytes
+      advance_fits e f = omega (arith, f, got_counted e, got_fits)
 
 -- ---- two items of a row
 pub two : (row : List ℕ) (i : ℕ) → 1 < length row - i → drop i row ≡ get_or row i 0 ∷ (get_or row (i + 1) 0 ∷ drop (i + 2) row)
@@ -415,131 +415,131 @@ two row i h =
     let sum : i + 1 + 1 ≡ i + 2 = omega arith in
     next row i (omega arith) ∙ ap (λ (l : List ℕ). get_or row i 0 ∷ l) (next row (i + 1) (omega arith)) ∙ ap (λ (n : ℕ). get_or row i 0 ∷ (get_or row (i + 1) 0 ∷ drop n row)) sum
 
-items-few : (places size : ℕ) (row : List ℕ) (s : Said) → length row ≤ 1 → items_of places size row s ≡ s
+items_few : (places size : ℕ) (row : List ℕ) (s : Said) → length row ≤ 1 → items_of places size row s ≡ s
 unfolding items_of
-items-few places size [] s h = refl
-items-few places size (a ∷ []) s h = refl
-items-few places size (a ∷ (b ∷ row)) s h = absurd (omega arith)
+items_few places size [] s h = refl
+items_few places size (a ∷ []) s h = refl
+items_few places size (a ∷ (b ∷ row)) s h = absurd (omega arith)
 
-row-few : (places size skip : ℕ) (row : List ℕ) (s : Said) → length row ≤ 1 → row_of places size skip row s ≡ s
+row_few : (places size skip : ℕ) (row : List ℕ) (s : Said) → length row ≤ 1 → row_of places size skip row s ≡ s
 unfolding row_of
-row-few places size skip [] s h = refl
-row-few places size skip (a ∷ []) s h = refl
-row-few places size skip (a ∷ (b ∷ row)) s h = absurd (omega arith)
+row_few places size skip [] s h = refl
+row_few places size skip (a ∷ []) s h = refl
+row_few places size skip (a ∷ (b ∷ row)) s h = absurd (omega arith)
 
 -- ---- the words of a row
 pub record ItemsSoFar (line row : List ℕ) (s : Cursor) (numbers bytes : List ℕ) (i : ℕ) (r : Cursor) (numbers' bytes' : List ℕ) : Type 0 where
   pub within : i ≤ length row
-  pub goes : Advances line s numbers bytes (saidAt line r numbers' bytes') r numbers' bytes'
-  pub same : items_of (length numbers) (length bytes) (drop i row) (saidAt line r numbers' bytes') ≡ items_of (length numbers) (length bytes) row (saidAt line s numbers bytes)
+  pub goes : Advances line s numbers bytes (said_at line r numbers' bytes') r numbers' bytes'
+  pub same : items_of (length numbers) (length bytes) (drop i row) (said_at line r numbers' bytes') ≡ items_of (length numbers) (length bytes) row (said_at line s numbers bytes)
 
-pub items-none : {line row : List ℕ} {s : Cursor} {numbers bytes : List ℕ} → Inside line s numbers bytes → ItemsSoFar line row s numbers bytes 0 s numbers bytes
-items-none k = record { within = omega arith; goes = advance-none k; same = refl }
+pub items_none : {line row : List ℕ} {s : Cursor} {numbers bytes : List ℕ} → Inside line s numbers bytes → ItemsSoFar line row s numbers bytes 0 s numbers bytes
+items_none k = record { within = omega arith; goes = advance_none k; same = refl }
 
 module _ {line row : List ℕ} {s : Cursor} {numbers bytes : List ℕ} {i : ℕ} {r : Cursor} {numbers' bytes' : List ℕ} (k : ItemsSoFar line row s numbers bytes i r numbers' bytes') where
-  pub items-on : {t : Cursor} {numbers'' bytes'' : List ℕ} → 1 < length row - i
-      → Advances line r numbers' bytes' (item_of (length numbers') (length bytes') (get_or row i 0) (get_or row (i + 1) 0) (saidAt line r numbers' bytes')) t numbers'' bytes''
+  pub items_on : {t : Cursor} {numbers'' bytes'' : List ℕ} → 1 < length row - i
+      → Advances line r numbers' bytes' (item_of (length numbers') (length bytes') (get_or row i 0) (get_or row (i + 1) 0) (said_at line r numbers' bytes')) t numbers'' bytes''
       → ItemsSoFar line row s numbers bytes (i + 2) t numbers'' bytes''
   unfolding items_of
-  items-on h l = record {
+  items_on h l = record {
     within = omega arith;
-    goes = advance-as (advance-on k.goes l) (sym l.said);
-    same = rw (l.said, k.goes.size-numbers, k.goes.size-bytes) (rw (two row i h) at k.same);
+    goes = advance_as (advance_on k.goes l) (sym l.said);
+    same = rw (l.said, k.goes.size_numbers, k.goes.size_bytes) (rw (two row i h) at k.same);
   }
 
-  pub items-end : length row - i ≤ 1 → Advances line s numbers bytes (items_of (length numbers) (length bytes) row (saidAt line s numbers bytes)) r numbers' bytes'
-  items-end h = advance-as k.goes (sym (items-few (length numbers) (length bytes) (drop i row) (saidAt line r numbers' bytes') (simp length-drop (omega arith))) ∙ k.same)
+  pub items_end : length row - i ≤ 1 → Advances line s numbers bytes (items_of (length numbers) (length bytes) row (said_at line s numbers bytes)) r numbers' bytes'
+  items_end h = advance_as k.goes (sym (items_few (length numbers) (length bytes) (drop i row) (said_at line r numbers' bytes') (simp length-drop (omega arith))) ∙ k.same)
 
 -- ---- behind a bad word nothing is read
 module _ (places size : ℕ) where
-  items-idle : (row : List ℕ) (s : Said) → s.good ≡ false → items_of places size row s ≡ s
+  items_idle : (row : List ℕ) (s : Said) → s.good ≡ false → items_of places size row s ≡ s
   unfolding items_of
-  items-idle [] s e = refl
-  items-idle (a ∷ []) s e = refl
-  items-idle (a ∷ (b ∷ row)) s e = rw (item-idle places size a b s e) (items-idle row s e)
+  items_idle [] s e = refl
+  items_idle (a ∷ []) s e = refl
+  items_idle (a ∷ (b ∷ row)) s e = rw (item_idle places size a b s e) (items_idle row s e)
 
-  list-idle : (n : ℕ) (row : List ℕ) (s : Said) → s.good ≡ false → list_of places size n row s ≡ s
+  list_idle : (n : ℕ) (row : List ℕ) (s : Said) → s.good ≡ false → list_of places size n row s ≡ s
   unfolding list_of
-  list-idle zero row s e = refl
-  list-idle (suc n) row s e = rw (items-idle row s e) (list-idle n row s e)
+  list_idle zero row s e = refl
+  list_idle (suc n) row s e = rw (items_idle row s e) (list_idle n row s e)
 
-pub list-stopped : (line row numbers bytes : List ℕ) (count : ℕ) {s : Cursor} → Inside line s numbers bytes → s.good ≡ false
-    → Advances line s numbers bytes (list_of (length numbers) (length bytes) count row (saidAt line s numbers bytes)) s numbers bytes
-list-stopped line row numbers bytes count {s} k e = advance-as (advance-none k) (sym (list-idle (length numbers) (length bytes) count row (saidAt line s numbers bytes) e))
+pub list_stopped : (line row numbers bytes : List ℕ) (count : ℕ) {s : Cursor} → Inside line s numbers bytes → s.good ≡ false
+    → Advances line s numbers bytes (list_of (length numbers) (length bytes) count row (said_at line s numbers bytes)) s numbers bytes
+list_stopped line row numbers bytes count {s} k e = advance_as (advance_none k) (sym (list_idle (length numbers) (length bytes) count row (said_at line s numbers bytes) e))
 
 -- ---- a list: n times
 pub record ListSoFar (line : List ℕ) (count : ℕ) (row : List ℕ) (s : Cursor) (numbers bytes : List ℕ) (i : ℕ) (r : Cursor) (numbers' bytes' : List ℕ) : Type 0 where
   pub within : i ≤ count
-  pub goes : Advances line s numbers bytes (saidAt line r numbers' bytes') r numbers' bytes'
-  pub same : list_of (length numbers) (length bytes) (count - i) row (saidAt line r numbers' bytes') ≡ list_of (length numbers) (length bytes) count row (saidAt line s numbers bytes)
+  pub goes : Advances line s numbers bytes (said_at line r numbers' bytes') r numbers' bytes'
+  pub same : list_of (length numbers) (length bytes) (count - i) row (said_at line r numbers' bytes') ≡ list_of (length numbers) (length bytes) count row (said_at line s numbers bytes)
 
-pub list-none : {line : List ℕ} {count : ℕ} {row : List ℕ} {s : Cursor} {numbers bytes : List ℕ} → Inside line s numbers bytes → ListSoFar line count row s numbers bytes 0 s numbers bytes
-list-none {count = count} k = record { within = omega arith; goes = advance-none k; same = let z : count - 0 ≡ count = omega arith in rw z }
+pub list_none : {line : List ℕ} {count : ℕ} {row : List ℕ} {s : Cursor} {numbers bytes : List ℕ} → Inside line s numbers bytes → ListSoFar line count row s numbers bytes 0 s numbers bytes
+list_none {count = count} k = record { within = omega arith; goes = advance_none k; same = let z : count - 0 ≡ count = omega arith in rw z }
 
 module _ {line : List ℕ} {count : ℕ} {row : List ℕ} {s : Cursor} {numbers bytes : List ℕ} {i : ℕ} {r : Cursor} {numbers' bytes' : List ℕ} (k : ListSoFar line count row s numbers bytes i r numbers' bytes') where
   pub list_on : {t : Cursor} {numbers'' bytes'' : List ℕ} → i < count
-      → Advances line r numbers' bytes' (items_of (length numbers') (length bytes') row (saidAt line r numbers' bytes')) t numbers'' bytes''
+      → Advances line r numbers' bytes' (items_of (length numbers') (length bytes') row (said_at line r numbers' bytes')) t numbers'' bytes''
       → ListSoFar line count row s numbers bytes (i + 1) t numbers'' bytes''
   unfolding list_of
   list_on h l = let one : count - i ≡ suc (count - (i + 1)) = omega arith in record {
     within = omega arith;
-    goes = advance-as (advance-on k.goes l) (sym l.said);
-    same = rw (l.said, k.goes.size-numbers, k.goes.size-bytes) (rw one at k.same);
+    goes = advance_as (advance_on k.goes l) (sym l.said);
+    same = rw (l.said, k.goes.size_numbers, k.goes.size_bytes) (rw one at k.same);
   }
 
-  pub list-end : count ≤ i → Advances line s numbers bytes (list_of (length numbers) (length bytes) count row (saidAt line s numbers bytes)) r numbers' bytes'
+  pub list_end : count ≤ i → Advances line s numbers bytes (list_of (length numbers) (length bytes) count row (said_at line s numbers bytes)) r numbers' bytes'
   unfolding list_of
-  list-end h = let z : count - i ≡ 0 = omega arith in advance-as k.goes (rw z at k.same)
+  list_end h = let z : count - i ≡ 0 = omega arith in advance_as k.goes (rw z at k.same)
 
 -- ---- one item
 module _ (line : List ℕ) (skip a b : ℕ) (row : List ℕ) (s : Cursor) (numbers bytes : List ℕ) where
   abbrev stepped : Said
-  stepped = itemOrListOf (length numbers) (length bytes) skip a b row (saidAt line s numbers bytes)
+  stepped = item_or_list_of (length numbers) (length bytes) skip a b row (said_at line s numbers bytes)
 
-  pub part-over : 0 < skip → Inside line s numbers bytes → Advances line s numbers bytes stepped s numbers bytes
-  unfolding itemOrListOf
-  part-over h k = advance-as (advance-none k) (rw (lt-ltb 0 skip h))
+  pub part_over : 0 < skip → Inside line s numbers bytes → Advances line s numbers bytes stepped s numbers bytes
+  unfolding item_or_list_of
+  part_over h k = advance_as (advance_none k) (rw (lt-ltb 0 skip h))
 
-  pub part-many : {count : ℕ} {group : List ℕ} {r : Cursor} {numbers' bytes' : List ℕ} → skip ≤ 0 → a ≡ LIST → count ≡ lastNumber (take s.numbers numbers) → group ≡ take (b * 2) row
-      → Advances line s numbers bytes (list_of (length numbers) (length bytes) count group (saidAt line s numbers bytes)) r numbers' bytes' → Advances line s numbers bytes stepped r numbers' bytes'
-  unfolding itemOrListOf
-  part-many h e f g k = advance-as k (rw (le-ltb 0 skip h, eq-eqb a LIST e, f, g))
+  pub part_many : {count : ℕ} {group : List ℕ} {r : Cursor} {numbers' bytes' : List ℕ} → skip ≤ 0 → a ≡ LIST → count ≡ last_number (take s.numbers numbers) → group ≡ take (b * 2) row
+      → Advances line s numbers bytes (list_of (length numbers) (length bytes) count group (said_at line s numbers bytes)) r numbers' bytes' → Advances line s numbers bytes stepped r numbers' bytes'
+  unfolding item_or_list_of
+  part_many h e f g k = advance_as k (rw (le-ltb 0 skip h, eq-eqb a LIST e, f, g))
 
-  pub part-one : {r : Cursor} {numbers' bytes' : List ℕ} → skip ≤ 0 → (a ≡ LIST → ⊥)
-      → Advances line s numbers bytes (item_of (length numbers) (length bytes) a b (saidAt line s numbers bytes)) r numbers' bytes' → Advances line s numbers bytes stepped r numbers' bytes'
-  unfolding itemOrListOf
-  part-one h e k = advance-as k (rw (le-ltb 0 skip h, ne_eqb a LIST e))
+  pub part_one : {r : Cursor} {numbers' bytes' : List ℕ} → skip ≤ 0 → (a ≡ LIST → ⊥)
+      → Advances line s numbers bytes (item_of (length numbers) (length bytes) a b (said_at line s numbers bytes)) r numbers' bytes' → Advances line s numbers bytes stepped r numbers' bytes'
+  unfolding item_or_list_of
+  part_one h e k = advance_as k (rw (le-ltb 0 skip h, ne_eqb a LIST e))
 
 -- ---- all items
 pub record RowSoFar (line row : List ℕ) (s : Cursor) (numbers bytes : List ℕ) (skip i : ℕ) (r : Cursor) (numbers' bytes' : List ℕ) : Type 0 where
   pub within : i ≤ length row
-  pub goes : Advances line s numbers bytes (saidAt line r numbers' bytes') r numbers' bytes'
-  pub same : row_of (length numbers) (length bytes) skip (drop i row) (saidAt line r numbers' bytes') ≡ row_of (length numbers) (length bytes) 0 row (saidAt line s numbers bytes)
+  pub goes : Advances line s numbers bytes (said_at line r numbers' bytes') r numbers' bytes'
+  pub same : row_of (length numbers) (length bytes) skip (drop i row) (said_at line r numbers' bytes') ≡ row_of (length numbers) (length bytes) 0 row (said_at line s numbers bytes)
 
 abbrev pub at_start : Cursor
 at_start = record { good = true; at = 0; numbers = 0; bytes = 0 }
 
-pub row-none : (line row numbers bytes : List ℕ) → RowSoFar line row at_start numbers bytes 0 0 at_start numbers bytes
-row-none line row numbers bytes = record { within = omega arith; goes = advance-none (record { at-inside = omega arith; numbers-inside = omega arith; bytes_inside = omega arith }); same = refl }
+pub row_none : (line row numbers bytes : List ℕ) → RowSoFar line row at_start numbers bytes 0 0 at_start numbers bytes
+row_none line row numbers bytes = record { within = omega arith; goes = advance_none (record { at_inside = omega arith; numbers_inside = omega arith; bytes_inside = omega arith }); same = refl }
 
 module _ {line row : List ℕ} {s : Cursor} {numbers bytes : List ℕ} {skip i : ℕ} {r : Cursor} {numbers' bytes' : List ℕ} (k : RowSoFar line row s numbers bytes skip i r numbers' bytes') where
   pub row_on : {t : Cursor} {numbers'' bytes'' : List ℕ} {skip' : ℕ} → 1 < length row - i
-      → Advances line r numbers' bytes' (itemOrListOf (length numbers') (length bytes') skip (get_or row i 0) (get_or row (i + 1) 0) (mid_of (i + 2) (length row - (i + 2)) row) (saidAt line r numbers' bytes')) t numbers'' bytes''
-      → skip' ≡ leftOutOf skip (get_or row i 0) (get_or row (i + 1) 0)
+      → Advances line r numbers' bytes' (item_or_list_of (length numbers') (length bytes') skip (get_or row i 0) (get_or row (i + 1) 0) (mid_of (i + 2) (length row - (i + 2)) row) (said_at line r numbers' bytes')) t numbers'' bytes''
+      → skip' ≡ left_out_of skip (get_or row i 0) (get_or row (i + 1) 0)
       → RowSoFar line row s numbers bytes skip' (i + 2) t numbers'' bytes''
   unfolding row_of
   row_on h l e = record {
     within = omega arith;
-    goes = advance-as (advance-on k.goes l) (sym l.said);
-    same = rw (l.said, k.goes.size-numbers, k.goes.size-bytes, e, rest_part (i + 2) row) (rw (two row i h) at k.same);
+    goes = advance_as (advance_on k.goes l) (sym l.said);
+    same = rw (l.said, k.goes.size_numbers, k.goes.size_bytes, e, rest_part (i + 2) row) (rw (two row i h) at k.same);
   }
 
-  pub row-end : length row - i ≤ 1 → Advances line s numbers bytes (row_of (length numbers) (length bytes) 0 row (saidAt line s numbers bytes)) r numbers' bytes'
-  row-end h = advance-as k.goes (sym (row-few (length numbers) (length bytes) skip (drop i row) (saidAt line r numbers' bytes') (simp length-drop (omega arith))) ∙ k.same)
+  pub row_end : length row - i ≤ 1 → Advances line s numbers bytes (row_of (length numbers) (length bytes) 0 row (said_at line s numbers bytes)) r numbers' bytes'
+  row_end h = advance_as k.goes (sym (row_few (length numbers) (length bytes) skip (drop i row) (said_at line r numbers' bytes') (simp length-drop (omega arith))) ∙ k.same)
 
 -- ---- the whole line
-over-is : (old new said : List ℕ) (n : ℕ) → n ≤ length new → take n new ≡ said → drop n new ≡ drop n old → (n ≡ length said) × (new ≡ over said old)
-over-is old new said n h e f =
+over_is : (old new said : List ℕ) (n : ℕ) → n ≤ length new → take n new ≡ said → drop n new ≡ drop n old → (n ≡ length said) × (new ≡ over said old)
+over_is old new said n h e f =
     let count : n ≡ length said = sym (length-take-le n new h) ∙ ap length e in
     (count, sym (take-append-drop n new) ∙ ap (λ (l : List ℕ). l ++ drop n new) e ∙ ap (λ (l : List ℕ). said ++ l) (f ∙ ap (λ (m : ℕ). drop m old) count))
 
@@ -552,15 +552,15 @@ ended_is line at good h =
     ]
 
 pub reads_all : {line row numbers bytes : List ℕ} {r : Cursor} {numbers' bytes' : List ℕ} {good : Bool}
-    → Advances line at_start numbers bytes (row_of (length numbers) (length bytes) 0 row (saidAt line at_start numbers bytes)) r numbers' bytes' → good ≡ cond (eqb r.at (length line)) r.good false
+    → Advances line at_start numbers bytes (row_of (length numbers) (length bytes) 0 row (said_at line at_start numbers bytes)) r numbers' bytes' → good ≡ cond (eqb r.at (length line)) r.good false
     → ReadsRow row line numbers bytes (record { good = good; bytes = r.bytes }) numbers' bytes'
-unfolding read_by goodBy
+unfolding read_by good_by
 reads_all {line} {row} {numbers} {bytes} {r} {numbers'} {bytes'} k e =
-    let all = row_of (length numbers) (length bytes) 0 row (saidAt line at_start numbers bytes) in
-    let first = over-is numbers numbers' all.numbers r.numbers k.stands.numbers-inside (ap (λ (x : Said). x.numbers) k.said) k.other-numbers in
-    let second = over-is bytes bytes' all.bytes r.bytes k.stands.bytes_inside (ap (λ (x : Said). x.bytes) k.said) k.other-bytes in
+    let all = row_of (length numbers) (length bytes) 0 row (said_at line at_start numbers bytes) in
+    let first = over_is numbers numbers' all.numbers r.numbers k.stands.numbers_inside (ap (λ (x : Said). x.numbers) k.said) k.other_numbers in
+    let second = over_is bytes bytes' all.bytes r.bytes k.stands.bytes_inside (ap (λ (x : Said). x.bytes) k.said) k.other_bytes in
     record {
-      answer = e ∙ ended_is line r.at r.good k.stands.at-inside ∙ ap (λ (x : Said). cond (eqb (length x.rest) 0) x.good false) k.said;
+      answer = e ∙ ended_is line r.at r.good k.stands.at_inside ∙ ap (λ (x : Said). cond (eqb (length x.rest) 0) x.good false) k.said;
       count = second.0;
       numbers = first.1;
       bytes = second.1;

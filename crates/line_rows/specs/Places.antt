@@ -1,7 +1,7 @@
 -- Where the numbers of a row stand, and within which bounds: the row with each list written out as often as the number before it says.
 use Rattle.std.specs.Prelude.{◌≡◌, Bool, true, false, cond, ◌&&◌, List, [], ◌∷◌, ◌++◌, ℕ, zero, suc, ◌+◌, ◌-◌, ◌*◌, ◌/◌, ◌<◌, ◌≤◌, eqb, ltb, length, take, get_or}
 use Rattle.line_rows.specs.Rows.{NUMBER, LIST}
-use Rattle.line_rows.specs.Tables.{itemsBehind}
+use Rattle.line_rows.specs.Tables.{items_behind}
 
 -- the row of a command by its key
 unfoldable pub keyed_of : ℕ → ℕ → List ℕ → List ℕ
@@ -9,8 +9,8 @@ keyed_of skip key [] = []
 keyed_of skip key (k ∷ []) = []
 keyed_of skip key (k ∷ (count ∷ table)) = cond (ltb 0 skip) (keyed_of (skip - 1) key table) (cond (eqb k key) (k ∷ (count ∷ table)) (keyed_of count key table))
 
-unfoldable pub rowOfKey : ℕ → List ℕ → List ℕ
-rowOfKey key table = itemsBehind (keyed_of 0 key table)
+unfoldable pub row_of_key : ℕ → List ℕ → List ℕ
+row_of_key key table = items_behind (keyed_of 0 key table)
 
 -- the number before a place, where `n` gives the number at each place
 abbrev pub before : (ℕ → ℕ) → ℕ → ℕ
@@ -23,13 +23,13 @@ repeated zero items = []
 repeated (suc count) items = items ++ repeated count items
 
 -- a row, whose first items are left out, written out from a place on
-unfoldable pub writtenOut : ℕ → ℕ → List ℕ → (ℕ → ℕ) → List ℕ
-writtenOut skip place [] n = []
-writtenOut skip place (a ∷ []) n = []
-writtenOut skip place (a ∷ (b ∷ row)) n =
-    cond (ltb 0 skip) (writtenOut (skip - 1) place row n)
-    (cond (eqb a LIST) (repeated (before n place) (take (b * 2) row) ++ writtenOut b (place + before n place * (length (take (b * 2) row) / 2)) row n)
-    (a ∷ (b ∷ writtenOut 0 (place + 1) row n)))
+unfoldable pub written_out : ℕ → ℕ → List ℕ → (ℕ → ℕ) → List ℕ
+written_out skip place [] n = []
+written_out skip place (a ∷ []) n = []
+written_out skip place (a ∷ (b ∷ row)) n =
+    cond (ltb 0 skip) (written_out (skip - 1) place row n)
+    (cond (eqb a LIST) (repeated (before n place) (take (b * 2) row) ++ written_out b (place + before n place * (length (take (b * 2) row) / 2)) row n)
+    (a ∷ (b ∷ written_out 0 (place + 1) row n)))
 
 -- each number of items that are written out is within its bound
 pub record Within (items : List ℕ) (n : ℕ → ℕ) : Type 0 where

@@ -1,8 +1,8 @@
 // A line behind its first word, read by a row.
 ghost use Rattle.std.specs.Prelude.{◌≡◌, ◌*◌, ◌≤◌, false, cond, eqb, length, take, drop};
-ghost use Rattle.text.specs.Words.{beyondOf};
-ghost use Rattle.line_rows.specs.Rows.{behindOf, item_of, items_of, list_of, lastNumber, itemOrListOf, leftOutOf, ReadsRow};
-ghost use Rattle.line_rows.specs.Cursors.{lengthLaid, StartsAt, stoppedAt, saidAt, Inside, Advances};
+ghost use Rattle.text.specs.Words.{beyond_of};
+ghost use Rattle.line_rows.specs.Rows.{behind_of, item_of, items_of, list_of, last_number, item_or_list_of, left_out_of, ReadsRow};
+ghost use Rattle.line_rows.specs.Cursors.{length_laid, StartsAt, stopped_at, said_at, Inside, Advances};
 
 use crate::word::value;
 use crate::{BYTES, LIST, OPTIONAL};
@@ -26,7 +26,7 @@ struct Cursor {
 
 // How many bytes a word laid.
 fn length_laid(a: u64, value: u64) -> usize
-    ensures { result ≡ lengthLaid a value }
+    ensures { result ≡ length_laid a value }
 {
     if a == BYTES {
         return value as usize;
@@ -37,7 +37,7 @@ fn length_laid(a: u64, value: u64) -> usize
 // Where the rest behind a word starts.
 fn behind_word(line: &[u8], at: usize) -> usize
     requires { at ≤ length line.now }
-    ensures { StartsAt line.now result (beyondOf (drop at line.now)) }
+    ensures { StartsAt line.now result (beyond_of (drop at line.now)) }
 {
     let left = text::beyond(&line[at..]);
     line.len() - left.len()
@@ -46,7 +46,7 @@ fn behind_word(line: &[u8], at: usize) -> usize
 // The same, where a OPTIONAL that isn't there takes no word.
 fn behind_item(line: &[u8], at: usize, a: u64, value: u64) -> usize
     requires { at ≤ length line.now }
-    ensures { StartsAt line.now result (behindOf a value (drop at line.now)) }
+    ensures { StartsAt line.now result (behind_of a value (drop at line.now)) }
 {
     if a != OPTIONAL {
         return behind_word(line, at);
@@ -59,7 +59,7 @@ fn behind_item(line: &[u8], at: usize, a: u64, value: u64) -> usize
 
 // No more is read.
 fn stop(s: Cursor) -> Cursor
-    ensures { result ≡ stoppedAt s }
+    ensures { result ≡ stopped_at s }
 {
     Cursor {
         good: false,
@@ -72,7 +72,7 @@ fn stop(s: Cursor) -> Cursor
 // Reads one word.
 fn item(line: &[u8], a: u64, b: u64, s: Cursor, numbers: &mut [u64], bytes: &mut [u8]) -> Cursor
     requires { Inside line.now s numbers.old bytes.old }
-    ensures { Advances line.now s numbers.old bytes.old (item_of (length numbers.old) (length bytes.old) a b (saidAt line.now s numbers.old bytes.old)) result numbers.new bytes.new }
+    ensures { Advances line.now s numbers.old bytes.old (item_of (length numbers.old) (length bytes.old) a b (said_at line.now s numbers.old bytes.old)) result numbers.new bytes.new }
 {
     if !s.good {
         return s;
@@ -99,7 +99,7 @@ fn item(line: &[u8], a: u64, b: u64, s: Cursor, numbers: &mut [u64], bytes: &mut
 // Reads the words of a row without LIST.
 fn items(line: &[u8], row: &[u64], s: Cursor, numbers: &mut [u64], bytes: &mut [u8]) -> Cursor
     requires { Inside line.now s numbers.old bytes.old }
-    ensures { Advances line.now s numbers.old bytes.old (items_of (length numbers.old) (length bytes.old) row.now (saidAt line.now s numbers.old bytes.old)) result numbers.new bytes.new }
+    ensures { Advances line.now s numbers.old bytes.old (items_of (length numbers.old) (length bytes.old) row.now (said_at line.now s numbers.old bytes.old)) result numbers.new bytes.new }
 {
     let mut r = s;
     let mut i = 0;
@@ -120,7 +120,7 @@ fn list_turns(
     bytes: &mut [u8],
 ) -> Cursor
     requires { Inside line.now s numbers.old bytes.old }
-    ensures { Advances line.now s numbers.old bytes.old (list_of (length numbers.old) (length bytes.old) count row.now (saidAt line.now s numbers.old bytes.old)) result numbers.new bytes.new }
+    ensures { Advances line.now s numbers.old bytes.old (list_of (length numbers.old) (length bytes.old) count row.now (said_at line.now s numbers.old bytes.old)) result numbers.new bytes.new }
 {
     let mut r = s;
     let mut i = 0;
@@ -141,7 +141,7 @@ fn list(
     bytes: &mut [u8],
 ) -> Cursor
     requires { Inside line.now s numbers.old bytes.old }
-    ensures { Advances line.now s numbers.old bytes.old (list_of (length numbers.old) (length bytes.old) count row.now (saidAt line.now s numbers.old bytes.old)) result numbers.new bytes.new }
+    ensures { Advances line.now s numbers.old bytes.old (list_of (length numbers.old) (length bytes.old) count row.now (said_at line.now s numbers.old bytes.old)) result numbers.new bytes.new }
 {
     if !s.good {
         return s;
@@ -163,7 +163,7 @@ pub(crate) fn first_items(row: &[u64], count: u64) -> &[u64]
 // The last of the first n numbers.
 fn last_number(numbers: &[u64], count: usize) -> u64
     requires { count ≤ length numbers.now }
-    ensures { result ≡ lastNumber (take count numbers.now) }
+    ensures { result ≡ last_number (take count numbers.now) }
 {
     if count == 0 {
         return 0;
@@ -183,7 +183,7 @@ fn item_or_list(
     bytes: &mut [u8],
 ) -> Cursor
     requires { Inside line.now s numbers.old bytes.old }
-    ensures { Advances line.now s numbers.old bytes.old (itemOrListOf (length numbers.old) (length bytes.old) skip a b row.now (saidAt line.now s numbers.old bytes.old)) result numbers.new bytes.new }
+    ensures { Advances line.now s numbers.old bytes.old (item_or_list_of (length numbers.old) (length bytes.old) skip a b row.now (said_at line.now s numbers.old bytes.old)) result numbers.new bytes.new }
 {
     if skip > 0 {
         return s;
@@ -198,7 +198,7 @@ fn item_or_list(
 
 // How many items are left out behind an item.
 fn left_out(skip: u64, a: u64, b: u64) -> u64
-    ensures { result ≡ leftOutOf skip a b }
+    ensures { result ≡ left_out_of skip a b }
 {
     if skip > 0 {
         return skip - 1;

@@ -1,6 +1,6 @@
 // A line, read by the row of its first word.
 ghost use Rattle.std.specs.Prelude.{◌≡◌, ◌≤◌, length, drop};
-ghost use Rattle.line_rows.specs.Tables.{named_of, itemsLeft, key_of, itemsBehind, Found, Reads};
+ghost use Rattle.line_rows.specs.Tables.{named_of, items_left, key_of, items_behind, Found, Reads};
 
 use crate::row::{first_items, read_row};
 use crate::word::spells;
@@ -25,7 +25,7 @@ fn named(skip: u64, name: &[u8], key: u64) -> bool
 
 // How many items stand before the next command.
 fn items_left(skip: u64, count: u64) -> u64
-    ensures { result ≡ itemsLeft skip count }
+    ensures { result ≡ items_left skip count }
 {
     if skip > 0 {
         return skip - 1;
@@ -62,7 +62,7 @@ fn key_at(table: &[u64], at: usize) -> u64
 
 fn row_at(table: &[u64], at: usize) -> &[u64]
     requires { at ≤ length table.now }
-    ensures { result.now ≡ itemsBehind (drop at table.now) }
+    ensures { result.now ≡ items_behind (drop at table.now) }
 {
     if table.len() - at < 2 {
         return &table[0..0];

@@ -1,6 +1,6 @@
 // What one word says.
 ghost use Rattle.std.specs.Prelude.{◌≡◌};
-ghost use Rattle.line_rows.specs.Rows.{spellsOf, choice_of};
+ghost use Rattle.line_rows.specs.Rows.{spells_of, choice_of};
 ghost use Rattle.line_rows.specs.Cursors.{ValueSaid};
 
 use crate::{BYTES, NUMBER, OPTIONAL};
@@ -14,7 +14,7 @@ fn wide(byte: u8) -> u64
 
 // Whether a word is a keyword.
 pub(crate) fn spells(word: &[u8], key: u64) -> bool
-    ensures { result ≡ spellsOf word.now key }
+    ensures { result ≡ spells_of word.now key }
 {
     let mut left = key;
     let mut i = 0;

@@ -18,50 +18,50 @@ use Rattle.io.specs.Counts.{clamp_len}
 use Rattle.lines.specs.declared.Input.{Input}
 use Rattle.lines.specs.declared.Found.{Found}
 use Rattle.lines.specs.declared.Found.TheVariants.{More, End, Line, Over, Failed}
-use Rattle.lines.specs.Unread.{tidyOf, rest_of, line_of, last_of, foundOf, next_of, lostOf, keptOf, failedBy, read_of, Behind, Filled}
+use Rattle.lines.specs.Unread.{tidy_of, rest_of, line_of, last_of, found_of, next_of, lost_of, kept_of, failed_by, read_of, Behind, Filled}
 
 -- ---- where what is unread lies
 
-pub tidy-is : (size : ℕ) (input : Input) → tidyOf size input ≡ true → (input.at ≤ input.have) × (input.have ≤ size)
-unfolding tidyOf
-tidy-is size input e =
+pub tidy_is : (size : ℕ) (input : Input) → tidy_of size input ≡ true → (input.at ≤ input.have) × (input.have ≤ size)
+unfolding tidy_of
+tidy_is size input e =
     let k = (and-eq-true_iff (leb input.at input.have) (leb input.have size)).0 e in
     (leb-true _ _ k.0, leb-true _ _ k.1)
 
 -- ---- what stands next
 
 module _ (input : Input) where
-  pub last-is : (b : Bool) → (input.over || ltb input.at input.have) ≡ b
+  pub last_is : (b : Bool) → (input.over || ltb input.at input.have) ≡ b
       → cond b (line_of input input.have input.have) End ≡ last_of input
   unfolding last_of
-  last-is b e = rw e
+  last_is b e = rw e
 
   module _ (buffer : List ℕ) where
-    pub next-end : tidyOf (length buffer) input ≡ false → End ≡ next_of buffer input
+    pub next_end : tidy_of (length buffer) input ≡ false → End ≡ next_of buffer input
     unfolding next_of
-    next-end t = rw t
+    next_end t = rw t
 
-    module _ {to : ℕ} (t : tidyOf (length buffer) input ≡ true) (e : to ≡ input.at + indexOf 10 (slice input.at input.have buffer)) where
-      found-is : foundOf input to ≡ next_of buffer input
+    module _ {to : ℕ} (t : tidy_of (length buffer) input ≡ true) (e : to ≡ input.at + indexOf 10 (slice input.at input.have buffer)) where
+      found_is : found_of input to ≡ next_of buffer input
       unfolding next_of
-      found-is = rw t (ap (foundOf input) e)
+      found_is = rw t (ap (found_of input) e)
 
-      pub next-line : to < input.have → line_of input to (to + 1) ≡ next_of buffer input
-      unfolding foundOf
-      next-line h = sym (rw (lt-ltb to input.have h)) ∙ found-is
+      pub next_line : to < input.have → line_of input to (to + 1) ≡ next_of buffer input
+      unfolding found_of
+      next_line h = sym (rw (lt-ltb to input.have h)) ∙ found_is
 
       module _ (h : input.have ≤ to) where
-        pub next-failed : input.failed ≡ true → Failed ≡ next_of buffer input
-        unfolding foundOf
-        next-failed f = sym (rw (le-ltb to input.have h, f)) ∙ found-is
+        pub next_failed : input.failed ≡ true → Failed ≡ next_of buffer input
+        unfolding found_of
+        next_failed f = sym (rw (le-ltb to input.have h, f)) ∙ found_is
 
         pub next_last : input.failed ≡ false → input.ended ≡ true → last_of input ≡ next_of buffer input
-        unfolding foundOf
-        next_last f g = sym (rw (le-ltb to input.have h, f, g)) ∙ found-is
+        unfolding found_of
+        next_last f g = sym (rw (le-ltb to input.have h, f, g)) ∙ found_is
 
         pub next_more : input.failed ≡ false → input.ended ≡ false → More ≡ next_of buffer input
-        unfolding foundOf
-        next_more f g = sym (rw (le-ltb to input.have h, f, g)) ∙ found-is
+        unfolding found_of
+        next_more f g = sym (rw (le-ltb to input.have h, f, g)) ∙ found_is
 
 -- ---- bytes moved down
 
@@ -70,13 +70,13 @@ pub record Moves (buffer : List ℕ) (from n i : ℕ) (buffer' : List ℕ) : Typ
   pub bytes : buffer' ≡ paste buffer 0 (drop from buffer) i
   pub size : length buffer' ≡ length buffer
 
-pub move-none : (buffer : List ℕ) (from n : ℕ) → Moves buffer from n 0 buffer
-move-none buffer from n = record { within = omega arith; bytes = paste-zero buffer 0 (drop from buffer); size = refl }
+pub move_none : (buffer : List ℕ) (from n : ℕ) → Moves buffer from n 0 buffer
+move_none buffer from n = record { within = omega arith; bytes = paste-zero buffer 0 (drop from buffer); size = refl }
 
 -- a byte is read behind what was written
-pub move-on : {buffer : List ℕ} {from n i : ℕ} {buffer' : List ℕ} → Moves buffer from n i buffer' → from + n ≤ length buffer → i < n
+pub move_on : {buffer : List ℕ} {from n i : ℕ} {buffer' : List ℕ} → Moves buffer from n i buffer' → from + n ≤ length buffer → i < n
     → Moves buffer from n (i + 1) (set buffer' i (get_or buffer' (from + i) 0))
-move-on {buffer} {from} {n} {i} {buffer'} k room h = record {
+move_on {buffer} {from} {n} {i} {buffer'} k room h = record {
   within = omega arith;
   bytes =
       rw k.bytes
@@ -105,9 +105,9 @@ move-on {buffer} {from} {n} {i} {buffer'} k room h = record {
         ∙ sym (far buffer)
         ∙ sym (get_or-drop from buffer i 0)
 
-pub move-end : {buffer : List ℕ} {from n i : ℕ} {buffer' : List ℕ} → Moves buffer from n i buffer' → n ≤ i
+pub move_end : {buffer : List ℕ} {from n i : ℕ} {buffer' : List ℕ} → Moves buffer from n i buffer' → n ≤ i
     → buffer' ≡ paste buffer 0 (drop from buffer) n
-move-end {buffer} {from} {n} {i} k h = let e : i ≡ n = omega (arith, k.within) in k.bytes ∙ ap (paste buffer 0 (drop from buffer)) e
+move_end {buffer} {from} {n} {i} k h = let e : i ≡ n = omega (arith, k.within) in k.bytes ∙ ap (paste buffer 0 (drop from buffer)) e
 
 -- ---- reading more
 
@@ -119,11 +119,11 @@ read_is (pos n) kept have dropped = rw (le-ltb n 0 (omega arith))
 read_is (negsuc n) kept have dropped = refl
 
 -- what a read leaves in the part behind the bytes that are kept
-pub behind-is : (buffer : List ℕ) (kept got : ℕ) (answer : ℤ) (dropped : Bool) (part : List ℕ) {r : Input} → kept ≤ length buffer
+pub behind_is : (buffer : List ℕ) (kept got : ℕ) (answer : ℤ) (dropped : Bool) (part : List ℕ) {r : Input} → kept ≤ length buffer
     → length part ≡ length (mid_of kept (length buffer - kept) buffer) → got ≤ length part → got ≡ clamp_len answer (length part)
     → r ≡ read_of answer kept (kept + got) dropped → Behind buffer kept dropped r (put_mid kept (length buffer - kept) buffer part)
 unfolding read_of
-behind-is buffer kept got answer dropped part h e l c p =
+behind_is buffer kept got answer dropped part h e l c p =
     let room : length (mid_of kept (length buffer - kept) buffer) ≡ length buffer - kept = mid_len kept (length buffer) buffer (omega arith) in
     rw p
     (record {
@@ -136,7 +136,7 @@ behind-is buffer kept got answer dropped part h e l c p =
       failed = none answer c;
     })
   where
-    none : (z : ℤ) → got ≡ clamp_len z (length part) → failedBy z ≡ true → eqb (kept + got) kept ≡ true
+    none : (z : ℤ) → got ≡ clamp_len z (length part) → failed_by z ≡ true → eqb (kept + got) kept ≡ true
     none (pos n) q f = absurd (true≢false (sym f))
     none (negsuc n) q f = eq-eqb (kept + got) kept (omega arith)
 
@@ -152,10 +152,10 @@ slice_is from to l h g =
 module _ (buffer : List ℕ) (input : Input) where
   -- what is kept stands at the start of a buffer, and more is read behind it
   filled_is : {buffer₁ : List ℕ} {n : ℕ} {dropped : Bool} {r : Input} {buffer₂ : List ℕ} → length buffer₁ ≡ length buffer
-      → n ≤ length buffer₁ → keptOf buffer input ≡ take n buffer₁ → (tidyOf (length buffer) input && lostOf (length buffer) input) ≡ dropped
-      → (tidyOf (length buffer) input ≡ false → (r.have ≡ 0) × (r.failed ≡ false) × (buffer₂ ≡ buffer)) → Behind buffer₁ n dropped r buffer₂ → Filled buffer input r buffer₂
+      → n ≤ length buffer₁ → kept_of buffer input ≡ take n buffer₁ → (tidy_of (length buffer) input && lost_of (length buffer) input) ≡ dropped
+      → (tidy_of (length buffer) input ≡ false → (r.have ≡ 0) × (r.failed ≡ false) × (buffer₂ ≡ buffer)) → Behind buffer₁ n dropped r buffer₂ → Filled buffer input r buffer₂
   filled_is {buffer₁} {n} {dropped} {r} {buffer₂} size h kept lost untidy k =
-      let count : length (keptOf buffer input) ≡ n = ap length kept ∙ length-take-le n buffer₁ h in
+      let count : length (kept_of buffer input) ≡ n = ap length kept ∙ length-take-le n buffer₁ h in
       record {
         start = k.start;
         kept = rw count (k.stays ∙ sym kept);
@@ -167,25 +167,25 @@ module _ (buffer : List ℕ) (input : Input) where
         untidy = untidy;
       }
 
-  pub filled_none : tidyOf (length buffer) input ≡ false → Filled buffer input (record { at = 0; have = 0; over = false; ended = true; failed = false }) buffer
-  unfolding keptOf
+  pub filled_none : tidy_of (length buffer) input ≡ false → Filled buffer input (record { at = 0; have = 0; over = false; ended = true; failed = false }) buffer
+  unfolding kept_of
   filled_none t =
       let none : Behind buffer 0 false (record { at = 0; have = 0; over = false; ended = true; failed = false }) buffer =
       record { start = refl; stays = refl; least = omega arith; most = omega arith; over = refl; ended = refl; failed = λ f. refl } in
       filled_is refl (omega arith) (rw t) (rw t) (λ e. (refl, refl, refl)) none
 
-  module _ (t : tidyOf (length buffer) input ≡ true) where
-    pub filled-lost : {r : Input} {buffer₂ : List ℕ} → lostOf (length buffer) input ≡ true → Behind buffer 0 true r buffer₂
+  module _ (t : tidy_of (length buffer) input ≡ true) where
+    pub filled_lost : {r : Input} {buffer₂ : List ℕ} → lost_of (length buffer) input ≡ true → Behind buffer 0 true r buffer₂
         → Filled buffer input r buffer₂
-    unfolding keptOf
-    filled-lost lost k = filled_is refl (omega arith) (rw (t, lost)) (rw (t, lost)) (λ e. absurd (true≢false (sym t ∙ e))) k
+    unfolding kept_of
+    filled_lost lost k = filled_is refl (omega arith) (rw (t, lost)) (rw (t, lost)) (λ e. absurd (true≢false (sym t ∙ e))) k
 
-    pub filled-kept : {buffer₁ : List ℕ} {r : Input} {buffer₂ : List ℕ} → lostOf (length buffer) input ≡ false
+    pub filled_kept : {buffer₁ : List ℕ} {r : Input} {buffer₂ : List ℕ} → lost_of (length buffer) input ≡ false
         → buffer₁ ≡ paste buffer 0 (drop input.at buffer) (input.have - input.at)
         → Behind buffer₁ (input.have - input.at) false r buffer₂ → Filled buffer input r buffer₂
-    unfolding keptOf
-    filled-kept {buffer₁} lost moved k =
-        let within = tidy-is (length buffer) input t in
+    unfolding kept_of
+    filled_kept {buffer₁} lost moved k =
+        let within = tidy_is (length buffer) input t in
         let n : ℕ = input.have - input.at in
         let fits : n ≤ length (drop input.at buffer) = simp length-drop (omega arith) in
         let size : length buffer₁ ≡ length buffer = ap length moved ∙ length-paste buffer 0 (drop input.at buffer) n (omega arith) fits in
@@ -206,47 +206,47 @@ abbrev pub stop : List ℕ → Input → ℕ
 stop buffer input = indexOf 10 (unread buffer input)
 
 pub data Next (buffer : List ℕ) (input : Input) (found : Found) : Type 0 where
-  a-line : stop buffer input < length (unread buffer input) → input.over ≡ false
+  a_line : stop buffer input < length (unread buffer input) → input.over ≡ false
       → found ≡ Line input.at (input.at + stop buffer input) (rest_of input (input.at + stop buffer input + 1)) → Next buffer input found
-  a-dropped : stop buffer input < length (unread buffer input) → input.over ≡ true
+  a_dropped : stop buffer input < length (unread buffer input) → input.over ≡ true
       → found ≡ Over (rest_of input (input.at + stop buffer input + 1)) → Next buffer input found
   last_line : stop buffer input ≡ length (unread buffer input) → input.failed ≡ false → input.ended ≡ true → input.over ≡ false → input.at < input.have
       → found ≡ Line input.at input.have (rest_of input input.have) → Next buffer input found
-  last-dropped : stop buffer input ≡ length (unread buffer input) → input.failed ≡ false → input.ended ≡ true → input.over ≡ true
+  last_dropped : stop buffer input ≡ length (unread buffer input) → input.failed ≡ false → input.ended ≡ true → input.over ≡ true
       → found ≡ Over (rest_of input input.have) → Next buffer input found
   unended : stop buffer input ≡ length (unread buffer input) → input.ended ≡ false → found ≡ More → Next buffer input found
   nothing : input.failed ≡ false → input.ended ≡ true → input.over ≡ false → input.have ≤ input.at → found ≡ End → Next buffer input found
   unreadable : stop buffer input ≡ length (unread buffer input) → input.failed ≡ true → found ≡ Failed → Next buffer input found
 
-index-most : (bytes : List ℕ) → indexOf 10 bytes ≤ length bytes
+index_most : (bytes : List ℕ) → indexOf 10 bytes ≤ length bytes
 unfolding indexOf index_after
-index-most [] = omega arith
-index-most (byte ∷ bytes) = go (eqb byte 10) (index-most bytes)
+index_most [] = omega arith
+index_most (byte ∷ bytes) = go (eqb byte 10) (index_most bytes)
   where
     go : (b : Bool) → indexOf 10 bytes ≤ length bytes → index_after b (indexOf 10 bytes) ≤ suc (length bytes)
     go true h = omega arith
     go false h = omega arith
 
-module _ (buffer : List ℕ) (input : Input) (t : tidyOf (length buffer) input ≡ true) where
-  pub unread-length : length (unread buffer input) ≡ input.have - input.at
+module _ (buffer : List ℕ) (input : Input) (t : tidy_of (length buffer) input ≡ true) where
+  pub unread_length : length (unread buffer input) ≡ input.have - input.at
   unfolding slice
-  unread-length = let within = tidy-is (length buffer) input t in simp (length-drop, length-take-le input.have buffer within.1)
+  unread_length = let within = tidy_is (length buffer) input t in simp (length-drop, length-take-le input.have buffer within.1)
 
-  pub next-cases : Next buffer input (next_of buffer input)
-  unfolding next_of foundOf last_of line_of
-  next-cases =
+  pub next_cases : Next buffer input (next_of buffer input)
+  unfolding next_of found_of last_of line_of
+  next_cases =
       rw t (go (ltb to input.have) refl input.failed refl input.ended refl input.over refl (ltb input.at input.have) refl)
     where
       to : ℕ
       to = input.at + stop buffer input
 
       there : ltb to input.have ≡ true → stop buffer input < length (unread buffer input)
-      there q = omega (arith, ltb-true to input.have q, unread-length)
+      there q = omega (arith, ltb-true to input.have q, unread_length)
 
       none : ltb to input.have ≡ false → stop buffer input ≡ length (unread buffer input)
       none q =
-          let within = tidy-is (length buffer) input t in
-          omega (arith, ltb-false to input.have q, unread-length, index-most (unread buffer input))
+          let within = tidy_is (length buffer) input t in
+          omega (arith, ltb-false to input.have q, unread_length, index_most (unread buffer input))
 
       line : Bool → ℕ → ℕ → Found
       line v end at = cond v (Over (rest_of input at)) (Line input.at end (rest_of input at))
@@ -254,36 +254,36 @@ module _ (buffer : List ℕ) (input : Input) (t : tidyOf (length buffer) input �
       go : (b : Bool) → ltb to input.have ≡ b → (f : Bool) → input.failed ≡ f → (e : Bool) → input.ended ≡ e
           → (v : Bool) → input.over ≡ v → (l : Bool) → ltb input.at input.have ≡ l
           → Next buffer input (cond b (line v to (to + 1)) (cond f Failed (cond e (cond (v || l) (line v input.have input.have) End) More)))
-      go true q f qf e qe true qv l ql = a-dropped (there q) qv refl
-      go true q f qf e qe false qv l ql = a-line (there q) qv refl
+      go true q f qf e qe true qv l ql = a_dropped (there q) qv refl
+      go true q f qf e qe false qv l ql = a_line (there q) qv refl
       go false q true qf e qe v qv l ql = unreadable (none q) qf refl
-      go false q false qf true qe true qv l ql = last-dropped (none q) qf qe qv refl
+      go false q false qf true qe true qv l ql = last_dropped (none q) qf qe qv refl
       go false q false qf true qe false qv true ql = last_line (none q) qf qe qv (ltb-true input.at input.have ql) refl
       go false q false qf true qe false qv false ql = nothing qf qe qv (ltb-false input.at input.have ql) refl
       go false q false qf false qe v qv l ql = unended (none q) qe refl
 
 -- what a caller goes by: a line that is found lies within the buffer
-pub next-inside : (buffer : List ℕ) (input : Input) {from to : ℕ} {rest : Input} → next_of buffer input ≡ Line from to rest
+pub next_inside : (buffer : List ℕ) (input : Input) {from to : ℕ} {rest : Input} → next_of buffer input ≡ Line from to rest
     → (from ≤ to) × (to ≤ length buffer)
-next-inside buffer input {from} {to} {rest} e = go (tidyOf (length buffer) input) refl
+next_inside buffer input {from} {to} {rest} e = go (tidy_of (length buffer) input) refl
   where
-    inside : tidyOf (length buffer) input ≡ true → Next buffer input (next_of buffer input) → (from ≤ to) × (to ≤ length buffer)
-    inside t (a-line h v p) =
-        let within = tidy-is (length buffer) input t in
+    inside : tidy_of (length buffer) input ≡ true → Next buffer input (next_of buffer input) → (from ≤ to) × (to ≤ length buffer)
+    inside t (a_line h v p) =
+        let within = tidy_is (length buffer) input t in
         let start : from ≡ input.at = cc in
         let end : to ≡ input.at + stop buffer input = cc in
-        omega (arith, unread-length buffer input t)
+        omega (arith, unread_length buffer input t)
     inside t (last_line h f g v l p) =
-        let within = tidy-is (length buffer) input t in
+        let within = tidy_is (length buffer) input t in
         let start : from ≡ input.at = cc in
         let end : to ≡ input.have = cc in
         omega arith
-    inside t (a-dropped h v p) = clash (cc)
-    inside t (last-dropped h f g v p) = clash (cc)
+    inside t (a_dropped h v p) = clash (cc)
+    inside t (last_dropped h f g v p) = clash (cc)
     inside t (unended h g p) = clash (cc)
     inside t (nothing f g v l p) = clash (cc)
     inside t (unreadable h f p) = clash (cc)
 
-    go : (b : Bool) → tidyOf (length buffer) input ≡ b → (from ≤ to) × (to ≤ length buffer)
-    go true t = inside t (next-cases buffer input t)
-    go false t = let p = next-end input buffer t in clash (cc)
+    go : (b : Bool) → tidy_of (length buffer) input ≡ b → (from ≤ to) × (to ≤ length buffer)
+    go true t = inside t (next_cases buffer input t)
+    go false t = let p = next_end input buffer t in clash (cc)

@@ -7,7 +7,7 @@ use Rattle.bytes.specs.Bytes.{indexOf, index_after, slice}
 use Rattle.lines.specs.declared.Input.{Input}
 use Rattle.lines.specs.declared.Found.{Found}
 use Rattle.lines.specs.declared.Found.TheVariants.{End, Line, Over, Failed}
-use Rattle.lines.specs.Unread.{tidyOf, line_of, last_of, foundOf, next_of}
+use Rattle.lines.specs.Unread.{tidy_of, line_of, last_of, found_of, next_of}
 use Rattle.lines.specs.Reports.{lines_of, ended_of}
 
 -- every argument has the answer that is said
@@ -45,19 +45,19 @@ finished =
     ∷ (unread false 2 2, End)
     ∷ []
 
-pub failed-next : Answers (next_of (49 ∷ 10 ∷ 50 ∷ [])) unfinished × Answers (next_of (49 ∷ 10 ∷ [])) finished
-unfolding tidyOf line_of last_of foundOf next_of indexOf index_after slice
-failed-next = ((refl, (refl, (refl, (refl, (refl, (refl, (refl, (refl, tt)))))))), (refl, (refl, (refl, (refl, tt)))))
+pub failed_next : Answers (next_of (49 ∷ 10 ∷ 50 ∷ [])) unfinished × Answers (next_of (49 ∷ 10 ∷ [])) finished
+unfolding tidy_of line_of last_of found_of next_of indexOf index_after slice
+failed_next = ((refl, (refl, (refl, (refl, (refl, (refl, (refl, (refl, tt)))))))), (refl, (refl, (refl, (refl, tt)))))
 
 -- the lines that ended, and all lines: they differ in what stands behind the last newline
-pub ended-lines : Answers ended_of (
+pub ended_lines : Answers ended_of (
     ([], [])
     ∷ (49 ∷ [], [])
     ∷ (49 ∷ 10 ∷ [], (49 ∷ []) ∷ [])
     ∷ (10 ∷ 49 ∷ 50 ∷ 10 ∷ 51 ∷ [], [] ∷ (49 ∷ 50 ∷ []) ∷ [])
     ∷ [])
 unfolding ended_of
-ended-lines = (refl, (refl, (refl, (refl, tt))))
+ended_lines = (refl, (refl, (refl, (refl, tt))))
 
 pub all_lines : Answers lines_of (
     ([], [])

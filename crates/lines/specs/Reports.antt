@@ -3,7 +3,7 @@ use Rattle.std.specs.Prelude.{◌≡◌, Bool, true, cond, List, [], ◌∷◌, 
 use Rattle.bytes.specs.Bytes.{slice}
 use Rattle.lines.specs.declared.Input.{Input}
 use Rattle.lines.specs.declared.Found.TheVariants.{More, End, Line, Over, Failed}
-use Rattle.lines.specs.Unread.{next_of, keptOf, Filled}
+use Rattle.lines.specs.Unread.{next_of, kept_of, Filled}
 
 -- a byte before the first of some lines
 abbrev pub longer : ℕ → List (List ℕ) → List (List ℕ)
@@ -31,12 +31,12 @@ pub data Report : Type 0 where
   dropped : Report
 
 -- a line is dropped that has no room with its newline in a buffer of n bytes
-abbrev pub reportOf : ℕ → List ℕ → Report
-reportOf size line = cond (ltb (length line) size) (whole line) dropped
+abbrev pub report_of : ℕ → List ℕ → Report
+report_of size line = cond (ltb (length line) size) (whole line) dropped
 
 -- what is reported of an input
-abbrev pub reportsOf : ℕ → List ℕ → List Report
-reportsOf size bytes = map (reportOf size) (lines_of bytes)
+abbrev pub reports_of : ℕ → List ℕ → List Report
+reports_of size bytes = map (report_of size) (lines_of bytes)
 
 -- the turns of a program: by whether a read fails in the end, the buffer, the input and the bytes that are still to come, what it reports
 pub data Turns (failed : Bool) : List ℕ → Input → List ℕ → List Report → Type 0 where
@@ -50,5 +50,5 @@ pub data Turns (failed : Bool) : List ℕ → Input → List ℕ → List Report
   -- the bytes that were read come first of those to come, and where none were read, none are, and the read failed or the input has ended
   more : {buffer buffer' : List ℕ} {input r : Input} {coming coming' : List ℕ} {reports : List Report}
       → next_of buffer input ≡ More → Filled buffer input r buffer' → length buffer' ≡ length buffer
-      → coming ≡ slice (length (keptOf buffer input)) r.have buffer' ++ coming' → (r.ended ≡ true → (r.failed ≡ failed) × (coming' ≡ []))
+      → coming ≡ slice (length (kept_of buffer input)) r.have buffer' ++ coming' → (r.ended ≡ true → (r.failed ≡ failed) × (coming' ≡ []))
       → Turns failed buffer' r coming' reports → Turns failed buffer input coming reports

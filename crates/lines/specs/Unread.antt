@@ -10,8 +10,8 @@ abbrev pub start_of : Input
 start_of = record { at = 0; have = 0; over = false; ended = false; failed = false }
 
 -- whether what is unread lies within a buffer of n bytes
-unfoldable pub tidyOf : ℕ → Input → Bool
-tidyOf size input = leb input.at input.have && leb input.have size
+unfoldable pub tidy_of : ℕ → Input → Bool
+tidy_of size input = leb input.at input.have && leb input.have size
 
 -- ---- what stands next
 
@@ -28,34 +28,34 @@ unfoldable pub last_of : Input → Found
 last_of input = cond (input.over || ltb input.at input.have) (line_of input input.have input.have) End
 
 -- what is found by where the next newline (10) stands, or what was read ends; where reading failed, a line without a newline may not be whole
-unfoldable pub foundOf : Input → ℕ → Found
-foundOf input to =
+unfoldable pub found_of : Input → ℕ → Found
+found_of input to =
     cond (ltb to input.have) (line_of input to (to + 1)) (cond input.failed Failed (cond input.ended (last_of input) More))
 
 -- what stands next; an input that doesn't lie within the buffer is at its end
 unfoldable pub next_of : List ℕ → Input → Found
 next_of buffer input =
-    cond (tidyOf (length buffer) input) (foundOf input (input.at + indexOf 10 (slice input.at input.have buffer))) End
+    cond (tidy_of (length buffer) input) (found_of input (input.at + indexOf 10 (slice input.at input.have buffer))) End
 
 -- ---- reading more
 
 -- whether the unread line is dropped: its start was, or it fills the buffer
-unfoldable pub lostOf : ℕ → Input → Bool
-lostOf size input = input.over || eqb input.at 0 && eqb input.have size
+unfoldable pub lost_of : ℕ → Input → Bool
+lost_of size input = input.over || eqb input.at 0 && eqb input.have size
 
 -- the bytes that are kept
-unfoldable pub keptOf : List ℕ → Input → List ℕ
-keptOf buffer input =
-    cond (tidyOf (length buffer) input && not (lostOf (length buffer) input)) (slice input.at input.have buffer) []
+unfoldable pub kept_of : List ℕ → Input → List ℕ
+kept_of buffer input =
+    cond (tidy_of (length buffer) input && not (lost_of (length buffer) input)) (slice input.at input.have buffer) []
 
 -- a read answers -1, "failed", or a count
-abbrev pub failedBy : ℤ → Bool
-failedBy (pos n) = false
-failedBy (negsuc n) = true
+abbrev pub failed_by : ℤ → Bool
+failed_by (pos n) = false
+failed_by (negsuc n) = true
 
 -- what a read makes of an input: at its end where no byte came behind those that are kept
 unfoldable pub read_of : ℤ → ℕ → ℕ → Bool → Input
-read_of answer kept have dropped = record { at = 0; have = have; over = dropped; ended = eqb have kept; failed = failedBy answer }
+read_of answer kept have dropped = record { at = 0; have = have; over = dropped; ended = eqb have kept; failed = failed_by answer }
 
 -- bytes at the start of a buffer stay, and more may stand behind them; where none do, the input is at its end, and only there may the read have failed
 pub record Behind (buffer : List ℕ) (kept : ℕ) (dropped : Bool) (r : Input) (buffer' : List ℕ) : Type 0 where
@@ -70,10 +70,10 @@ pub record Behind (buffer : List ℕ) (kept : ℕ) (dropped : Bool) (r : Input) 
 -- what is kept stands at the start, and what was read behind it; of an input that doesn't lie within the buffer nothing is kept or read
 pub record Filled (buffer : List ℕ) (input : Input) (r : Input) (buffer' : List ℕ) : Type 0 where
   pub start : r.at ≡ 0
-  pub kept : take (length (keptOf buffer input)) buffer' ≡ keptOf buffer input
-  pub least : length (keptOf buffer input) ≤ r.have
+  pub kept : take (length (kept_of buffer input)) buffer' ≡ kept_of buffer input
+  pub least : length (kept_of buffer input) ≤ r.have
   pub most : r.have ≤ length buffer
-  pub over : r.over ≡ (tidyOf (length buffer) input && lostOf (length buffer) input)
-  pub ended : r.ended ≡ eqb r.have (length (keptOf buffer input))
+  pub over : r.over ≡ (tidy_of (length buffer) input && lost_of (length buffer) input)
+  pub ended : r.ended ≡ eqb r.have (length (kept_of buffer input))
   pub failed : r.failed ≡ true → r.ended ≡ true
-  pub untidy : tidyOf (length buffer) input ≡ false → (r.have ≡ 0) × (r.failed ≡ false) × (buffer' ≡ buffer)
+  pub untidy : tidy_of (length buffer) input ≡ false → (r.have ≡ 0) × (r.failed ≡ false) × (buffer' ≡ buffer)

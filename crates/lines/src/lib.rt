@@ -3,7 +3,7 @@
 // Where reading fails, the lines that ended are found, and then that it failed.
 ghost use Rattle.std.specs.Prelude.{◌≡◌, ◌+◌, ◌≤◌, length, drop};
 ghost use Rattle.std.proofs.Math.Seq.{paste};
-ghost use Rattle.lines.specs.Unread.{start_of, tidyOf, line_of, last_of, next_of, lostOf, read_of, Behind, Filled};
+ghost use Rattle.lines.specs.Unread.{start_of, tidy_of, line_of, last_of, next_of, lost_of, read_of, Behind, Filled};
 
 use libc::STDIN_FILENO;
 
@@ -55,7 +55,7 @@ pub fn start() -> Input
 
 // Whether what is unread lies within a buffer.
 fn tidy(input: Input, size: usize) -> bool
-    ensures { result ≡ tidyOf size input }
+    ensures { result ≡ tidy_of size input }
 {
     if input.at > input.have {
         return false;
@@ -122,7 +122,7 @@ pub fn next(buffer: &[u8], input: Input) -> Found
 
 // Whether the unread line is dropped: its start was, or it fills the buffer.
 fn lost(input: Input, size: usize) -> bool
-    ensures { result ≡ lostOf size input }
+    ensures { result ≡ lost_of size input }
 {
     if input.over {
         return true;

@@ -9,6 +9,6 @@ use Rattle.meaning.specs.declared.message.WindowCell.{WindowCell}
 
 -- the three tables are over the Channel IDs
 pub record Full (statuses : List StatusCell) (sequences : List SequenceCell) (windows : List WindowCell) : Type 0 where
-  pub statuses-full : length statuses ≡ CHANNEL-IDS
-  pub sequences-full : length sequences ≡ CHANNEL-IDS
-  pub windows-full : length windows ≡ CHANNEL-IDS
+  pub statuses_full : length statuses ≡ CHANNEL-IDS
+  pub sequences_full : length sequences ≡ CHANNEL-IDS
+  pub windows_full : length windows ≡ CHANNEL-IDS

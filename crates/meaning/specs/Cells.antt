@@ -6,11 +6,11 @@ use Rattle.meaning.specs.declared.message.StatusCell.{StatusCell}
 use Rattle.meaning.specs.declared.message.SequenceCell.{SequenceCell}
 use Rattle.meaning.specs.declared.message.WindowCell.{WindowCell}
 
-abbrev pub noStatus : StatusCell
-noStatus = record { status = Status.Absent }
+abbrev pub no_status : StatusCell
+no_status = record { status = Status.Absent }
 
-abbrev pub noSequence : SequenceCell
-noSequence = record { sequence = Sequence.Absent }
+abbrev pub no_sequence : SequenceCell
+no_sequence = record { sequence = Sequence.Absent }
 
-abbrev pub noWindow : WindowCell
-noWindow = record { window = Window.Absent }
+abbrev pub no_window : WindowCell
+no_window = record { window = Window.Absent }

@@ -1,7 +1,7 @@
 -- Document 01, "Messages": the table of options, and what each message may hold. Reader and writer go by these definitions alike.
 use Rattle.std.specs.Prelude.{ℕ, List, [], ◌∷◌, Bool, true, false, cond, not, ◌&&◌, length, get_or, eqb, leb, ltb}
 use Rattle.quantity.specs.Limits.{RESERVED-CHANNEL, SHORTEST-NAME, LONGEST-NAME}
-use Rattle.wire.specs.Numbers.{bigEndian}
+use Rattle.wire.specs.Numbers.{big_endian}
 use Rattle.meaning.specs.declared.message.End.{End}
 use Rattle.meaning.specs.declared.message.End.TheVariants.{Ips, Radio}
 use Rattle.meaning.specs.declared.message.Plane.{Plane}
@@ -58,8 +58,8 @@ abbrev pub naming : List ℕ
 naming = CHANNEL-STATUS ∷ FLOW-WINDOW ∷ CHANNEL-IDENTIFIER ∷ FLOW-SEQUENCE ∷ []
 
 -- column "Length", and the lengths of sections 3.3.1 and 3.3.7 to 3.3.9; Packet Data may have any
-unfoldable pub lengthListed : ℕ → ℕ → Bool
-lengthListed kind n =
+unfoldable pub length_listed : ℕ → ℕ → Bool
+length_listed kind n =
     cond (among kind (DATALINK-IDENTIFIER ∷ CHANNEL-IDENTIFIER ∷ [])) (eqb n 1)
     (cond (among kind (LINK-INSTANCE ∷ DATALINK-CONTEXT ∷ [])) (leb SHORTEST-NAME n && leb n LONGEST-NAME)
     (cond (eqb kind CHANNEL-STATUS) (eqb n 2)
@@ -68,29 +68,29 @@ lengthListed kind n =
     (cond (eqb kind FLOW-SEQUENCE) (eqb n 5) true)))))
 
 -- number 5: "its Channel ID is 255, or section 3.3 gives no meaning to its value", which is so of an Expiration Time of 0 alone
-unfoldable pub valueListed : ℕ → List ℕ → Bool
-valueListed kind content =
-    cond (among kind naming) (ltb (get_or content 0 0) RESERVED-CHANNEL) (cond (eqb kind EXPIRATION-TIME) (not (eqb (bigEndian content) 0)) true)
+unfoldable pub value_listed : ℕ → List ℕ → Bool
+value_listed kind content =
+    cond (among kind naming) (ltb (get_or content 0 0) RESERVED-CHANNEL) (cond (eqb kind EXPIRATION-TIME) (not (eqb (big_endian content) 0)) true)
 
 -- "What each message may hold"
-abbrev pub mayHold : Plane → End → List ℕ
-mayHold Control Ips = DATALINK-IDENTIFIER ∷ FLOW-SEQUENCE ∷ []
-mayHold Data Ips = DATALINK-IDENTIFIER ∷ PACKET-DATA ∷ CHANNEL-IDENTIFIER ∷ EXPIRATION-TIME ∷ FLOW-SEQUENCE ∷ []
-mayHold Control Radio = DATALINK-IDENTIFIER ∷ CHANNEL-STATUS ∷ LINK-INSTANCE ∷ DATALINK-CONTEXT ∷ FLOW-WINDOW ∷ []
-mayHold Data Radio = DATALINK-IDENTIFIER ∷ PACKET-DATA ∷ CHANNEL-IDENTIFIER ∷ []
+abbrev pub may_hold : Plane → End → List ℕ
+may_hold Control Ips = DATALINK-IDENTIFIER ∷ FLOW-SEQUENCE ∷ []
+may_hold Data Ips = DATALINK-IDENTIFIER ∷ PACKET-DATA ∷ CHANNEL-IDENTIFIER ∷ EXPIRATION-TIME ∷ FLOW-SEQUENCE ∷ []
+may_hold Control Radio = DATALINK-IDENTIFIER ∷ CHANNEL-STATUS ∷ LINK-INSTANCE ∷ DATALINK-CONTEXT ∷ FLOW-WINDOW ∷ []
+may_hold Data Radio = DATALINK-IDENTIFIER ∷ PACKET-DATA ∷ CHANNEL-IDENTIFIER ∷ []
 
 -- of these there may be one for each channel, of all others one
-abbrev pub oneForEach : Plane → List ℕ
-oneForEach Control = CHANNEL-STATUS ∷ FLOW-WINDOW ∷ FLOW-SEQUENCE ∷ []
-oneForEach Data = []
+abbrev pub one_for_each : Plane → List ℕ
+one_for_each Control = CHANNEL-STATUS ∷ FLOW-WINDOW ∷ FLOW-SEQUENCE ∷ []
+one_for_each Data = []
 
 -- "Packet Data is the last option."
-abbrev pub standsLast : Plane → List ℕ
-standsLast Control = []
-standsLast Data = PACKET-DATA ∷ []
+abbrev pub stands_last : Plane → List ℕ
+stands_last Control = []
+stands_last Data = PACKET-DATA ∷ []
 
 -- what it must hold; a Channel Status, for channel 0
-abbrev pub mustHold : Plane → End → List ℕ
-mustHold Control Ips = DATALINK-IDENTIFIER ∷ []
-mustHold Control Radio = DATALINK-IDENTIFIER ∷ CHANNEL-STATUS ∷ []
-mustHold Data end = DATALINK-IDENTIFIER ∷ PACKET-DATA ∷ []
+abbrev pub must_hold : Plane → End → List ℕ
+must_hold Control Ips = DATALINK-IDENTIFIER ∷ []
+must_hold Control Radio = DATALINK-IDENTIFIER ∷ CHANNEL-STATUS ∷ []
+must_hold Data end = DATALINK-IDENTIFIER ∷ PACKET-DATA ∷ []

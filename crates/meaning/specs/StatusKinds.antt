@@ -18,27 +18,27 @@ pub data NotKnown (codes : ℕ) : Status → Type 0 where
   unconfigured : {place : ℕ} → place ≤ 7 → codes / 2 ^ place % 2 ≡ 0 → NotKnown codes (Status.Given (8 + place))
 
 -- document 01's sentence, which "the default" leaves as it was
-abbrev pub operationalByDefault : Status → Bool
-operationalByDefault Status.Absent = false
-operationalByDefault (Status.Given status) = leb 1 status && leb status 7
+abbrev pub operational_by_default : Status → Bool
+operational_by_default Status.Absent = false
+operational_by_default (Status.Given status) = leb 1 status && leb status 7
 
 -- each of the sixteen under a setting, with whether it is operational, and whether it is unknown
 pub data OneOfThree (codes : ℕ) : (status : ℕ) (isOperational isUnknown : Bool) → Type 0 where
-  zero-status : OneOfThree codes 0 false false
-  one-to-seven : {status : ℕ} → 1 ≤ status → status ≤ 7 → OneOfThree codes status true false
-  made-operational : {place : ℕ} → place ≤ 7 → codes / 2 ^ place % 2 ≡ 1 → OneOfThree codes (8 + place) true false
-  left-unknown : {place : ℕ} → place ≤ 7 → codes / 2 ^ place % 2 ≡ 0 → OneOfThree codes (8 + place) false true
+  zero_status : OneOfThree codes 0 false false
+  one_to_seven : {status : ℕ} → 1 ≤ status → status ≤ 7 → OneOfThree codes status true false
+  made_operational : {place : ℕ} → place ≤ 7 → codes / 2 ^ place % 2 ≡ 1 → OneOfThree codes (8 + place) true false
+  left_unknown : {place : ℕ} → place ≤ 7 → codes / 2 ^ place % 2 ≡ 0 → OneOfThree codes (8 + place) false true
 
 -- a setting with the statuses 7 to 16 under it: whether each is operational, and whether each is unknown
 pub record Row : Type 0 where
   pub codes : ℕ
-  pub from-seven : List Bool
-  pub unknown-from-seven : List Bool
+  pub from_seven : List Bool
+  pub unknown_from_seven : List Bool
 
 abbrev pub Right : Row → Type 0
 Right row =
-    (tabulate 10 (λ place. operational (record { 0 = row.codes }) (Status.Given (7 + place))) ≡ row.from-seven)
-    × (tabulate 10 (λ place. unknown (record { 0 = row.codes }) (Status.Given (7 + place))) ≡ row.unknown-from-seven)
+    (tabulate 10 (λ place. operational (record { 0 = row.codes }) (Status.Given (7 + place))) ≡ row.from_seven)
+    × (tabulate 10 (λ place. unknown (record { 0 = row.codes }) (Status.Given (7 + place))) ≡ row.unknown_from_seven)
 
 abbrev pub AllRight : List Row → Type 0
 AllRight [] = Unit {0}
@@ -49,32 +49,32 @@ abbrev pub settings : List Row
 settings =
     record {
       codes = 0;
-      from-seven = true ∷ false ∷ false ∷ false ∷ false ∷ false ∷ false ∷ false ∷ false ∷ false ∷ [];
-      unknown-from-seven = false ∷ true ∷ true ∷ true ∷ true ∷ true ∷ true ∷ true ∷ true ∷ false ∷ [];
+      from_seven = true ∷ false ∷ false ∷ false ∷ false ∷ false ∷ false ∷ false ∷ false ∷ false ∷ [];
+      unknown_from_seven = false ∷ true ∷ true ∷ true ∷ true ∷ true ∷ true ∷ true ∷ true ∷ false ∷ [];
     }
     ∷ record {
       codes = 1;
-      from-seven = true ∷ true ∷ false ∷ false ∷ false ∷ false ∷ false ∷ false ∷ false ∷ false ∷ [];
-      unknown-from-seven = false ∷ false ∷ true ∷ true ∷ true ∷ true ∷ true ∷ true ∷ true ∷ false ∷ [];
+      from_seven = true ∷ true ∷ false ∷ false ∷ false ∷ false ∷ false ∷ false ∷ false ∷ false ∷ [];
+      unknown_from_seven = false ∷ false ∷ true ∷ true ∷ true ∷ true ∷ true ∷ true ∷ true ∷ false ∷ [];
     }
     ∷ record {
       codes = 2;
-      from-seven = true ∷ false ∷ true ∷ false ∷ false ∷ false ∷ false ∷ false ∷ false ∷ false ∷ [];
-      unknown-from-seven = false ∷ true ∷ false ∷ true ∷ true ∷ true ∷ true ∷ true ∷ true ∷ false ∷ [];
+      from_seven = true ∷ false ∷ true ∷ false ∷ false ∷ false ∷ false ∷ false ∷ false ∷ false ∷ [];
+      unknown_from_seven = false ∷ true ∷ false ∷ true ∷ true ∷ true ∷ true ∷ true ∷ true ∷ false ∷ [];
     }
     ∷ record {
       codes = 5;
-      from-seven = true ∷ true ∷ false ∷ true ∷ false ∷ false ∷ false ∷ false ∷ false ∷ false ∷ [];
-      unknown-from-seven = false ∷ false ∷ true ∷ false ∷ true ∷ true ∷ true ∷ true ∷ true ∷ false ∷ [];
+      from_seven = true ∷ true ∷ false ∷ true ∷ false ∷ false ∷ false ∷ false ∷ false ∷ false ∷ [];
+      unknown_from_seven = false ∷ false ∷ true ∷ false ∷ true ∷ true ∷ true ∷ true ∷ true ∷ false ∷ [];
     }
     ∷ record {
       codes = 128;
-      from-seven = true ∷ false ∷ false ∷ false ∷ false ∷ false ∷ false ∷ false ∷ true ∷ false ∷ [];
-      unknown-from-seven = false ∷ true ∷ true ∷ true ∷ true ∷ true ∷ true ∷ true ∷ false ∷ false ∷ [];
+      from_seven = true ∷ false ∷ false ∷ false ∷ false ∷ false ∷ false ∷ false ∷ true ∷ false ∷ [];
+      unknown_from_seven = false ∷ true ∷ true ∷ true ∷ true ∷ true ∷ true ∷ true ∷ false ∷ false ∷ [];
     }
     ∷ record {
       codes = 255;
-      from-seven = true ∷ true ∷ true ∷ true ∷ true ∷ true ∷ true ∷ true ∷ true ∷ false ∷ [];
-      unknown-from-seven = false ∷ false ∷ false ∷ false ∷ false ∷ false ∷ false ∷ false ∷ false ∷ false ∷ [];
+      from_seven = true ∷ true ∷ true ∷ true ∷ true ∷ true ∷ true ∷ true ∷ true ∷ false ∷ [];
+      unknown_from_seven = false ∷ false ∷ false ∷ false ∷ false ∷ false ∷ false ∷ false ∷ false ∷ false ∷ [];
     }
     ∷ []

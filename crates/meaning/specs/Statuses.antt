@@ -23,17 +23,17 @@ abbrev pub bit_of : StatusCodes → (place : ℕ) → ℕ
 bit_of codes place = codes.0 / 2 ^ place % 2
 
 -- 1 to 7; 8 to 15 as bit status - 8 of the setting has it; no other
-unfoldable pub codeOperational : StatusCodes → (status : ℕ) → Bool
-codeOperational codes status =
+unfoldable pub code_operational : StatusCodes → (status : ℕ) → Bool
+code_operational codes status =
     (leb FIRST-OPERATIONAL status && leb status LAST-OPERATIONAL)
     || (leb FIRST-CONFIGURED status && (leb status HIGHEST-STATUS && eqb (bit_of codes (status - FIRST-CONFIGURED)) 1))
 
 -- a status that is not reported is not operational
 abbrev pub operational : StatusCodes → Status → Bool
 operational codes Status.Absent = false
-operational codes (Status.Given status) = codeOperational codes status
+operational codes (Status.Given status) = code_operational codes status
 
 -- 8 to 15, but for those that the setting makes operational (source document 000, Table 3-7: "unless configured otherwise")
 abbrev pub unknown : StatusCodes → Status → Bool
 unknown codes Status.Absent = false
-unknown codes (Status.Given status) = leb FIRST-CONFIGURED status && (leb status HIGHEST-STATUS && not (codeOperational codes status))
+unknown codes (Status.Given status) = leb FIRST-CONFIGURED status && (leb status HIGHEST-STATUS && not (code_operational codes status))

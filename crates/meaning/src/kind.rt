@@ -1,6 +1,6 @@
 // The option types of document 01's table, by name. specs/Kinds.antt has the same names, with `-` for `_`.
 ghost use Rattle.std.specs.Prelude.{◌≡◌};
-ghost use Rattle.meaning.specs.Kinds.{among, known, mayHold};
+ghost use Rattle.meaning.specs.Kinds.{among, known, may_hold};
 
 use crate::message::{End, Plane};
 
@@ -41,7 +41,7 @@ pub fn is_known(kind: u8) -> bool
 }
 
 fn ips_control(kind: u8) -> bool
-    ensures { result ≡ among kind (mayHold Plane.Control End.Ips) }
+    ensures { result ≡ among kind (may_hold Plane.Control End.Ips) }
 {
     match kind {
         DATALINK_IDENTIFIER => true,
@@ -51,7 +51,7 @@ fn ips_control(kind: u8) -> bool
 }
 
 fn ips_data(kind: u8) -> bool
-    ensures { result ≡ among kind (mayHold Plane.Data End.Ips) }
+    ensures { result ≡ among kind (may_hold Plane.Data End.Ips) }
 {
     match kind {
         DATALINK_IDENTIFIER => true,
@@ -64,7 +64,7 @@ fn ips_data(kind: u8) -> bool
 }
 
 fn radio_control(kind: u8) -> bool
-    ensures { result ≡ among kind (mayHold Plane.Control End.Radio) }
+    ensures { result ≡ among kind (may_hold Plane.Control End.Radio) }
 {
     match kind {
         DATALINK_IDENTIFIER => true,
@@ -77,7 +77,7 @@ fn radio_control(kind: u8) -> bool
 }
 
 fn radio_data(kind: u8) -> bool
-    ensures { result ≡ among kind (mayHold Plane.Data End.Radio) }
+    ensures { result ≡ among kind (may_hold Plane.Data End.Radio) }
 {
     match kind {
         DATALINK_IDENTIFIER => true,
@@ -89,7 +89,7 @@ fn radio_data(kind: u8) -> bool
 
 // Whether a message of a plane and an end may hold an option of a type.
 pub fn may_hold(plane: Plane, end: End, kind: u8) -> bool
-    ensures { result ≡ among kind (mayHold plane end) }
+    ensures { result ≡ among kind (may_hold plane end) }
 {
     match plane {
         Plane::Control => match end {

@@ -1,6 +1,6 @@
 // Document 01, "Messages": what a status means, and document 02, §6: which of the others a datalink's setting makes operational.
 ghost use Rattle.std.specs.Prelude.{◌<◌, ◌≡◌};
-ghost use Rattle.meaning.specs.Statuses.{bit_of, codeOperational, operational};
+ghost use Rattle.meaning.specs.Statuses.{bit_of, code_operational, operational};
 
 use crate::message::Status;
 use quantity::limit::HIGHEST_STATUS;
@@ -26,7 +26,7 @@ fn bit(codes: StatusCodes, place: u8) -> u8
 
 // The same of a status that is reported.
 fn is_code_operational(codes: StatusCodes, code: u8) -> bool
-    ensures { result ≡ codeOperational codes code }
+    ensures { result ≡ code_operational codes code }
 {
     if code <= LAST_OPERATIONAL {
         return FIRST_OPERATIONAL <= code;

@@ -2,14 +2,14 @@
 use Rattle.std.specs.Prelude.{ℕ, ◌-◌, ◌≡◌, List, Bool, true, false, cond, ◌&&◌, length, eqb, leb}
 use Rattle.quantity.specs.Refusals.{OUTSIDE-LIMITS}
 use Rattle.meaning.specs.declared.message.End.{End}
-use Rattle.reader.specs.Readings.{Verdict, ControlReading, DataReading, readControl, readData, packetOf}
-use Rattle.writable.specs.Allowed.{controlAllowed, dataAllowed}
-use Rattle.writer.specs.Written.{controlWritten, dataWritten, answerTo, outAfter}
+use Rattle.reader.specs.Readings.{Verdict, ControlReading, DataReading, read_control, read_data, packet_of}
+use Rattle.writable.specs.Allowed.{control_allowed, data_allowed}
+use Rattle.writer.specs.Written.{control_written, data_written, answer_to, out_after}
 use Rattle.answer_codes.specs.declared.Answer.{Answer}
-use Rattle.answer_codes.specs.Codes.{Outcome, code_of, refusedAs, writtenAs}
-use Rattle.answer_codes.specs.Codes.Outcome.{refused, accepted, other-plane}
+use Rattle.answer_codes.specs.Codes.{Outcome, code_of, refused_as, written_as}
+use Rattle.answer_codes.specs.Codes.Outcome.{refused, accepted, other_plane}
 use Rattle.lent_messages.specs.Layout.{CONTROL-WORDS, DATA-WORDS}
-use Rattle.lent_messages.specs.Words.{controlWords, controlOf, controlSpelled, dataWords, data_of, dataSpelled}
+use Rattle.lent_messages.specs.Words.{control_words, control_of, control_spelled, data_words, data_of, data_spelled}
 
 -- ---- whose message it is, by its number
 abbrev pub IPS-END : ℕ
@@ -18,74 +18,74 @@ IPS-END = 0
 abbrev pub RADIO-END : ℕ
 RADIO-END = 1
 
-abbrev pub isEnd : ℕ → Bool
-isEnd end = leb end RADIO-END
+abbrev pub is_end : ℕ → Bool
+is_end end = leb end RADIO-END
 
 unfoldable pub end_of : ℕ → End
 end_of end = cond (eqb end IPS-END) End.Ips End.Radio
 
 -- ---- answers
-abbrev pub refusedBy : ℕ → Outcome
-refusedBy number = refused number 0
+abbrev pub refused_by : ℕ → Outcome
+refused_by number = refused number 0
 
-abbrev pub isAccepted : Verdict → Bool
-isAccepted Verdict.Accepted = true
-isAccepted Verdict.OtherPlane = false
-isAccepted (Verdict.Refused refusal) = false
+abbrev pub is_accepted : Verdict → Bool
+is_accepted Verdict.Accepted = true
+is_accepted Verdict.OtherPlane = false
+is_accepted (Verdict.Refused refusal) = false
 
-abbrev pub verdictAs : Verdict → Outcome
-verdictAs Verdict.Accepted = accepted
-verdictAs Verdict.OtherPlane = other-plane
-verdictAs (Verdict.Refused refusal) = refusedAs refusal
+abbrev pub verdict_as : Verdict → Outcome
+verdict_as Verdict.Accepted = accepted
+verdict_as Verdict.OtherPlane = other_plane
+verdict_as (Verdict.Refused refusal) = refused_as refusal
 
 -- ---- reading: 19 for an end that there isn't or words of another length, then the verdict; words that are not those of an accepted message stay
 unfoldable pub taken : (end size : ℕ) → List ℕ → Bool
-taken end size words = isEnd end && eqb (length words) size
+taken end size words = is_end end && eqb (length words) size
 
-abbrev pub readAs : Bool → Verdict → Outcome
-readAs is_taken verdict = cond is_taken (verdictAs verdict) (refusedBy OUTSIDE-LIMITS)
+abbrev pub read_as : Bool → Verdict → Outcome
+read_as is_taken verdict = cond is_taken (verdict_as verdict) (refused_by OUTSIDE-LIMITS)
 
-abbrev pub wordsAfter : Bool → Verdict → (said words : List ℕ) → List ℕ
-wordsAfter is_taken verdict said words = cond is_taken (cond (isAccepted verdict) said words) words
+abbrev pub words_after : Bool → Verdict → (said words : List ℕ) → List ℕ
+words_after is_taken verdict said words = cond is_taken (cond (is_accepted verdict) said words) words
 
-abbrev pub controlRead : (end datalink : ℕ) → List ℕ → ControlReading
-controlRead end datalink datagram = readControl (end_of end) (record { 0 = datalink }) datagram
+abbrev pub control_read : (end datalink : ℕ) → List ℕ → ControlReading
+control_read end datalink datagram = read_control (end_of end) (record { 0 = datalink }) datagram
 
-abbrev pub dataRead : (end datalink : ℕ) → List ℕ → DataReading
-dataRead end datalink datagram = readData (end_of end) (record { 0 = datalink }) datagram
+abbrev pub data_read : (end datalink : ℕ) → List ℕ → DataReading
+data_read end datalink datagram = read_data (end_of end) (record { 0 = datalink }) datagram
 
 pub record Reads (is_taken : Bool) (verdict : Verdict) (said words : List ℕ) (answer : Answer) (words' : List ℕ) : Type 0 where
-  pub answers : answer ≡ code_of (readAs is_taken verdict)
-  pub words_are : words' ≡ wordsAfter is_taken verdict said words
+  pub answers : answer ≡ code_of (read_as is_taken verdict)
+  pub words_are : words' ≡ words_after is_taken verdict said words
 
 abbrev pub ReadsControl : (datagram : List ℕ) (end datalink : ℕ) (meaning : List ℕ) (answer : Answer) (meaning' : List ℕ) → Type 0
 ReadsControl datagram end datalink meaning answer meaning' =
-    Reads (taken end CONTROL-WORDS meaning) (controlRead end datalink datagram).verdict (controlWords (controlRead end datalink datagram).message) meaning answer meaning'
+    Reads (taken end CONTROL-WORDS meaning) (control_read end datalink datagram).verdict (control_words (control_read end datalink datagram).message) meaning answer meaning'
 
--- "Packet Data is the last option": the packet is the datagram's last bytes (`packet-stands`)
-abbrev pub packetStart : List ℕ → ℕ
-packetStart datagram = length datagram - length (packetOf datagram)
+-- "Packet Data is the last option": the packet is the datagram's last bytes (`packet_stands`)
+abbrev pub packet_start : List ℕ → ℕ
+packet_start datagram = length datagram - length (packet_of datagram)
 
-abbrev pub dataSaid : (end datalink : ℕ) → List ℕ → List ℕ
-dataSaid end datalink datagram = dataWords (dataRead end datalink datagram).message (packetStart datagram) (length (packetOf datagram))
+abbrev pub data_said : (end datalink : ℕ) → List ℕ → List ℕ
+data_said end datalink datagram = data_words (data_read end datalink datagram).message (packet_start datagram) (length (packet_of datagram))
 
 abbrev pub ReadsData : (datagram : List ℕ) (end datalink : ℕ) (parts : List ℕ) (answer : Answer) (parts' : List ℕ) → Type 0
 ReadsData datagram end datalink parts answer parts' =
-    Reads (taken end DATA-WORDS parts) (dataRead end datalink datagram).verdict (dataSaid end datalink datagram) parts answer parts'
+    Reads (taken end DATA-WORDS parts) (data_read end datalink datagram).verdict (data_said end datalink datagram) parts answer parts'
 
 -- ---- writing: 20 for an end that there isn't or words that say nothing, then as the writer answers: 20, 18, or the message
-unfoldable pub controlMay : ℕ → List ℕ → Bool
-controlMay end meaning = isEnd end && (controlSpelled meaning && controlAllowed (end_of end) (controlOf meaning))
+unfoldable pub control_may : ℕ → List ℕ → Bool
+control_may end meaning = is_end end && (control_spelled meaning && control_allowed (end_of end) (control_of meaning))
 
-unfoldable pub dataMay : ℕ → List ℕ → ℕ → Bool
-dataMay end parts size = isEnd end && (dataSpelled parts && dataAllowed (end_of end) (data_of parts) size)
+unfoldable pub data_may : ℕ → List ℕ → ℕ → Bool
+data_may end parts size = is_end end && (data_spelled parts && data_allowed (end_of end) (data_of parts) size)
 
 pub record Writes (may : Bool) (message out : List ℕ) (answer : Answer) (out' : List ℕ) : Type 0 where
-  pub answers : answer ≡ code_of (writtenAs (answerTo may message (length out)))
-  pub bytes-are : out' ≡ outAfter may message out
+  pub answers : answer ≡ code_of (written_as (answer_to may message (length out)))
+  pub bytes_are : out' ≡ out_after may message out
 
 abbrev pub WritesControl : (end : ℕ) (meaning out : List ℕ) (answer : Answer) (out' : List ℕ) → Type 0
-WritesControl end meaning out answer out' = Writes (controlMay end meaning) (controlWritten (controlOf meaning)) out answer out'
+WritesControl end meaning out answer out' = Writes (control_may end meaning) (control_written (control_of meaning)) out answer out'
 
 abbrev pub WritesData : (end : ℕ) (parts packet out : List ℕ) (answer : Answer) (out' : List ℕ) → Type 0
-WritesData end parts packet out answer out' = Writes (dataMay end parts (length packet)) (dataWritten (data_of parts) packet) out answer out'
+WritesData end parts packet out answer out' = Writes (data_may end parts (length packet)) (data_written (data_of parts) packet) out answer out'

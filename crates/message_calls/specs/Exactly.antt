@@ -11,9 +11,9 @@ numbers kind value = record { kind = kind; value = value }
 -- every word
 pub record ReadExactly (end size : ℕ) (verdict : Verdict) (said words : List ℕ) (answer : Answer) (words' : List ℕ) : Type 0 where
   pub no_end : 1 < end → (answer ≡ numbers 275 0) × (words' ≡ words)
-  pub other-size : (length words ≡ size → ⊥) → (answer ≡ numbers 275 0) × (words' ≡ words)
+  pub other_size : (length words ≡ size → ⊥) → (answer ≡ numbers 275 0) × (words' ≡ words)
   pub accepted : end ≤ 1 → length words ≡ size → verdict ≡ Verdict.Accepted → (answer ≡ numbers 8 0) × (words' ≡ said)
-  pub other-plane : end ≤ 1 → length words ≡ size → verdict ≡ Verdict.OtherPlane → (answer ≡ numbers 10 0) × (words' ≡ words)
+  pub other_plane : end ≤ 1 → length words ≡ size → verdict ≡ Verdict.OtherPlane → (answer ≡ numbers 10 0) × (words' ≡ words)
   pub refused : end ≤ 1 → length words ≡ size → (number place : ℕ) → verdict ≡ Verdict.Refused (record { number = number; place = place })
       → (answer ≡ numbers (256 + number) place) × (words' ≡ words)
   pub keeps : (answer.kind ≡ 8 → ⊥) → words' ≡ words

@@ -1,7 +1,7 @@
 // Whose message it is, by its number, and what a reader answers, as numbers. specs/Calls.antt has the same names, with `-` for `_`.
 ghost use Rattle.std.specs.Prelude.{◌≡◌};
 ghost use Rattle.answer_codes.specs.Codes.{code_of};
-ghost use Rattle.message_calls.specs.Calls.{isEnd, end_of, isAccepted, verdictAs, refusedBy};
+ghost use Rattle.message_calls.specs.Calls.{is_end, end_of, is_accepted, verdict_as, refused_by};
 
 use answer_codes::{ACCEPTED, Answer, OTHER_PLANE, plain, refused};
 use meaning::message::End;
@@ -13,7 +13,7 @@ pub const IPS_END: u8 = 0;
 pub const RADIO_END: u8 = 1;
 
 pub(crate) fn is_end(end: u8) -> bool
-    ensures { result ≡ isEnd end }
+    ensures { result ≡ is_end end }
 {
     end <= RADIO_END
 }
@@ -29,13 +29,13 @@ pub(crate) fn end_of(end: u8) -> End
 
 // A refusal of the call itself has place 0.
 pub(crate) fn refused_by(number: u8) -> Answer
-    ensures { result ≡ code_of (refusedBy number) }
+    ensures { result ≡ code_of (refused_by number) }
 {
     refused(Refusal { number, place: 0 })
 }
 
 pub(crate) fn is_accepted(verdict: Verdict) -> bool
-    ensures { result ≡ isAccepted verdict }
+    ensures { result ≡ is_accepted verdict }
 {
     match verdict {
         Verdict::Accepted => true,
@@ -45,7 +45,7 @@ pub(crate) fn is_accepted(verdict: Verdict) -> bool
 }
 
 pub(crate) fn of_verdict(verdict: Verdict) -> Answer
-    ensures { result ≡ code_of (verdictAs verdict) }
+    ensures { result ≡ code_of (verdict_as verdict) }
 {
     match verdict {
         Verdict::Accepted => plain(ACCEPTED),

@@ -14,95 +14,95 @@ use Rattle.meaning.specs.declared.message.Channel.{Channel}
 use Rattle.meaning.specs.declared.message.Expiration.{Expiration}
 use Rattle.meaning.specs.declared.message.Data.{Data}
 use Rattle.meaning.specs.declared.message.Control.{Control}
-use Rattle.meaning.specs.Cells.{noStatus, noSequence, noWindow}
-use Rattle.lent_messages.specs.Stated.{datalinkStated, instanceStated, contextStated, statusStated, sequenceStated, windowStated, countedStated, channelStated, expirationStated}
-use Rattle.lent_messages.specs.Words.{wordsAt, controlWords, dataWords}
-use Rattle.lent_messages.proofs.Back.{control-length}
+use Rattle.meaning.specs.Cells.{no_status, no_sequence, no_window}
+use Rattle.lent_messages.specs.Stated.{datalink_stated, instance_stated, context_stated, status_stated, sequence_stated, window_stated, counted_stated, channel_stated, expiration_stated}
+use Rattle.lent_messages.specs.Words.{words_at, control_words, data_words}
+use Rattle.lent_messages.proofs.Back.{control_length}
 use Rattle.message_word_laws.specs.Says.{DatalinkSays, InstanceSays, ContextSays, StatusSays, SequenceSays, WindowSays, SaysControl, CountedSays, ChannelSays, ExpirationSays, SaysData}
 use Rattle.message_word_laws.proofs.Spelled.{word_at}
 
-datalink-says : (stated : Datalink) → DatalinkSays stated (datalinkStated stated).tag (datalinkStated stated).first
-datalink-says Datalink.Absent = (refl, refl)
-datalink-says (Datalink.Given id) = (refl, refl)
+datalink_says : (stated : Datalink) → DatalinkSays stated (datalink_stated stated).tag (datalink_stated stated).first
+datalink_says Datalink.Absent = (refl, refl)
+datalink_says (Datalink.Given id) = (refl, refl)
 
-instance-says : (stated : Instance) → InstanceSays stated (instanceStated stated).tag (instanceStated stated).first (instanceStated stated).second
-instance-says Instance.Absent = (refl, refl, refl)
-instance-says (Instance.Given id count) = (refl, refl, refl)
+instance_says : (stated : Instance) → InstanceSays stated (instance_stated stated).tag (instance_stated stated).first (instance_stated stated).second
+instance_says Instance.Absent = (refl, refl, refl)
+instance_says (Instance.Given id count) = (refl, refl, refl)
 
-context-says : (stated : Context) → ContextSays stated (contextStated stated).tag (contextStated stated).first (contextStated stated).second
-context-says Context.Absent = (refl, refl, refl)
-context-says (Context.Given bytes count) = (refl, refl, refl)
+context_says : (stated : Context) → ContextSays stated (context_stated stated).tag (context_stated stated).first (context_stated stated).second
+context_says Context.Absent = (refl, refl, refl)
+context_says (Context.Given bytes count) = (refl, refl, refl)
 
-status-says : (stated : Status) → StatusSays stated (statusStated stated).tag (statusStated stated).first
-status-says Status.Absent = (refl, refl)
-status-says (Status.Given status) = (refl, refl)
+status_says : (stated : Status) → StatusSays stated (status_stated stated).tag (status_stated stated).first
+status_says Status.Absent = (refl, refl)
+status_says (Status.Given status) = (refl, refl)
 
-sequence-says : (stated : Sequence) → SequenceSays stated (sequenceStated stated).tag (sequenceStated stated).first
-sequence-says Sequence.Absent = (refl, refl)
-sequence-says (Sequence.Given sequence) = (refl, refl)
+sequence_says : (stated : Sequence) → SequenceSays stated (sequence_stated stated).tag (sequence_stated stated).first
+sequence_says Sequence.Absent = (refl, refl)
+sequence_says (Sequence.Given sequence) = (refl, refl)
 
-window-says : (stated : Window) → WindowSays stated (windowStated stated).tag (windowStated stated).first
-window-says Window.Absent = (refl, refl)
-window-says Window.Empty = (refl, refl)
-window-says (Window.Given window) = (refl, refl)
+window_says : (stated : Window) → WindowSays stated (window_stated stated).tag (window_stated stated).first
+window_says Window.Absent = (refl, refl)
+window_says Window.Empty = (refl, refl)
+window_says (Window.Given window) = (refl, refl)
 
 module _ (m : Control) where
-  status-words : (id : ℕ) → id < 255 → StatusSays (get_or m.statuses id noStatus).status (get_or (controlWords m) (8 + 6 * id + 0) 0) (get_or (controlWords m) (8 + 6 * id + 1) 0)
-  unfolding wordsAt
-  status-words id h = rw (word_at m id 0 h (omega arith), word_at m id 1 h (omega arith)) (status-says (get_or m.statuses id noStatus).status)
+  status_words : (id : ℕ) → id < 255 → StatusSays (get_or m.statuses id no_status).status (get_or (control_words m) (8 + 6 * id + 0) 0) (get_or (control_words m) (8 + 6 * id + 1) 0)
+  unfolding words_at
+  status_words id h = rw (word_at m id 0 h (omega arith), word_at m id 1 h (omega arith)) (status_says (get_or m.statuses id no_status).status)
 
-  sequence-words : (id : ℕ) → id < 255 → SequenceSays (get_or m.sequences id noSequence).sequence (get_or (controlWords m) (8 + 6 * id + 2) 0) (get_or (controlWords m) (8 + 6 * id + 3) 0)
-  unfolding wordsAt
-  sequence-words id h = rw (word_at m id 2 h (omega arith), word_at m id 3 h (omega arith)) (sequence-says (get_or m.sequences id noSequence).sequence)
+  sequence_words : (id : ℕ) → id < 255 → SequenceSays (get_or m.sequences id no_sequence).sequence (get_or (control_words m) (8 + 6 * id + 2) 0) (get_or (control_words m) (8 + 6 * id + 3) 0)
+  unfolding words_at
+  sequence_words id h = rw (word_at m id 2 h (omega arith), word_at m id 3 h (omega arith)) (sequence_says (get_or m.sequences id no_sequence).sequence)
 
-  window-words : (id : ℕ) → id < 255 → WindowSays (get_or m.windows id noWindow).window (get_or (controlWords m) (8 + 6 * id + 4) 0) (get_or (controlWords m) (8 + 6 * id + 5) 0)
-  unfolding wordsAt
-  window-words id h = rw (word_at m id 4 h (omega arith), word_at m id 5 h (omega arith)) (window-says (get_or m.windows id noWindow).window)
+  window_words : (id : ℕ) → id < 255 → WindowSays (get_or m.windows id no_window).window (get_or (control_words m) (8 + 6 * id + 4) 0) (get_or (control_words m) (8 + 6 * id + 5) 0)
+  unfolding words_at
+  window_words id h = rw (word_at m id 4 h (omega arith), word_at m id 5 h (omega arith)) (window_says (get_or m.windows id no_window).window)
 
-  datalink-words : DatalinkSays m.datalink (get_or (controlWords m) 0 0) (get_or (controlWords m) 1 0)
-  unfolding controlWords
-  datalink-words = datalink-says m.datalink
+  datalink_words : DatalinkSays m.datalink (get_or (control_words m) 0 0) (get_or (control_words m) 1 0)
+  unfolding control_words
+  datalink_words = datalink_says m.datalink
 
-  instance-words : InstanceSays m.instance (get_or (controlWords m) 2 0) (get_or (controlWords m) 3 0) (get_or (controlWords m) 4 0)
-  unfolding controlWords
-  instance-words = instance-says m.instance
+  instance_words : InstanceSays m.instance (get_or (control_words m) 2 0) (get_or (control_words m) 3 0) (get_or (control_words m) 4 0)
+  unfolding control_words
+  instance_words = instance_says m.instance
 
-  context-words : ContextSays m.context (get_or (controlWords m) 5 0) (get_or (controlWords m) 6 0) (get_or (controlWords m) 7 0)
-  unfolding controlWords
-  context-words = context-says m.context
+  context_words : ContextSays m.context (get_or (control_words m) 5 0) (get_or (control_words m) 6 0) (get_or (control_words m) 7 0)
+  unfolding control_words
+  context_words = context_says m.context
 
-  pub says-exactly : SaysControl m (controlWords m)
-  says-exactly = record {
-    long = control-length m;
-    datalink = datalink-words;
-    instance = instance-words;
-    context = context-words;
-    statuses = status-words;
-    sequences = sequence-words;
-    windows = window-words;
+  pub says_exactly : SaysControl m (control_words m)
+  says_exactly = record {
+    long = control_length m;
+    datalink = datalink_words;
+    instance = instance_words;
+    context = context_words;
+    statuses = status_words;
+    sequences = sequence_words;
+    windows = window_words;
   }
 
 -- ---- a data message
-counted-says : (stated : Counted) → CountedSays stated (countedStated stated).tag (countedStated stated).first (countedStated stated).second
-counted-says Counted.Absent = (refl, refl, refl)
-counted-says (Counted.Given id sequence) = (refl, refl, refl)
+counted_says : (stated : Counted) → CountedSays stated (counted_stated stated).tag (counted_stated stated).first (counted_stated stated).second
+counted_says Counted.Absent = (refl, refl, refl)
+counted_says (Counted.Given id sequence) = (refl, refl, refl)
 
-channel-says : (stated : Channel) → ChannelSays stated (channelStated stated).tag (channelStated stated).first
-channel-says Channel.Absent = (refl, refl)
-channel-says (Channel.Given id) = (refl, refl)
+channel_says : (stated : Channel) → ChannelSays stated (channel_stated stated).tag (channel_stated stated).first
+channel_says Channel.Absent = (refl, refl)
+channel_says (Channel.Given id) = (refl, refl)
 
-expiration-says : (stated : Expiration) → ExpirationSays stated (expirationStated stated).tag (expirationStated stated).first
-expiration-says Expiration.Absent = (refl, refl)
-expiration-says (Expiration.Given time) = (refl, refl)
+expiration_says : (stated : Expiration) → ExpirationSays stated (expiration_stated stated).tag (expiration_stated stated).first
+expiration_says Expiration.Absent = (refl, refl)
+expiration_says (Expiration.Given time) = (refl, refl)
 
-pub data-says-exactly : (m : Data) (start size : ℕ) → SaysData m start size (dataWords m start size)
-unfolding dataWords
-data-says-exactly m start size = record {
+pub data_says_exactly : (m : Data) (start size : ℕ) → SaysData m start size (data_words m start size)
+unfolding data_words
+data_says_exactly m start size = record {
   long = refl;
-  datalink = datalink-says m.datalink;
-  sequence = counted-says m.sequence;
-  channel = channel-says m.channel;
-  expiration = expiration-says m.expiration;
+  datalink = datalink_says m.datalink;
+  sequence = counted_says m.sequence;
+  channel = channel_says m.channel;
+  expiration = expiration_says m.expiration;
   starts = refl;
   lasts = refl;
 }

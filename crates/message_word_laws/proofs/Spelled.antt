@@ -18,101 +18,101 @@ use Rattle.meaning.specs.declared.message.Channel.{Channel}
 use Rattle.meaning.specs.declared.message.Expiration.{Expiration}
 use Rattle.meaning.specs.declared.message.Control.{Control}
 use Rattle.meaning.specs.declared.message.Data.{Data}
-use Rattle.meaning.specs.Cells.{noStatus, noSequence, noWindow}
+use Rattle.meaning.specs.Cells.{no_status, no_sequence, no_window}
 use Rattle.lent_messages.specs.Layout.{CHANNEL-WORDS}
-use Rattle.lent_messages.specs.Stated.{datalinkStated, instanceStated, contextStated, statusStated, sequenceStated, windowStated, countedStated, channelStated, expirationStated}
-use Rattle.lent_messages.specs.Words.{headWords, wordsAt, joined, controlWords, controlSpelled, dataWords, dataSpelled}
-use Rattle.lent_messages.proofs.Back.{joined_at, control-length}
+use Rattle.lent_messages.specs.Stated.{datalink_stated, instance_stated, context_stated, status_stated, sequence_stated, window_stated, counted_stated, channel_stated, expiration_stated}
+use Rattle.lent_messages.specs.Words.{head_words, words_at, joined, control_words, control_spelled, data_words, data_spelled}
+use Rattle.lent_messages.proofs.Back.{joined_at, control_length}
 use Rattle.message_word_laws.specs.Plain.{Fits, PlainChannel, DatalinkRange, StatusRange, SequenceRange, WindowRange, CountedRange, ChannelRange, ExpirationRange, ControlRange, DataRange}
-use Rattle.message_word_laws.proofs.Plain.{spelled-exactly, data-exactly}
+use Rattle.message_word_laws.proofs.Plain.{spelled_exactly, data_exactly}
 
 -- ---- one thing that may be stated
 absent : (given value limit : ℕ) → 0 < given → Fits 0 given value limit
-absent given value limit h = record { tag_is = omega arith; value-is = λ same. absurd (omega (arith, same)) }
+absent given value limit h = record { tag_is = omega arith; value_is = λ same. absurd (omega (arith, same)) }
 
 stated : (given value limit : ℕ) → value < limit → Fits given given value limit
-stated given value limit h = record { tag_is = omega arith; value-is = λ same. h }
+stated given value limit h = record { tag_is = omega arith; value_is = λ same. h }
 
-datalink-fits : (d : Datalink) → DatalinkRange d → Fits (datalinkStated d).tag 1 (datalinkStated d).first 256
-datalink-fits Datalink.Absent h = absent 1 0 256 (omega arith)
-datalink-fits (Datalink.Given id) h = stated 1 id.0 256 h
+datalink_fits_lem : (d : Datalink) → DatalinkRange d → Fits (datalink_stated d).tag 1 (datalink_stated d).first 256
+datalink_fits_lem Datalink.Absent h = absent 1 0 256 (omega arith)
+datalink_fits_lem (Datalink.Given id) h = stated 1 id.0 256 h
 
-status-fits : (s : Status) → StatusRange s → Fits (statusStated s).tag 1 (statusStated s).first 256
-status-fits Status.Absent h = absent 1 0 256 (omega arith)
-status-fits (Status.Given value) h = stated 1 value 256 h
+status_fits : (s : Status) → StatusRange s → Fits (status_stated s).tag 1 (status_stated s).first 256
+status_fits Status.Absent h = absent 1 0 256 (omega arith)
+status_fits (Status.Given value) h = stated 1 value 256 h
 
-sequence-fits : (s : Sequence) → SequenceRange s → Fits (sequenceStated s).tag 1 (sequenceStated s).first 4294967296
-sequence-fits Sequence.Absent h = absent 1 0 4294967296 (omega arith)
-sequence-fits (Sequence.Given value) h = stated 1 value.0 4294967296 h
+sequence_fits : (s : Sequence) → SequenceRange s → Fits (sequence_stated s).tag 1 (sequence_stated s).first 4294967296
+sequence_fits Sequence.Absent h = absent 1 0 4294967296 (omega arith)
+sequence_fits (Sequence.Given value) h = stated 1 value.0 4294967296 h
 
-window-fits : (w : Window) → WindowRange w → Fits (windowStated w).tag 2 (windowStated w).first 4294967296
-window-fits Window.Absent h = absent 2 0 4294967296 (omega arith)
-window-fits Window.Empty h = record { tag_is = omega arith; value-is = λ same. absurd (omega (arith, same)) }
-window-fits (Window.Given value) h = stated 2 value.0 4294967296 h
+window_fits : (w : Window) → WindowRange w → Fits (window_stated w).tag 2 (window_stated w).first 4294967296
+window_fits Window.Absent h = absent 2 0 4294967296 (omega arith)
+window_fits Window.Empty h = record { tag_is = omega arith; value_is = λ same. absurd (omega (arith, same)) }
+window_fits (Window.Given value) h = stated 2 value.0 4294967296 h
 
-counted-fits : (c : Counted) → CountedRange c → Fits (countedStated c).tag 1 (countedStated c).first 256 × Fits (countedStated c).tag 1 (countedStated c).second 4294967296
-counted-fits Counted.Absent h = (absent 1 0 256 (omega arith), absent 1 0 4294967296 (omega arith))
-counted-fits (Counted.Given id value) h = (stated 1 id 256 h.0, stated 1 value.0 4294967296 h.1)
+counted_fits : (c : Counted) → CountedRange c → Fits (counted_stated c).tag 1 (counted_stated c).first 256 × Fits (counted_stated c).tag 1 (counted_stated c).second 4294967296
+counted_fits Counted.Absent h = (absent 1 0 256 (omega arith), absent 1 0 4294967296 (omega arith))
+counted_fits (Counted.Given id value) h = (stated 1 id 256 h.0, stated 1 value.0 4294967296 h.1)
 
-channel-fits : (c : Channel) → ChannelRange c → Fits (channelStated c).tag 1 (channelStated c).first 256
-channel-fits Channel.Absent h = absent 1 0 256 (omega arith)
-channel-fits (Channel.Given id) h = stated 1 id 256 h
+channel_fits_lem : (c : Channel) → ChannelRange c → Fits (channel_stated c).tag 1 (channel_stated c).first 256
+channel_fits_lem Channel.Absent h = absent 1 0 256 (omega arith)
+channel_fits_lem (Channel.Given id) h = stated 1 id 256 h
 
-expiration-fits : (e : Expiration) → ExpirationRange e → Fits (expirationStated e).tag 1 (expirationStated e).first 4294967296
-expiration-fits Expiration.Absent h = absent 1 0 4294967296 (omega arith)
-expiration-fits (Expiration.Given time) h = stated 1 time 4294967296 h
+expiration_fits : (e : Expiration) → ExpirationRange e → Fits (expiration_stated e).tag 1 (expiration_stated e).first 4294967296
+expiration_fits Expiration.Absent h = absent 1 0 4294967296 (omega arith)
+expiration_fits (Expiration.Given time) h = stated 1 time 4294967296 h
 
-instance-tag : (i : Instance) → (instanceStated i).tag ≤ 1
-instance-tag Instance.Absent = omega arith
-instance-tag (Instance.Given id size) = omega arith
+instance_tag : (i : Instance) → (instance_stated i).tag ≤ 1
+instance_tag Instance.Absent = omega arith
+instance_tag (Instance.Given id size) = omega arith
 
-context-tag : (c : Context) → (contextStated c).tag ≤ 1
-context-tag Context.Absent = omega arith
-context-tag (Context.Given bytes size) = omega arith
+context_tag_lem : (c : Context) → (context_stated c).tag ≤ 1
+context_tag_lem Context.Absent = omega arith
+context_tag_lem (Context.Given bytes size) = omega arith
 
 -- ---- a control message
 module _ (m : Control) where
   abbrev words_of : ℕ → List ℕ
-  words_of = wordsAt m.statuses m.sequences m.windows
+  words_of = words_at m.statuses m.sequences m.windows
 
   six : (id : ℕ) → length (words_of id) ≡ CHANNEL-WORDS
-  unfolding wordsAt
+  unfolding words_at
   six id = refl
 
   -- word by word, behind the first eight
-  pub word_at : (id k : ℕ) → id < 255 → k < 6 → get_or (controlWords m) (8 + 6 * id + k) 0 ≡ get_or (words_of id) k 0
-  unfolding controlWords
+  pub word_at : (id k : ℕ) → id < 255 → k < 6 → get_or (control_words m) (8 + 6 * id + k) 0 ≡ get_or (words_of id) k 0
+  unfolding control_words
   word_at id k h less =
       let place : 8 + 6 * id + k ≡ 8 + (6 * id + k) = omega arith in
-      rw place (get_or-append-add (headWords m.datalink m.instance m.context) (joined words_of CHANNEL-IDS) (6 * id + k) 0 ∙ joined_at words_of six CHANNEL-IDS id k h less)
+      rw place (get_or-append-add (head_words m.datalink m.instance m.context) (joined words_of CHANNEL-IDS) (6 * id + k) 0 ∙ joined_at words_of six CHANNEL-IDS id k h less)
 
-  channel-range : ControlRange m → (id : ℕ) → id < 255 → PlainChannel (controlWords m) (8 + 6 * id)
-  unfolding wordsAt
-  channel-range r id h = record {
-    status = rw (word_at id 0 h (omega arith), word_at id 1 h (omega arith)) (status-fits (get_or m.statuses id noStatus).status (r.statuses id h));
-    sequence = rw (word_at id 2 h (omega arith), word_at id 3 h (omega arith)) (sequence-fits (get_or m.sequences id noSequence).sequence (r.sequences id h));
-    window = rw (word_at id 4 h (omega arith), word_at id 5 h (omega arith)) (window-fits (get_or m.windows id noWindow).window (r.windows id h));
+  channel_range : ControlRange m → (id : ℕ) → id < 255 → PlainChannel (control_words m) (8 + 6 * id)
+  unfolding words_at
+  channel_range r id h = record {
+    status = rw (word_at id 0 h (omega arith), word_at id 1 h (omega arith)) (status_fits (get_or m.statuses id no_status).status (r.statuses id h));
+    sequence = rw (word_at id 2 h (omega arith), word_at id 3 h (omega arith)) (sequence_fits (get_or m.sequences id no_sequence).sequence (r.sequences id h));
+    window = rw (word_at id 4 h (omega arith), word_at id 5 h (omega arith)) (window_fits (get_or m.windows id no_window).window (r.windows id h));
   }
 
-  head-range : ControlRange m → Fits (get_or (controlWords m) 0 0) 1 (get_or (controlWords m) 1 0) 256 × ((get_or (controlWords m) 2 0 ≤ 1) × (get_or (controlWords m) 5 0 ≤ 1))
-  unfolding controlWords
-  head-range r = (datalink-fits m.datalink r.datalink, (instance-tag m.instance, context-tag m.context))
+  head_range : ControlRange m → Fits (get_or (control_words m) 0 0) 1 (get_or (control_words m) 1 0) 256 × ((get_or (control_words m) 2 0 ≤ 1) × (get_or (control_words m) 5 0 ≤ 1))
+  unfolding control_words
+  head_range r = (datalink_fits_lem m.datalink r.datalink, (instance_tag m.instance, context_tag_lem m.context))
 
-  pub control-spelled : ControlRange m → controlSpelled (controlWords m) ≡ true
-  control-spelled r =
-      let head = head-range r in
-      (spelled-exactly (controlWords m)).1 (record { long = control-length m; datalink = head.0; instance = head.1.0; context = head.1.1; channels = channel-range r })
+  pub control_spelled_lem : ControlRange m → control_spelled (control_words m) ≡ true
+  control_spelled_lem r =
+      let head = head_range r in
+      (spelled_exactly (control_words m)).1 (record { long = control_length m; datalink = head.0; instance = head.1.0; context = head.1.1; channels = channel_range r })
 
 -- ---- a data message
-pub data-spelled : (m : Data) (start size : ℕ) → DataRange m → dataSpelled (dataWords m start size) ≡ true
-unfolding dataWords
-data-spelled m start size r =
-    let counted = counted-fits m.sequence r.sequence in
-    (data-exactly (dataWords m start size)).1 (record {
+pub data_spelled_lem : (m : Data) (start size : ℕ) → DataRange m → data_spelled (data_words m start size) ≡ true
+unfolding data_words
+data_spelled_lem m start size r =
+    let counted = counted_fits m.sequence r.sequence in
+    (data_exactly (data_words m start size)).1 (record {
       long = refl;
-      datalink = datalink-fits m.datalink r.datalink;
-      counted-channel = counted.0;
-      counted-sequence = counted.1;
-      channel = channel-fits m.channel r.channel;
-      expiration = expiration-fits m.expiration r.expiration;
+      datalink = datalink_fits_lem m.datalink r.datalink;
+      counted_channel_lem = counted.0;
+      counted_sequence_lem = counted.1;
+      channel = channel_fits_lem m.channel r.channel;
+      expiration = expiration_fits m.expiration r.expiration;
     })

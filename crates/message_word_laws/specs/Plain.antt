@@ -9,12 +9,12 @@ use Rattle.meaning.specs.declared.message.Channel.{Channel}
 use Rattle.meaning.specs.declared.message.Expiration.{Expiration}
 use Rattle.meaning.specs.declared.message.Control.{Control}
 use Rattle.meaning.specs.declared.message.Data.{Data}
-use Rattle.meaning.specs.Cells.{noStatus, noSequence, noWindow}
+use Rattle.meaning.specs.Cells.{no_status, no_sequence, no_window}
 
 -- a tag that there is, and a value below the limit where the tag gives one
 pub record Fits (tag given value limit : ℕ) : Type 0 where
   pub tag_is : tag ≤ given
-  pub value-is : tag ≡ given → value < limit
+  pub value_is : tag ≡ given → value < limit
 
 -- the six words of a Channel ID: status, sequence, window
 pub record PlainChannel (words : List ℕ) (from : ℕ) : Type 0 where
@@ -34,8 +34,8 @@ pub record PlainControl (words : List ℕ) : Type 0 where
 pub record PlainData (words : List ℕ) : Type 0 where
   pub long : length words ≡ 11
   pub datalink : Fits (get_or words 0 0) 1 (get_or words 1 0) 256
-  pub counted-channel : Fits (get_or words 2 0) 1 (get_or words 3 0) 256
-  pub counted-sequence : Fits (get_or words 2 0) 1 (get_or words 4 0) 4294967296
+  pub counted_channel_lem : Fits (get_or words 2 0) 1 (get_or words 3 0) 256
+  pub counted_sequence_lem : Fits (get_or words 2 0) 1 (get_or words 4 0) 4294967296
   pub channel : Fits (get_or words 5 0) 1 (get_or words 6 0) 256
   pub expiration : Fits (get_or words 7 0) 1 (get_or words 8 0) 4294967296
 
@@ -54,16 +54,16 @@ pub record AlikeControl (words words' : List ℕ) : Type 0 where
   pub long : length words ≡ length words'
   pub datalink : Alike 1 (get_or words 0 0) (get_or words' 0 0) (get_or words 1 0) (get_or words' 1 0)
   pub instance : Alike 1 (get_or words 2 0) (get_or words' 2 0) (get_or words 3 0) (get_or words' 3 0)
-  pub instance-length : Alike 1 (get_or words 2 0) (get_or words' 2 0) (get_or words 4 0) (get_or words' 4 0)
+  pub instance_length_lem : Alike 1 (get_or words 2 0) (get_or words' 2 0) (get_or words 4 0) (get_or words' 4 0)
   pub context : Alike 1 (get_or words 5 0) (get_or words' 5 0) (get_or words 6 0) (get_or words' 6 0)
-  pub context-length : Alike 1 (get_or words 5 0) (get_or words' 5 0) (get_or words 7 0) (get_or words' 7 0)
+  pub context_length_lem : Alike 1 (get_or words 5 0) (get_or words' 5 0) (get_or words 7 0) (get_or words' 7 0)
   pub channels : (id : ℕ) → id < 255 → AlikeChannel words words' (8 + 6 * id)
 
 pub record AlikeData (words words' : List ℕ) : Type 0 where
   pub long : length words ≡ length words'
   pub datalink : Alike 1 (get_or words 0 0) (get_or words' 0 0) (get_or words 1 0) (get_or words' 1 0)
-  pub counted-channel : Alike 1 (get_or words 2 0) (get_or words' 2 0) (get_or words 3 0) (get_or words' 3 0)
-  pub counted-sequence : Alike 1 (get_or words 2 0) (get_or words' 2 0) (get_or words 4 0) (get_or words' 4 0)
+  pub counted_channel_lem : Alike 1 (get_or words 2 0) (get_or words' 2 0) (get_or words 3 0) (get_or words' 3 0)
+  pub counted_sequence_lem : Alike 1 (get_or words 2 0) (get_or words' 2 0) (get_or words 4 0) (get_or words' 4 0)
   pub channel : Alike 1 (get_or words 5 0) (get_or words' 5 0) (get_or words 6 0) (get_or words' 6 0)
   pub expiration : Alike 1 (get_or words 7 0) (get_or words' 7 0) (get_or words 8 0) (get_or words' 8 0)
 
@@ -99,9 +99,9 @@ ExpirationRange (Expiration.Given time) = time < 4294967296
 
 pub record ControlRange (m : Control) : Type 0 where
   pub datalink : DatalinkRange m.datalink
-  pub statuses : (id : ℕ) → id < 255 → StatusRange (get_or m.statuses id noStatus).status
-  pub sequences : (id : ℕ) → id < 255 → SequenceRange (get_or m.sequences id noSequence).sequence
-  pub windows : (id : ℕ) → id < 255 → WindowRange (get_or m.windows id noWindow).window
+  pub statuses : (id : ℕ) → id < 255 → StatusRange (get_or m.statuses id no_status).status
+  pub sequences : (id : ℕ) → id < 255 → SequenceRange (get_or m.sequences id no_sequence).sequence
+  pub windows : (id : ℕ) → id < 255 → WindowRange (get_or m.windows id no_window).window
 
 pub record DataRange (m : Data) : Type 0 where
   pub datalink : DatalinkRange m.datalink

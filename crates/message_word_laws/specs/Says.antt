@@ -11,7 +11,7 @@ use Rattle.meaning.specs.declared.message.Channel.{Channel}
 use Rattle.meaning.specs.declared.message.Expiration.{Expiration}
 use Rattle.meaning.specs.declared.message.Data.{Data}
 use Rattle.meaning.specs.declared.message.Control.{Control}
-use Rattle.meaning.specs.Cells.{noStatus, noSequence, noWindow}
+use Rattle.meaning.specs.Cells.{no_status, no_sequence, no_window}
 
 -- ---- a tag and what stands behind it
 abbrev pub DatalinkSays : Datalink → (tag value : ℕ) → Type 0
@@ -45,9 +45,9 @@ pub record SaysControl (m : Control) (words : List ℕ) : Type 0 where
   pub datalink : DatalinkSays m.datalink (get_or words 0 0) (get_or words 1 0)
   pub instance : InstanceSays m.instance (get_or words 2 0) (get_or words 3 0) (get_or words 4 0)
   pub context : ContextSays m.context (get_or words 5 0) (get_or words 6 0) (get_or words 7 0)
-  pub statuses : (id : ℕ) → id < 255 → StatusSays (get_or m.statuses id noStatus).status (get_or words (8 + 6 * id + 0) 0) (get_or words (8 + 6 * id + 1) 0)
-  pub sequences : (id : ℕ) → id < 255 → SequenceSays (get_or m.sequences id noSequence).sequence (get_or words (8 + 6 * id + 2) 0) (get_or words (8 + 6 * id + 3) 0)
-  pub windows : (id : ℕ) → id < 255 → WindowSays (get_or m.windows id noWindow).window (get_or words (8 + 6 * id + 4) 0) (get_or words (8 + 6 * id + 5) 0)
+  pub statuses : (id : ℕ) → id < 255 → StatusSays (get_or m.statuses id no_status).status (get_or words (8 + 6 * id + 0) 0) (get_or words (8 + 6 * id + 1) 0)
+  pub sequences : (id : ℕ) → id < 255 → SequenceSays (get_or m.sequences id no_sequence).sequence (get_or words (8 + 6 * id + 2) 0) (get_or words (8 + 6 * id + 3) 0)
+  pub windows : (id : ℕ) → id < 255 → WindowSays (get_or m.windows id no_window).window (get_or words (8 + 6 * id + 4) 0) (get_or words (8 + 6 * id + 5) 0)
 
 -- ---- and those of a data message
 abbrev pub CountedSays : Counted → (tag channel value : ℕ) → Type 0

@@ -14,8 +14,8 @@ use Rattle.meaning.specs.declared.message.Expiration.{Expiration}
 use Rattle.meaning.specs.declared.message.Counted.{Counted}
 use Rattle.meaning.specs.declared.message.Control.{Control}
 use Rattle.meaning.specs.declared.message.Data.{Data}
-use Rattle.text.specs.Laying.{decimalText}
-use Rattle.text.specs.Strings.{bytesText}
+use Rattle.text.specs.Laying.{decimal_text}
+use Rattle.text.specs.Strings.{bytes_text}
 
 -- the words, as bytes
 -- " "
@@ -71,77 +71,77 @@ abbrev pub REFUSED : List ℕ
 REFUSED = 114 ∷ 101 ∷ 102 ∷ 117 ∷ 115 ∷ 101 ∷ 100 ∷ 32 ∷ []
 
 -- a label and a number; a label and two
-abbrev pub oneNumber : List ℕ → ℕ → List (List ℕ)
-oneNumber label n = label ∷ (decimalText n ∷ [])
+abbrev pub one_number : List ℕ → ℕ → List (List ℕ)
+one_number label n = label ∷ (decimal_text n ∷ [])
 
-abbrev pub twoNumbers : List ℕ → ℕ → ℕ → List (List ℕ)
-twoNumbers label n m = label ∷ (decimalText n ∷ (SPACE ∷ (decimalText m ∷ [])))
+abbrev pub two_numbers : List ℕ → ℕ → ℕ → List (List ℕ)
+two_numbers label n m = label ∷ (decimal_text n ∷ (SPACE ∷ (decimal_text m ∷ [])))
 
-abbrev pub datalinkTexts : Datalink → List (List ℕ)
-datalinkTexts Datalink.Absent = []
-datalinkTexts (Datalink.Given d) = oneNumber SPACE d.0
+abbrev pub datalink_texts : Datalink → List (List ℕ)
+datalink_texts Datalink.Absent = []
+datalink_texts (Datalink.Given d) = one_number SPACE d.0
 
 -- `link LEN VALUE`
-abbrev pub instanceTexts : Instance → List (List ℕ)
-instanceTexts Instance.Absent = []
-instanceTexts (Instance.Given v n) = twoNumbers LINK n v.0
+abbrev pub instance_texts : Instance → List (List ℕ)
+instance_texts Instance.Absent = []
+instance_texts (Instance.Given v n) = two_numbers LINK n v.0
 
 -- `context HEX`; a Context has at most 8 bytes
-abbrev pub contextTexts : Context → List (List ℕ)
-contextTexts Context.Absent = []
-contextTexts (Context.Given b n) = CONTEXT ∷ (bytesText (bytes_of (min n LONGEST-NAME) b.0) ∷ [])
+abbrev pub context_texts : Context → List (List ℕ)
+context_texts Context.Absent = []
+context_texts (Context.Given b n) = CONTEXT ∷ (bytes_text (bytes_of (min n LONGEST-NAME) b.0) ∷ [])
 
 -- `status CHANNEL VALUE`
-abbrev pub statusTexts : ℕ → Status → List (List ℕ)
-statusTexts channel Status.Absent = []
-statusTexts channel (Status.Given s) = twoNumbers STATUS channel s
+abbrev pub status_texts : ℕ → Status → List (List ℕ)
+status_texts channel Status.Absent = []
+status_texts channel (Status.Given s) = two_numbers STATUS channel s
 
 -- `sequence CHANNEL VALUE`
-abbrev pub sequenceTexts : ℕ → Sequence → List (List ℕ)
-sequenceTexts channel Sequence.Absent = []
-sequenceTexts channel (Sequence.Given s) = twoNumbers SEQUENCE channel s.0
+abbrev pub sequence_texts : ℕ → Sequence → List (List ℕ)
+sequence_texts channel Sequence.Absent = []
+sequence_texts channel (Sequence.Given s) = two_numbers SEQUENCE channel s.0
 
 -- `window CHANNEL VALUE`, "`none` for VALUE where the option has no window"
-abbrev pub windowTexts : ℕ → Window → List (List ℕ)
-windowTexts channel Window.Absent = []
-windowTexts channel Window.Empty = oneNumber WINDOW channel ++ (NONE ∷ [])
-windowTexts channel (Window.Given w) = twoNumbers WINDOW channel w.0
+abbrev pub window_texts : ℕ → Window → List (List ℕ)
+window_texts channel Window.Absent = []
+window_texts channel Window.Empty = one_number WINDOW channel ++ (NONE ∷ [])
+window_texts channel (Window.Given w) = two_numbers WINDOW channel w.0
 
-abbrev pub countedTexts : Counted → List (List ℕ)
-countedTexts Counted.Absent = []
-countedTexts (Counted.Given channel s) = twoNumbers SEQUENCE channel s.0
+abbrev pub counted_texts : Counted → List (List ℕ)
+counted_texts Counted.Absent = []
+counted_texts (Counted.Given channel s) = two_numbers SEQUENCE channel s.0
 
 -- `channel CHANNEL`
-abbrev pub channelTexts : Channel → List (List ℕ)
-channelTexts Channel.Absent = []
-channelTexts (Channel.Given n) = oneNumber CHANNEL n
+abbrev pub channel_texts : Channel → List (List ℕ)
+channel_texts Channel.Absent = []
+channel_texts (Channel.Given n) = one_number CHANNEL n
 
 -- `expiration VALUE`
-abbrev pub expirationTexts : Expiration → List (List ℕ)
-expirationTexts Expiration.Absent = []
-expirationTexts (Expiration.Given t) = oneNumber EXPIRATION t
+abbrev pub expiration_texts : Expiration → List (List ℕ)
+expiration_texts Expiration.Absent = []
+expiration_texts (Expiration.Given t) = one_number EXPIRATION t
 
 -- a table from a channel on, by rising Channel ID
-unfoldable pub tableTexts : {A : Type 0} → (ℕ → A → List (List ℕ)) → ℕ → List A → List (List ℕ)
-tableTexts f channel [] = []
-tableTexts f channel (cell ∷ cells) = f channel cell ++ tableTexts f (suc channel) cells
+unfoldable pub table_texts : {A : Type 0} → (ℕ → A → List (List ℕ)) → ℕ → List A → List (List ℕ)
+table_texts f channel [] = []
+table_texts f channel (cell ∷ cells) = f channel cell ++ table_texts f (suc channel) cells
 
-abbrev pub tablesTexts : Control → List (List ℕ)
-tablesTexts m =
-    tableTexts (λ n cell. statusTexts n cell.status) 0 m.statuses
-    ++ (tableTexts (λ n cell. sequenceTexts n cell.sequence) 0 m.sequences
-    ++ tableTexts (λ n cell. windowTexts n cell.window) 0 m.windows)
+abbrev pub tables_texts : Control → List (List ℕ)
+tables_texts m =
+    table_texts (λ n cell. status_texts n cell.status) 0 m.statuses
+    ++ (table_texts (λ n cell. sequence_texts n cell.sequence) 0 m.sequences
+    ++ table_texts (λ n cell. window_texts n cell.window) 0 m.windows)
 
-unfoldable pub controlTexts : Control → List (List ℕ)
-controlTexts m = CONTROL ∷ (datalinkTexts m.datalink ++ (instanceTexts m.instance ++ (contextTexts m.context ++ tablesTexts m)))
+unfoldable pub control_texts : Control → List (List ℕ)
+control_texts m = CONTROL ∷ (datalink_texts m.datalink ++ (instance_texts m.instance ++ (context_texts m.context ++ tables_texts m)))
 
-unfoldable pub dataTexts : Data → List ℕ → List (List ℕ)
-dataTexts m packet =
+unfoldable pub data_texts : Data → List ℕ → List (List ℕ)
+data_texts m packet =
     DATA
-    ∷ (datalinkTexts m.datalink
-    ++ (countedTexts m.sequence
-    ++ (channelTexts m.channel ++ (expirationTexts m.expiration ++ (PACKET ∷ (bytesText packet ∷ []))))))
+    ∷ (datalink_texts m.datalink
+    ++ (counted_texts m.sequence
+    ++ (channel_texts m.channel ++ (expiration_texts m.expiration ++ (PACKET ∷ (bytes_text packet ∷ []))))))
 
 -- "A refusal is answered `refused NUMBER PLACE`."
-abbrev pub refusedTexts : Refusal → List (List ℕ)
-refusedTexts r = twoNumbers REFUSED r.number r.place
+abbrev pub refused_texts : Refusal → List (List ℕ)
+refused_texts r = two_numbers REFUSED r.number r.place

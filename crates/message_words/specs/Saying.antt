@@ -8,10 +8,10 @@ said out at [] = out
 said out at (text ∷ texts) = said (laid out at text) (behind (length out) at (length text)) texts
 
 -- the cursor behind them
-unfoldable pub cursorOf : List ℕ → ℕ → List (List ℕ) → ℕ
-cursorOf out at [] = at
-cursorOf out at (text ∷ texts) = cursorOf (laid out at text) (behind (length out) at (length text)) texts
+unfoldable pub cursor_of : List ℕ → ℕ → List (List ℕ) → ℕ
+cursor_of out at [] = at
+cursor_of out at (text ∷ texts) = cursor_of (laid out at text) (behind (length out) at (length text)) texts
 
 pub record Says (out : List ℕ) (at : ℕ) (texts : List (List ℕ)) (r : ℕ) (out' : List ℕ) : Type 0 where
-  pub cursor : r ≡ cursorOf out at texts
+  pub cursor : r ≡ cursor_of out at texts
   pub bytes : out' ≡ said out at texts

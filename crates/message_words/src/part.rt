@@ -2,10 +2,10 @@
 ghost use Rattle.std.specs.Prelude.{◌≡◌, [], ◌∷◌, min, length};
 ghost use Rattle.quantity.specs.Limits.{LONGEST-NAME};
 ghost use Rattle.wire.specs.Numbers.{bytes_of};
-ghost use Rattle.text.specs.Strings.{bytesText};
-ghost use Rattle.text.specs.Laying.{decimalText};
+ghost use Rattle.text.specs.Strings.{bytes_text};
+ghost use Rattle.text.specs.Laying.{decimal_text};
 ghost use Rattle.message_words.specs.Saying.{Says};
-ghost use Rattle.message_words.specs.Phrases.{SPACE, datalinkTexts, instanceTexts, contextTexts, statusTexts, sequenceTexts, windowTexts, countedTexts, channelTexts, expirationTexts};
+ghost use Rattle.message_words.specs.Phrases.{SPACE, datalink_texts, instance_texts, context_texts, status_texts, sequence_texts, window_texts, counted_texts, channel_texts, expiration_texts};
 
 use meaning::message::{
     Channel, Context, Counted, Datalink, Expiration, Instance, Sequence, Status, Window,
@@ -15,7 +15,7 @@ use text::{put, put_bytes, put_number};
 
 // A label and a number.
 pub fn labelled(out: &mut [u8], at: usize, label: &[u8], value: u64) -> usize
-    ensures { Says out.old at (label.now ∷ (decimalText value ∷ [])) result out.new }
+    ensures { Says out.old at (label.now ∷ (decimal_text value ∷ [])) result out.new }
 {
     let behind = put(out, at, label);
     put_number(out, behind, value)
@@ -23,7 +23,7 @@ pub fn labelled(out: &mut [u8], at: usize, label: &[u8], value: u64) -> usize
 
 // A label and two numbers.
 pub fn paired(out: &mut [u8], at: usize, label: &[u8], first: u64, second: u64) -> usize
-    ensures { Says out.old at (label.now ∷ (decimalText first ∷ (SPACE ∷ (decimalText second ∷ [])))) result out.new }
+    ensures { Says out.old at (label.now ∷ (decimal_text first ∷ (SPACE ∷ (decimal_text second ∷ [])))) result out.new }
 {
     let behind = labelled(out, at, label, first);
     labelled(out, behind, b" ", second)
@@ -31,7 +31,7 @@ pub fn paired(out: &mut [u8], at: usize, label: &[u8], first: u64, second: u64) 
 
 // The Datalink ID, first of a message's words.
 pub fn datalink(out: &mut [u8], at: usize, stated: Datalink) -> usize
-    ensures { Says out.old at (datalinkTexts stated) result out.new }
+    ensures { Says out.old at (datalink_texts stated) result out.new }
 {
     let Datalink::Given(id) = stated else {
         return at;
@@ -41,7 +41,7 @@ pub fn datalink(out: &mut [u8], at: usize, stated: Datalink) -> usize
 
 // ` link LENGTH NUMBER`.
 pub fn instance(out: &mut [u8], at: usize, stated: Instance) -> usize
-    ensures { Says out.old at (instanceTexts stated) result out.new }
+    ensures { Says out.old at (instance_texts stated) result out.new }
 {
     let Instance::Given(id, length) = stated else {
         return at;
@@ -62,7 +62,7 @@ fn shown(length: usize) -> usize
 
 // A number's bytes, as many as are lent, as a byte string.
 fn spelt(out: &mut [u8], at: usize, value: u64, bytes: &mut [u8]) -> usize
-    ensures { Says out.old at (bytesText (bytes_of (length bytes.old) value) ∷ []) result out.new }
+    ensures { Says out.old at (bytes_text (bytes_of (length bytes.old) value) ∷ []) result out.new }
 {
     wire::number::write(bytes, value);
     put_bytes(out, at, bytes)
@@ -70,7 +70,7 @@ fn spelt(out: &mut [u8], at: usize, value: u64, bytes: &mut [u8]) -> usize
 
 // ` context BYTES`.
 pub fn context(out: &mut [u8], at: usize, stated: Context) -> usize
-    ensures { Says out.old at (contextTexts stated) result out.new }
+    ensures { Says out.old at (context_texts stated) result out.new }
 {
     let Context::Given(value, length) = stated else {
         return at;
@@ -83,7 +83,7 @@ pub fn context(out: &mut [u8], at: usize, stated: Context) -> usize
 
 // ` status CHANNEL VALUE`.
 pub fn status(out: &mut [u8], at: usize, channel: u8, stated: Status) -> usize
-    ensures { Says out.old at (statusTexts channel stated) result out.new }
+    ensures { Says out.old at (status_texts channel stated) result out.new }
 {
     let Status::Given(value) = stated else {
         return at;
@@ -93,7 +93,7 @@ pub fn status(out: &mut [u8], at: usize, channel: u8, stated: Status) -> usize
 
 // ` sequence CHANNEL VALUE`.
 pub fn sequence(out: &mut [u8], at: usize, channel: u8, stated: Sequence) -> usize
-    ensures { Says out.old at (sequenceTexts channel stated) result out.new }
+    ensures { Says out.old at (sequence_texts channel stated) result out.new }
 {
     let Sequence::Given(value) = stated else {
         return at;
@@ -103,7 +103,7 @@ pub fn sequence(out: &mut [u8], at: usize, channel: u8, stated: Sequence) -> usi
 
 // ` window CHANNEL VALUE`, or `none` for one without the field.
 pub fn window(out: &mut [u8], at: usize, channel: u8, stated: Window) -> usize
-    ensures { Says out.old at (windowTexts channel stated) result out.new }
+    ensures { Says out.old at (window_texts channel stated) result out.new }
 {
     match stated {
         Window::Absent => at,
@@ -117,7 +117,7 @@ pub fn window(out: &mut [u8], at: usize, channel: u8, stated: Window) -> usize
 
 // A data message's Flow Sequence, with its channel.
 pub fn counted(out: &mut [u8], at: usize, stated: Counted) -> usize
-    ensures { Says out.old at (countedTexts stated) result out.new }
+    ensures { Says out.old at (counted_texts stated) result out.new }
 {
     let Counted::Given(channel, value) = stated else {
         return at;
@@ -127,7 +127,7 @@ pub fn counted(out: &mut [u8], at: usize, stated: Counted) -> usize
 
 // ` channel CHANNEL`.
 pub fn channel(out: &mut [u8], at: usize, stated: Channel) -> usize
-    ensures { Says out.old at (channelTexts stated) result out.new }
+    ensures { Says out.old at (channel_texts stated) result out.new }
 {
     let Channel::Given(id) = stated else {
         return at;
@@ -137,7 +137,7 @@ pub fn channel(out: &mut [u8], at: usize, stated: Channel) -> usize
 
 // ` expiration TIME`.
 pub fn expiration(out: &mut [u8], at: usize, stated: Expiration) -> usize
-    ensures { Says out.old at (expirationTexts stated) result out.new }
+    ensures { Says out.old at (expiration_texts stated) result out.new }
 {
     let Expiration::Given(time) = stated else {
         return at;

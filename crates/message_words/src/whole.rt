@@ -1,6 +1,6 @@
 // A whole meaning, and a refusal.
 ghost use Rattle.message_words.specs.Saying.{Says};
-ghost use Rattle.message_words.specs.Phrases.{tablesTexts, controlTexts, dataTexts, refusedTexts};
+ghost use Rattle.message_words.specs.Phrases.{tables_texts, control_texts, data_texts, refused_texts};
 
 use crate::part::{channel, context, counted, datalink, expiration, instance, paired};
 use crate::table::{sequences, statuses, windows};
@@ -10,7 +10,7 @@ use text::{put, put_bytes};
 
 // The three tables, one behind another.
 fn tables(out: &mut [u8], at: usize, message: Control) -> usize
-    ensures { Says out.old at (tablesTexts message) result out.new }
+    ensures { Says out.old at (tables_texts message) result out.new }
 {
     let cells = message.statuses;
     let flows = message.sequences;
@@ -22,7 +22,7 @@ fn tables(out: &mut [u8], at: usize, message: Control) -> usize
 
 // A control message's meaning in words.
 pub fn control(out: &mut [u8], at: usize, message: Control) -> usize
-    ensures { Says out.old at (controlTexts message) result out.new }
+    ensures { Says out.old at (control_texts message) result out.new }
 {
     let id = message.datalink;
     let link = message.instance;
@@ -36,7 +36,7 @@ pub fn control(out: &mut [u8], at: usize, message: Control) -> usize
 
 // A data message's meaning in words, and its packet.
 pub fn data(out: &mut [u8], at: usize, message: Data, packet: &[u8]) -> usize
-    ensures { Says out.old at (dataTexts message packet.now) result out.new }
+    ensures { Says out.old at (data_texts message packet.now) result out.new }
 {
     let id = message.datalink;
     let sequence = message.sequence;
@@ -53,7 +53,7 @@ pub fn data(out: &mut [u8], at: usize, message: Data, packet: &[u8]) -> usize
 
 // `refused NUMBER PLACE`.
 pub fn refused(out: &mut [u8], at: usize, refusal: Refusal) -> usize
-    ensures { Says out.old at (refusedTexts refusal) result out.new }
+    ensures { Says out.old at (refused_texts refusal) result out.new }
 {
     paired(
         out,

@@ -12,19 +12,19 @@ use Rattle.ips_channel_calls.specs.declared.offering.WithdrawAnswer.{WithdrawAns
 use Rattle.ips_channel_calls.specs.declared.asking.NextAnswer.{NextAnswer}
 use Rattle.ips_channel_calls.specs.Calls.{offered, asked, withdrawn}
 use Rattle.ips_state.specs.declared.StartAnswer.{StartAnswer}
-use Rattle.ips_state.specs.Limits.{waitsFit}
+use Rattle.ips_state.specs.Limits.{waits_fit}
 use Rattle.ips_radio.specs.declared.RadioAnswer.{RadioAnswer}
 use Rattle.ips_run.specs.Run.{Call, on, radio, pace, query}
-use Rattle.ips_calls.specs.Replies.{EndpointReply, ofChannel, ofRadio, ofPace, ofQuery, replyOf}
-use Rattle.ips_words_start.specs.Start.{startsIn, beginsIn, notStarted, configurationIn, freshWords}
-use Rattle.endpoint.specs.Lent.{Lent, lent, worldIn, afterIn}
-use Rattle.nespovarda.specs.Outcomes.{startedAs, outcomeOf, outputOf}
+use Rattle.ips_calls.specs.Replies.{EndpointReply, of_channel, of_radio, of_pace, of_query, reply_of}
+use Rattle.ips_words_start.specs.Start.{starts_in, begins_in, not_started, configuration_in, fresh_words}
+use Rattle.endpoint.specs.Lent.{Lent, lent, world_in, after_in}
+use Rattle.nespovarda.specs.Outcomes.{started_as, outcome_of, output_of}
 
 -- THE CONTRACT OF AN EXPORTED CALL: the numbers and the output of its reply, and what it leaves
 pub record Exported (c : Call) (l : Lent) (r : Answer) (out' : List ℕ) (l' : Lent) : Type 0 where
-  pub answer-is : r ≡ code_of (outcomeOf (replyOf c (worldIn l)))
-  pub output-is : out' ≡ outputOf (replyOf c (worldIn l))
-  pub lent_is : l' ≡ afterIn c l
+  pub answer_is : r ≡ code_of (outcome_of (reply_of c (world_in l)))
+  pub output_is : out' ≡ output_of (reply_of c (world_in l))
+  pub lent_is : l' ≡ after_in c l
 
 -- a call that takes no memory leaves any
 abbrev pub ExportedWithAny : Call → List ℕ → Answer → List ℕ → List ℕ → Type 0
@@ -32,53 +32,53 @@ ExportedWithAny c words r out' words' = (memory : List ℕ) → Exported c (lent
 
 -- THE CONTRACT OF AN EXPORTED START
 pub record StartExported (configuration words memory : List ℕ) (r : Answer) (words' memory' : List ℕ) : Type 0 where
-  pub answer-is : r
+  pub answer_is : r
       ≡ code_of
-      (startedAs (cond (startsIn configuration words memory) (cond (waitsFit (configurationIn configuration)) StartAnswer.Started (notStarted NO-WAIT)) (notStarted OUTSIDE-LIMITS)))
-  pub words_are : words' ≡ cond (beginsIn configuration words memory) (freshWords (configurationIn configuration)) words
-  pub memory-is : memory' ≡ cond (beginsIn configuration words memory) (replicate (length memory) 0) memory
+      (started_as (cond (starts_in configuration words memory) (cond (waits_fit (configuration_in configuration)) StartAnswer.Started (not_started NO-WAIT)) (not_started OUTSIDE-LIMITS)))
+  pub words_are : words' ≡ cond (begins_in configuration words memory) (fresh_words (configuration_in configuration)) words
+  pub memory_is : memory' ≡ cond (begins_in configuration words memory) (replicate (length memory) 0) memory
 
--- ---- THE REPLY THAT NUMBERS AND AN OUTPUT SAY (`exports-say`: each exported call's numbers say its reply): by the call's own kinds, else a refusal
-abbrev pub refusalIn : Answer → Refusal
-refusalIn r = record { number = r.kind - REFUSED; place = r.value }
+-- ---- THE REPLY THAT NUMBERS AND AN OUTPUT SAY (`exports_say`: each exported call's numbers say its reply): by the call's own kinds, else a refusal
+abbrev pub refusal_in : Answer → Refusal
+refusal_in r = record { number = r.kind - REFUSED; place = r.value }
 
-abbrev pub isKind : Answer → ℕ → Bool
-isKind r kind = eqb r.kind kind
+abbrev pub is_kind : Answer → ℕ → Bool
+is_kind r kind = eqb r.kind kind
 
-abbrev pub startSaid : Answer → StartAnswer
-startSaid r = cond (isKind r STARTED) StartAnswer.Started (StartAnswer.Refused (refusalIn r))
+abbrev pub start_said : Answer → StartAnswer
+start_said r = cond (is_kind r STARTED) StartAnswer.Started (StartAnswer.Refused (refusal_in r))
 
-abbrev pub offerSaid : Answer → OfferAnswer
-offerSaid r = cond (isKind r TAKEN) OfferAnswer.Taken (OfferAnswer.Refused (refusalIn r))
+abbrev pub offer_said : Answer → OfferAnswer
+offer_said r = cond (is_kind r TAKEN) OfferAnswer.Taken (OfferAnswer.Refused (refusal_in r))
 
-abbrev pub nextSaid : Answer → NextAnswer
-nextSaid r =
-    cond (isKind r SENT) (NextAnswer.Sent (record { 0 = r.value }))
-    (cond (isKind r NOTHING-WAITING) NextAnswer.NothingWaiting
-    (cond (isKind r NOT-OPERATIONAL) NextAnswer.NotOperational (cond (isKind r WINDOW-SHUT) NextAnswer.WindowShut (NextAnswer.Refused (refusalIn r)))))
+abbrev pub next_said : Answer → NextAnswer
+next_said r =
+    cond (is_kind r SENT) (NextAnswer.Sent (record { 0 = r.value }))
+    (cond (is_kind r NOTHING-WAITING) NextAnswer.NothingWaiting
+    (cond (is_kind r NOT-OPERATIONAL) NextAnswer.NotOperational (cond (is_kind r WINDOW-SHUT) NextAnswer.WindowShut (NextAnswer.Refused (refusal_in r)))))
 
-abbrev pub withdrawSaid : Answer → WithdrawAnswer
-withdrawSaid r = cond (isKind r WITHDRAWN) WithdrawAnswer.Withdrawn (WithdrawAnswer.Refused (refusalIn r))
+abbrev pub withdraw_said : Answer → WithdrawAnswer
+withdraw_said r = cond (is_kind r WITHDRAWN) WithdrawAnswer.Withdrawn (WithdrawAnswer.Refused (refusal_in r))
 
-abbrev pub radioSaid : Answer → RadioAnswer
-radioSaid r = cond (isKind r ACCEPTED) RadioAnswer.Accepted (cond (isKind r DUE) RadioAnswer.Due (RadioAnswer.Refused (refusalIn r)))
+abbrev pub radio_said : Answer → RadioAnswer
+radio_said r = cond (is_kind r ACCEPTED) RadioAnswer.Accepted (cond (is_kind r DUE) RadioAnswer.Due (RadioAnswer.Refused (refusal_in r)))
 
-abbrev pub paceSaid : Answer → PaceAnswer
-paceSaid r =
-    cond (isKind r QUIET) PaceAnswer.Quiet
-    (cond (isKind r QUERY-DUE) PaceAnswer.Due
-    (cond (isKind r SILENT) PaceAnswer.Silent (cond (isKind r QUERY-DUE-SILENT) PaceAnswer.DueSilent (PaceAnswer.Refused (refusalIn r)))))
+abbrev pub pace_said : Answer → PaceAnswer
+pace_said r =
+    cond (is_kind r QUIET) PaceAnswer.Quiet
+    (cond (is_kind r QUERY-DUE) PaceAnswer.Due
+    (cond (is_kind r SILENT) PaceAnswer.Silent (cond (is_kind r QUERY-DUE-SILENT) PaceAnswer.DueSilent (PaceAnswer.Refused (refusal_in r)))))
 
-abbrev pub writeSaid : Answer → WriteAnswer
-writeSaid r = cond (isKind r WROTE) (WriteAnswer.Wrote (record { 0 = r.value })) (WriteAnswer.Refused (refusalIn r))
+abbrev pub write_said : Answer → WriteAnswer
+write_said r = cond (is_kind r WROTE) (WriteAnswer.Wrote (record { 0 = r.value })) (WriteAnswer.Refused (refusal_in r))
 
-abbrev pub replySaid : Call → Answer → List ℕ → EndpointReply
-replySaid (on id (rules.offer packet time)) r out = ofChannel (offered (offerSaid r))
-replySaid (on id (rules.next time before)) r out = ofChannel (asked (nextSaid r) out)
-replySaid (on id rules.withdraw) r out = ofChannel (withdrawn (withdrawSaid r))
-replySaid (radio time datagram) r out = ofRadio (radioSaid r)
-replySaid (pace time) r out = ofPace (paceSaid r)
-replySaid (query before) r out = ofQuery (writeSaid r) out
+abbrev pub reply_said : Call → Answer → List ℕ → EndpointReply
+reply_said (on id (rules.offer packet time)) r out = of_channel (offered (offer_said r))
+reply_said (on id (rules.next time before)) r out = of_channel (asked (next_said r) out)
+reply_said (on id rules.withdraw) r out = of_channel (withdrawn (withdraw_said r))
+reply_said (radio time datagram) r out = of_radio (radio_said r)
+reply_said (pace time) r out = of_pace (pace_said r)
+reply_said (query before) r out = of_query (write_said r) out
 
 -- ---- any sequence of exported calls, "each taking the state and the lent memory as the one before left them": what the caller is told of each
 pub record Told : Type 0 where
@@ -89,7 +89,7 @@ pub data RanExported : Lent → List Call → List Told → Lent → Type 0 wher
   over : {l : Lent} → RanExported l [] [] l
   ran : {l l' last : Lent} {c : Call} {t : Told} {cs : List Call} {ts : List Told} → Exported c l t.answer t.out l' → RanExported l' cs ts last → RanExported l (c ∷ cs) (t ∷ ts) last
 
-abbrev pub repliesSaid : List Call → List Told → List EndpointReply
-repliesSaid [] ts = []
-repliesSaid (c ∷ cs) [] = []
-repliesSaid (c ∷ cs) (t ∷ ts) = replySaid c t.answer t.out ∷ repliesSaid cs ts
+abbrev pub replies_said : List Call → List Told → List EndpointReply
+replies_said [] ts = []
+replies_said (c ∷ cs) [] = []
+replies_said (c ∷ cs) (t ∷ ts) = reply_said c t.answer t.out ∷ replies_said cs ts

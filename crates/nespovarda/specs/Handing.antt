@@ -3,22 +3,22 @@ use Rattle.std.specs.Prelude.{ℕ, cond, List, [], ◌∷◌, ◌≡◌, length}
 use Rattle.answer_codes.specs.declared.Answer.{Answer}
 use Rattle.answer_codes.specs.Codes.{code_of, OFFERED}
 use Rattle.ips_run.specs.Run.{Call}
-use Rattle.endpoint.specs.Lent.{Lent, worldIn}
+use Rattle.endpoint.specs.Lent.{Lent, world_in}
 use Rattle.handful.specs.declared.HandfulAnswer.{HandfulAnswer}
-use Rattle.handful.specs.Handful.{Handful, handfulAnswer, stands_for, leftBy, answersAfter}
+use Rattle.handful.specs.Handful.{Handful, handful_answer, stands_for, left_by, answers_after}
 use Rattle.handful_laws.specs.Acts.{Act, single, several, ActReply, one, each}
-use Rattle.nespovarda.specs.Outcomes.{handedAs}
-use Rattle.nespovarda.specs.Exports.{Exported, Told, refusalIn, isKind, replySaid}
+use Rattle.nespovarda.specs.Outcomes.{handed_as}
+use Rattle.nespovarda.specs.Exports.{Exported, Told, refusal_in, is_kind, reply_said}
 
 -- THE CONTRACT OF AN EXPORTED HANDFUL
 pub record HandfulExported (h : Handful) (l : Lent) (answers : List ℕ) (r : Answer) (l' : Lent) (answers' : List ℕ) : Type 0 where
-  pub answer-is : r ≡ code_of (handedAs (handfulAnswer h (length answers) (worldIn l)))
-  pub lent_is : l' ≡ leftBy h.time (stands_for h (length answers) (worldIn l)) l
-  pub answers-are : answers' ≡ answersAfter h l answers
+  pub answer_is : r ≡ code_of (handed_as (handful_answer h (length answers) (world_in l)))
+  pub lent_is : l' ≡ left_by h.time (stands_for h (length answers) (world_in l)) l
+  pub answers_are : answers' ≡ answers_after h l answers
 
--- the answer that its numbers say (`handful-exported`)
-abbrev pub handfulSaid : Answer → HandfulAnswer
-handfulSaid r = cond (isKind r OFFERED) HandfulAnswer.Offered (HandfulAnswer.Refused (refusalIn r))
+-- the answer that its numbers say (`handful_exported`)
+abbrev pub handful_said : Answer → HandfulAnswer
+handful_said r = cond (is_kind r OFFERED) HandfulAnswer.Offered (HandfulAnswer.Refused (refusal_in r))
 
 -- ---- any sequence of exported calls with handfuls among them: of a handful the caller is told its two numbers, and sees the lent answers after it
 pub data RanExportedActs : Lent → List Act → List Told → Lent → Type 0 where
@@ -29,11 +29,11 @@ pub data RanExportedActs : Lent → List Act → List Told → Lent → Type 0 w
       → HandfulExported h l answers t.answer l' t.out → RanExportedActs l' acts ts last → RanExportedActs l (several h answers ∷ acts) (t ∷ ts) last
 
 -- the replies that these say
-abbrev pub actSaid : Act → Told → ActReply
-actSaid (single c) t = one (replySaid c t.answer t.out)
-actSaid (several h answers) t = each (handfulSaid t.answer) t.out
+abbrev pub act_said : Act → Told → ActReply
+act_said (single c) t = one (reply_said c t.answer t.out)
+act_said (several h answers) t = each (handful_said t.answer) t.out
 
-abbrev pub actsSaid : List Act → List Told → List ActReply
-actsSaid [] ts = []
-actsSaid (act ∷ acts) [] = []
-actsSaid (act ∷ acts) (t ∷ ts) = actSaid act t ∷ actsSaid acts ts
+abbrev pub acts_said : List Act → List Told → List ActReply
+acts_said [] ts = []
+acts_said (act ∷ acts) [] = []
+acts_said (act ∷ acts) (t ∷ ts) = act_said act t ∷ acts_said acts ts

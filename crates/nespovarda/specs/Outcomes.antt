@@ -1,6 +1,6 @@
 -- The outcome of each call: its answer without the output's bytes.
 use Rattle.std.specs.Prelude.{ℕ, List, []}
-use Rattle.answer_codes.specs.Codes.{Outcome, refusedAs, writtenAs}
+use Rattle.answer_codes.specs.Codes.{Outcome, refused_as, written_as}
 use Rattle.pacer.specs.declared.PaceAnswer.{PaceAnswer}
 use Rattle.ips_channel_calls.specs.declared.offering.OfferAnswer.{OfferAnswer}
 use Rattle.ips_channel_calls.specs.declared.offering.WithdrawAnswer.{WithdrawAnswer}
@@ -8,57 +8,57 @@ use Rattle.ips_channel_calls.specs.declared.asking.NextAnswer.{NextAnswer}
 use Rattle.ips_channel_calls.specs.Calls.{offered, asked, withdrawn}
 use Rattle.ips_state.specs.declared.StartAnswer.{StartAnswer}
 use Rattle.ips_radio.specs.declared.RadioAnswer.{RadioAnswer}
-use Rattle.ips_calls.specs.Replies.{EndpointReply, ofChannel, ofRadio, ofPace, ofQuery}
+use Rattle.ips_calls.specs.Replies.{EndpointReply, of_channel, of_radio, of_pace, of_query}
 use Rattle.handful.specs.declared.HandfulAnswer.{HandfulAnswer}
 
-abbrev pub startedAs : StartAnswer → Outcome
-startedAs StartAnswer.Started = Outcome.started
-startedAs (StartAnswer.Refused refusal) = refusedAs refusal
+abbrev pub started_as : StartAnswer → Outcome
+started_as StartAnswer.Started = Outcome.started
+started_as (StartAnswer.Refused refusal) = refused_as refusal
 
-abbrev pub offeredAs : OfferAnswer → Outcome
-offeredAs OfferAnswer.Taken = Outcome.taken
-offeredAs (OfferAnswer.Refused refusal) = refusedAs refusal
+abbrev pub offered_as : OfferAnswer → Outcome
+offered_as OfferAnswer.Taken = Outcome.taken
+offered_as (OfferAnswer.Refused refusal) = refused_as refusal
 
-abbrev pub askedAs : NextAnswer → Outcome
-askedAs (NextAnswer.Sent bytes) = Outcome.sent bytes.0
-askedAs NextAnswer.NothingWaiting = Outcome.nothing-waiting
-askedAs NextAnswer.NotOperational = Outcome.not-operational
-askedAs NextAnswer.WindowShut = Outcome.window-shut
-askedAs (NextAnswer.Refused refusal) = refusedAs refusal
+abbrev pub asked_as : NextAnswer → Outcome
+asked_as (NextAnswer.Sent bytes) = Outcome.sent bytes.0
+asked_as NextAnswer.NothingWaiting = Outcome.nothing_waiting
+asked_as NextAnswer.NotOperational = Outcome.not_operational
+asked_as NextAnswer.WindowShut = Outcome.window_shut
+asked_as (NextAnswer.Refused refusal) = refused_as refusal
 
-abbrev pub withdrawnAs : WithdrawAnswer → Outcome
-withdrawnAs WithdrawAnswer.Withdrawn = Outcome.withdrawn
-withdrawnAs (WithdrawAnswer.Refused refusal) = refusedAs refusal
+abbrev pub withdrawn_as : WithdrawAnswer → Outcome
+withdrawn_as WithdrawAnswer.Withdrawn = Outcome.withdrawn
+withdrawn_as (WithdrawAnswer.Refused refusal) = refused_as refusal
 
-abbrev pub heardAs : RadioAnswer → Outcome
-heardAs RadioAnswer.Accepted = Outcome.accepted
-heardAs RadioAnswer.Due = Outcome.due
-heardAs (RadioAnswer.Refused refusal) = refusedAs refusal
+abbrev pub heard_as : RadioAnswer → Outcome
+heard_as RadioAnswer.Accepted = Outcome.accepted
+heard_as RadioAnswer.Due = Outcome.due
+heard_as (RadioAnswer.Refused refusal) = refused_as refusal
 
-abbrev pub pacedAs : PaceAnswer → Outcome
-pacedAs PaceAnswer.Quiet = Outcome.quiet
-pacedAs PaceAnswer.Due = Outcome.query-due
-pacedAs PaceAnswer.Silent = Outcome.silent
-pacedAs PaceAnswer.DueSilent = Outcome.query-due-silent
-pacedAs (PaceAnswer.Refused refusal) = refusedAs refusal
+abbrev pub paced_as : PaceAnswer → Outcome
+paced_as PaceAnswer.Quiet = Outcome.quiet
+paced_as PaceAnswer.Due = Outcome.query_due
+paced_as PaceAnswer.Silent = Outcome.silent
+paced_as PaceAnswer.DueSilent = Outcome.query_due_silent
+paced_as (PaceAnswer.Refused refusal) = refused_as refusal
 
-abbrev pub handedAs : HandfulAnswer → Outcome
-handedAs HandfulAnswer.Offered = Outcome.offered
-handedAs (HandfulAnswer.Refused refusal) = refusedAs refusal
+abbrev pub handed_as : HandfulAnswer → Outcome
+handed_as HandfulAnswer.Offered = Outcome.offered
+handed_as (HandfulAnswer.Refused refusal) = refused_as refusal
 
-abbrev pub outcomeOf : EndpointReply → Outcome
-outcomeOf (ofChannel (offered answer)) = offeredAs answer
-outcomeOf (ofChannel (asked answer out)) = askedAs answer
-outcomeOf (ofChannel (withdrawn answer)) = withdrawnAs answer
-outcomeOf (ofRadio answer) = heardAs answer
-outcomeOf (ofPace answer) = pacedAs answer
-outcomeOf (ofQuery answer out) = writtenAs answer
+abbrev pub outcome_of : EndpointReply → Outcome
+outcome_of (of_channel (offered answer)) = offered_as answer
+outcome_of (of_channel (asked answer out)) = asked_as answer
+outcome_of (of_channel (withdrawn answer)) = withdrawn_as answer
+outcome_of (of_radio answer) = heard_as answer
+outcome_of (of_pace answer) = paced_as answer
+outcome_of (of_query answer out) = written_as answer
 
 -- the output's bytes after it; none where no output is lent
-abbrev pub outputOf : EndpointReply → List ℕ
-outputOf (ofChannel (offered answer)) = []
-outputOf (ofChannel (asked answer out)) = out
-outputOf (ofChannel (withdrawn answer)) = []
-outputOf (ofRadio answer) = []
-outputOf (ofPace answer) = []
-outputOf (ofQuery answer out) = out
+abbrev pub output_of : EndpointReply → List ℕ
+output_of (of_channel (offered answer)) = []
+output_of (of_channel (asked answer out)) = out
+output_of (of_channel (withdrawn answer)) = []
+output_of (of_radio answer) = []
+output_of (of_pace answer) = []
+output_of (of_query answer out) = out

@@ -1,7 +1,7 @@
 // The answer of each call as two numbers.
 ghost use Rattle.std.specs.Prelude.{◌≡◌};
 ghost use Rattle.answer_codes.specs.Codes.{code_of};
-ghost use Rattle.nespovarda.specs.Outcomes.{startedAs, offeredAs, askedAs, withdrawnAs, heardAs, pacedAs, handedAs};
+ghost use Rattle.nespovarda.specs.Outcomes.{started_as, offered_as, asked_as, withdrawn_as, heard_as, paced_as, handed_as};
 
 use answer_codes::{
     ACCEPTED, Answer, DUE, NOT_OPERATIONAL, NOTHING_WAITING, OFFERED, QUERY_DUE, QUERY_DUE_SILENT,
@@ -11,7 +11,7 @@ use endpoint::{NextAnswer, OfferAnswer, PaceAnswer, RadioAnswer, StartAnswer, Wi
 use handful::HandfulAnswer;
 
 pub(crate) fn of_start(answer: StartAnswer) -> Answer
-    ensures { result ≡ code_of (startedAs answer) }
+    ensures { result ≡ code_of (started_as answer) }
 {
     match answer {
         StartAnswer::Started => plain(STARTED),
@@ -20,7 +20,7 @@ pub(crate) fn of_start(answer: StartAnswer) -> Answer
 }
 
 pub(crate) fn of_offer(answer: OfferAnswer) -> Answer
-    ensures { result ≡ code_of (offeredAs answer) }
+    ensures { result ≡ code_of (offered_as answer) }
 {
     match answer {
         OfferAnswer::Taken => plain(TAKEN),
@@ -29,7 +29,7 @@ pub(crate) fn of_offer(answer: OfferAnswer) -> Answer
 }
 
 pub(crate) fn of_next(answer: NextAnswer) -> Answer
-    ensures { result ≡ code_of (askedAs answer) }
+    ensures { result ≡ code_of (asked_as answer) }
 {
     match answer {
         NextAnswer::Sent(length) => counted(SENT, length.0),
@@ -41,7 +41,7 @@ pub(crate) fn of_next(answer: NextAnswer) -> Answer
 }
 
 pub(crate) fn of_withdraw(answer: WithdrawAnswer) -> Answer
-    ensures { result ≡ code_of (withdrawnAs answer) }
+    ensures { result ≡ code_of (withdrawn_as answer) }
 {
     match answer {
         WithdrawAnswer::Withdrawn => plain(WITHDRAWN),
@@ -50,7 +50,7 @@ pub(crate) fn of_withdraw(answer: WithdrawAnswer) -> Answer
 }
 
 pub(crate) fn of_radio(answer: RadioAnswer) -> Answer
-    ensures { result ≡ code_of (heardAs answer) }
+    ensures { result ≡ code_of (heard_as answer) }
 {
     match answer {
         RadioAnswer::Accepted => plain(ACCEPTED),
@@ -60,7 +60,7 @@ pub(crate) fn of_radio(answer: RadioAnswer) -> Answer
 }
 
 pub(crate) fn of_pace(answer: PaceAnswer) -> Answer
-    ensures { result ≡ code_of (pacedAs answer) }
+    ensures { result ≡ code_of (paced_as answer) }
 {
     match answer {
         PaceAnswer::Quiet => plain(QUIET),
@@ -72,7 +72,7 @@ pub(crate) fn of_pace(answer: PaceAnswer) -> Answer
 }
 
 pub(crate) fn of_handful(answer: HandfulAnswer) -> Answer
-    ensures { result ≡ code_of (handedAs answer) }
+    ensures { result ≡ code_of (handed_as answer) }
 {
     match answer {
         HandfulAnswer::Offered => plain(OFFERED),

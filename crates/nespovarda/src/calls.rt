@@ -1,11 +1,11 @@
 // The calls on a state in lent words.
 ghost use Rattle.std.specs.Prelude.{[], ◌≡◌};
-ghost use Rattle.store.specs.Packets.{packetFor};
+ghost use Rattle.store.specs.Packets.{packet_for};
 ghost use Rattle.ips_channel_rules.specs.Rules as rules;
 ghost use Rattle.ips_run.specs.Run.{on};
 ghost use Rattle.ips_run.specs.Run as run;
 ghost use Rattle.endpoint.specs.Lent.{lent};
-ghost use Rattle.endpoint.specs.Shown.{wordsNeeded};
+ghost use Rattle.endpoint.specs.Shown.{words_needed};
 ghost use Rattle.nespovarda.specs.Exports.{Exported, ExportedWithAny, StartExported};
 
 use crate::answer;
@@ -15,7 +15,7 @@ use ips_words::waiting;
 // How many words a state of so many channels asks for; 0 where no state has so many.
 #[unsafe(no_mangle)]
 pub extern "C" fn nespovarda_words(channels: u64) -> u64
-    ensures { result ≡ wordsNeeded channels }
+    ensures { result ≡ words_needed channels }
 {
     waiting::wide(endpoint::words_for(waiting::narrow(channels)))
 }
@@ -40,7 +40,7 @@ pub extern "C" fn nespovarda_offer(
     expiry: u64,
     time: u64,
 ) -> Answer
-    ensures { Exported (on channel (rules.offer (packetFor packet.now expiry) time)) (lent words.old memory.old) result [] (lent words.new memory.new) }
+    ensures { Exported (on channel (rules.offer (packet_for packet.now expiry) time)) (lent words.old memory.old) result [] (lent words.new memory.new) }
 {
     answer::of_offer(endpoint::offer(words, memory, channel, packet, expiry, time))
 }

@@ -1,8 +1,8 @@
 // What stands in the words, as numbers. Nothing of the state is changed.
 ghost use Rattle.std.specs.Prelude.{◌≡◌, ◌≤◌};
 ghost use Rattle.quantity.specs.Limits.{MOST-WAITING};
-ghost use Rattle.ips_words.specs.Words.{stateIn};
-ghost use Rattle.nespovarda.specs.Shown.{channelNumbers, keptNumbers, pacerNumbers, WaitingAt, ShowsChannel, ShowsWaiting, ShowsKept, ShowsPacer};
+ghost use Rattle.ips_words.specs.Words.{state_in};
+ghost use Rattle.nespovarda.specs.Shown.{channel_numbers, kept_numbers, pacer_numbers, WaitingAt, ShowsChannel, ShowsWaiting, ShowsKept, ShowsPacer};
 
 use answer_codes::{Answer, KEPT, NONE_THERE, PACER_SHOWN, SHOWN, plain, refused};
 use endpoint::{Channel, KeptAnswer, Pacer, PacerAnswer, Place, Refusal};
@@ -21,7 +21,7 @@ pub const PACER_NUMBERS: usize = 5;
 
 // Reported or not, status, flow state, window, sequence, latest time, how many packets wait, and where the store starts and how long it is.
 fn show(channel: Channel, start: usize, shown: &mut [u64; CHANNEL_NUMBERS])
-    ensures { shown.new ≡ channelNumbers channel start }
+    ensures { shown.new ≡ channel_numbers channel start }
 {
     let setting = channel.setting;
     let status = channel.status;
@@ -47,7 +47,7 @@ pub extern "C" fn nespovarda_show(
     channel: u8,
     shown: &mut [u64; CHANNEL_NUMBERS],
 ) -> Answer
-    ensures { ShowsChannel (stateIn words.now) channel shown.old result shown.new }
+    ensures { ShowsChannel (state_in words.now) channel shown.old result shown.new }
 {
     let found = endpoint::find_channel(words, channel);
     let place = found.place;
@@ -82,7 +82,7 @@ pub extern "C" fn nespovarda_waiting(
     position: u64,
     shown: &mut [u64; WAITING_NUMBERS],
 ) -> Answer
-    ensures { ShowsWaiting (stateIn words.now) channel position shown.old result shown.new }
+    ensures { ShowsWaiting (state_in words.now) channel position shown.old result shown.new }
 {
     let found = endpoint::find_channel(words, channel);
     let place = found.place;
@@ -94,7 +94,7 @@ pub extern "C" fn nespovarda_waiting(
 
 // Of each the length, 0 where there is none, and the number that the bytes spell.
 fn show_kept(link: Instance, kept: Context, shown: &mut [u64; KEPT_NUMBERS])
-    ensures { shown.new ≡ keptNumbers link kept }
+    ensures { shown.new ≡ kept_numbers link kept }
 {
     let given = stated::instance(link);
     let before = stated::context(kept);
@@ -104,7 +104,7 @@ fn show_kept(link: Instance, kept: Context, shown: &mut [u64; KEPT_NUMBERS])
 // `KEPT` with the Link Instance as last given and the Context of the last accepted control message; or 19.
 #[unsafe(no_mangle)]
 pub extern "C" fn nespovarda_kept(words: &[u64], shown: &mut [u64; KEPT_NUMBERS]) -> Answer
-    ensures { ShowsKept (stateIn words.now) shown.old result shown.new }
+    ensures { ShowsKept (state_in words.now) shown.old result shown.new }
 {
     match endpoint::kept(words) {
         KeptAnswer::Kept(link, context) => {
@@ -117,7 +117,7 @@ pub extern "C" fn nespovarda_kept(words: &[u64], shown: &mut [u64; KEPT_NUMBERS]
 
 // HelloTime and silence limit, the clock, and when a query was last due and a control message last accepted.
 fn show_pacer(pacer: Pacer, shown: &mut [u64; PACER_NUMBERS])
-    ensures { shown.new ≡ pacerNumbers pacer }
+    ensures { shown.new ≡ pacer_numbers pacer }
 {
     *shown = [
         pacer.hello,
@@ -131,7 +131,7 @@ fn show_pacer(pacer: Pacer, shown: &mut [u64; PACER_NUMBERS])
 // `PACER_SHOWN` and the pacer's numbers; or 19.
 #[unsafe(no_mangle)]
 pub extern "C" fn nespovarda_pacer(words: &[u64], shown: &mut [u64; PACER_NUMBERS]) -> Answer
-    ensures { ShowsPacer (stateIn words.now) shown.old result shown.new }
+    ensures { ShowsPacer (state_in words.now) shown.old result shown.new }
 {
     match endpoint::pacer(words) {
         PacerAnswer::Shown(pacer) => {

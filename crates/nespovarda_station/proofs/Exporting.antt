@@ -9,13 +9,13 @@ use Rattle.radio_end_state.specs.Calls.{After}
 use Rattle.radio_end_telling.specs.Left.{Left}
 use Rattle.radio_end_start.specs.declared.StartAnswer.{StartAnswer}
 use Rattle.radio_end_start.specs.Start.{StartedIn}
-use Rattle.nespovarda_station.specs.Outcomes.{startedAs, saidAs}
+use Rattle.nespovarda_station.specs.Outcomes.{started_as, said_as}
 use Rattle.nespovarda_station.specs.Exports.{Exported, StartExported}
 
-pub exports : {after : After} {words words' out' : List ℕ} {answer : Answer} → Left after words answer words' out' → (r : codes.Answer) → r ≡ code_of (saidAs answer)
+pub exports : {after : After} {words words' out' : List ℕ} {answer : Answer} → Left after words answer words' out' → (r : codes.Answer) → r ≡ code_of (said_as answer)
     → Exported after words r words' out'
-exports h r e = record { answer-is = e ∙ ap (λ (a : Answer). code_of (saidAs a)) h.answer-is; words_are = h.words_are; output-is = h.output-is }
+exports h r e = record { answer_is = e ∙ ap (λ (a : Answer). code_of (said_as a)) h.answer_is; words_are = h.words_are; output_is = h.output_is }
 
-pub start-exports : {configuration words words' : List ℕ} {answer : StartAnswer} → StartedIn configuration words answer words' → (r : codes.Answer) → r ≡ code_of (startedAs answer)
+pub start_exports : {configuration words words' : List ℕ} {answer : StartAnswer} → StartedIn configuration words answer words' → (r : codes.Answer) → r ≡ code_of (started_as answer)
     → StartExported configuration words r words'
-start-exports h r e = record { answer-is = e ∙ ap (λ (a : StartAnswer). code_of (startedAs a)) h.answer-is; words_are = h.words_are }
+start_exports h r e = record { answer_is = e ∙ ap (λ (a : StartAnswer). code_of (started_as a)) h.answer_is; words_are = h.words_are }

@@ -10,58 +10,58 @@ use Rattle.meaning.specs.declared.message.Instance.{Instance}
 use Rattle.meaning.specs.declared.message.Context.{Context}
 use Rattle.meaning.specs.declared.message.Window.{Window}
 use Rattle.answer_codes.specs.declared.Answer.{Answer}
-use Rattle.lent_messages.specs.Stated.{windowStated}
+use Rattle.lent_messages.specs.Stated.{window_stated}
 use Rattle.radio_flow.specs.declared.Highest.{Highest}
-use Rattle.radio_end_words.specs.Words.{highestTag, highestValue}
+use Rattle.radio_end_words.specs.Words.{highest_tag, highest_value}
 use Rattle.radio_end_state.specs.declared.channel.Channel.{Channel}
-use Rattle.radio_end_state.specs.Channel.{windowNow}
-use Rattle.radio_end_state.specs.State.{State, channelAt}
-use Rattle.radio_end_state.specs.Limits.{isConfigured, indexIn}
-use Rattle.radio_end_run.proofs.Places.{lacks-it, has-it}
-use Rattle.radio_end.specs.Shown.{wordsNeeded}
-use Rattle.nespovarda_station.specs.Named.{saysNone, instanceSaid, contextSaid}
-use Rattle.nespovarda_station.specs.Shown.{channelNumbers, ShowsChannel}
-use Rattle.nespovarda_station.specs.Numbers.{Numbers, wordsNumber, windowNumbers, highestNumbers, sixNumbers, ShownExactly, NamedExactly}
+use Rattle.radio_end_state.specs.Channel.{window_now}
+use Rattle.radio_end_state.specs.State.{State, channel_at}
+use Rattle.radio_end_state.specs.Limits.{is_configured, index_in}
+use Rattle.radio_end_run.proofs.Places.{lacks_it, has_it}
+use Rattle.radio_end.specs.Shown.{words_needed}
+use Rattle.nespovarda_station.specs.Named.{says_none_of, instance_said, context_said}
+use Rattle.nespovarda_station.specs.Shown.{channel_numbers, ShowsChannel}
+use Rattle.nespovarda_station.specs.Numbers.{Numbers, words_number, window_numbers, highest_numbers, six_numbers, ShownExactly, NamedExactly}
 
-pub numbers-exactly : Numbers
-numbers-exactly = record {
+pub numbers_exactly : Numbers
+numbers_exactly = record {
   started = refl;
-  start-refused = λ number place. refl;
+  start_refused = λ number place. refl;
   answered = λ bytes. refl;
   unasked = λ bytes. refl;
-  no-message = refl;
-  call-refused = λ number place. refl;
+  no_message = refl;
+  call_refused = λ number place. refl;
   shown = refl;
 }
 
-pub words-exactly : (channels : ℕ) → wordsNeeded channels ≡ wordsNumber channels
-unfolding wordsNeeded
-words-exactly channels = refl
+pub words_exactly : (channels : ℕ) → words_needed channels ≡ words_number channels
+unfolding words_needed
+words_exactly channels = refl
 
-window-exactly : (window : Window) (rest : List ℕ) → (windowStated window).tag ∷ (windowStated window).first ∷ rest ≡ windowNumbers window rest
-window-exactly Window.Absent rest = refl
-window-exactly Window.Empty rest = refl
-window-exactly (Window.Given window) rest = refl
+window_exactly : (window : Window) (rest : List ℕ) → (window_stated window).tag ∷ (window_stated window).first ∷ rest ≡ window_numbers window rest
+window_exactly Window.Absent rest = refl
+window_exactly Window.Empty rest = refl
+window_exactly (Window.Given window) rest = refl
 
-highest-exactly : (highest : Highest) (rest : List ℕ) → highestTag highest ∷ highestValue highest ∷ rest ≡ highestNumbers highest rest
-highest-exactly Highest.Unheard rest = refl
-highest-exactly (Highest.At sequence) rest = refl
+highest_exactly : (highest : Highest) (rest : List ℕ) → highest_tag highest ∷ highest_value highest ∷ rest ≡ highest_numbers highest rest
+highest_exactly Highest.Unheard rest = refl
+highest_exactly (Highest.At sequence) rest = refl
 
-six-numbers : (c : Channel) → channelNumbers c ≡ sixNumbers c
-six-numbers c =
+six_numbers_lem : (c : Channel) → channel_numbers c ≡ six_numbers c
+six_numbers_lem c =
     ap (λ (xs : List ℕ). c.status ∷ xs)
-    (window-exactly (windowNow c) (highestTag c.highest ∷ highestValue c.highest ∷ c.queued.0 ∷ [])
-    ∙ ap (λ (xs : List ℕ). windowNumbers (windowNow c) xs) (highest-exactly c.highest (c.queued.0 ∷ [])))
+    (window_exactly (window_now c) (highest_tag c.highest ∷ highest_value c.highest ∷ c.queued.0 ∷ [])
+    ∙ ap (λ (xs : List ℕ). window_numbers (window_now c) xs) (highest_exactly c.highest (c.queued.0 ∷ [])))
 
-pub shown-exactly : {s : State} {id : ℕ} {before : List ℕ} {r : Answer} {after : List ℕ} → ShowsChannel s id before r after → ShownExactly s id before r after
-shown-exactly {s} {id} h = record {
+pub shown_exactly : {s : State} {id : ℕ} {before : List ℕ} {r : Answer} {after : List ℕ} → ShowsChannel s id before r after → ShownExactly s id before r after
+shown_exactly {s} {id} h = record {
   shows = λ fits index inside is.
-      let found : (isConfigured s id ≡ true) × (indexIn s id ≡ index) = rw is at (has-it s fits index inside) in
-      (h.answer-is ∙ rw (fits, found.0), h.numbers-are ∙ rw (fits, found.0, found.1) (six-numbers (channelAt s index)));
+      let found : (is_configured s id ≡ true) × (index_in s id ≡ index) = rw is at (has_it s fits index inside) in
+      (h.answer_is ∙ rw (fits, found.0), h.numbers_are ∙ rw (fits, found.0, found.1) (six_numbers_lem (channel_at s index)));
   lacks = λ fits none.
-      let lacking = lacks-it s id none in
-      (h.answer-is ∙ rw (fits, lacking), h.numbers-are ∙ rw (fits, lacking));
-  outside = λ unfit. (h.answer-is ∙ rw unfit, h.numbers-are ∙ rw unfit);
+      let lacking = lacks_it s id none in
+      (h.answer_is ∙ rw (fits, lacking), h.numbers_are ∙ rw (fits, lacking));
+  outside = λ unfit. (h.answer_is ∙ rw unfit, h.numbers_are ∙ rw unfit);
 }
 
 and-false : (a : Bool) → (a && false) ≡ false
@@ -69,40 +69,40 @@ and-false true = refl
 and-false false = refl
 
 -- a length that isn't 0 says something
-said : (value length : ℕ) → saysNone value (1 + length) ≡ false
+said : (value length : ℕ) → says_none_of value (1 + length) ≡ false
 said value length =
     let some : eqb (1 + length) 0 ≡ false = ne_eqb (1 + length) 0 (λ e. omega (arith, e)) in
     rw some (and-false (eqb value 0))
 
 -- nor does a value that isn't 0
-valued : (value : ℕ) → saysNone (1 + value) 0 ≡ false
+valued : (value : ℕ) → says_none_of (1 + value) 0 ≡ false
 valued value =
     let some : eqb (1 + value) 0 ≡ false = ne_eqb (1 + value) 0 (λ e. omega (arith, e)) in
     rw some
 
-instance-given : (value length : ℕ) → instanceSaid value (1 + length) ≡ Instance.Given (record { 0 = value }) (1 + length)
-unfolding instanceSaid
-instance-given value length = rw (said value length)
+instance_given : (value length : ℕ) → instance_said value (1 + length) ≡ Instance.Given (record { 0 = value }) (1 + length)
+unfolding instance_said
+instance_given value length = rw (said value length)
 
-context-given : (value length : ℕ) → contextSaid value (1 + length) ≡ Context.Given (record { 0 = value }) (1 + length)
-unfolding contextSaid
-context-given value length = rw (said value length)
+context_given : (value length : ℕ) → context_said value (1 + length) ≡ Context.Given (record { 0 = value }) (1 + length)
+unfolding context_said
+context_given value length = rw (said value length)
 
-instance-unwritten : (value : ℕ) → instanceSaid (1 + value) 0 ≡ Instance.Given (record { 0 = 1 + value }) 0
-unfolding instanceSaid
-instance-unwritten value = rw (valued value)
+instance_unwritten : (value : ℕ) → instance_said (1 + value) 0 ≡ Instance.Given (record { 0 = 1 + value }) 0
+unfolding instance_said
+instance_unwritten value = rw (valued value)
 
-context-unwritten : (value : ℕ) → contextSaid (1 + value) 0 ≡ Context.Given (record { 0 = 1 + value }) 0
-unfolding contextSaid
-context-unwritten value = rw (valued value)
+context_unwritten : (value : ℕ) → context_said (1 + value) 0 ≡ Context.Given (record { 0 = 1 + value }) 0
+unfolding context_said
+context_unwritten value = rw (valued value)
 
-pub named-exactly : NamedExactly
-unfolding instanceSaid contextSaid
-named-exactly = record {
-  no-instance = refl;
-  instance = instance-given;
-  instance-unwritten = instance-unwritten;
-  no-context = refl;
-  context = context-given;
-  context-unwritten = context-unwritten;
+pub named_exactly : NamedExactly
+unfolding instance_said context_said
+named_exactly = record {
+  no_instance_lem = refl;
+  instance = instance_given;
+  instance_unwritten = instance_unwritten;
+  no_context_lem = refl;
+  context = context_given;
+  context_unwritten = context_unwritten;
 }

@@ -3,24 +3,24 @@ use Rattle.std.specs.Prelude.{ℕ, cond, List, ◌≡◌}
 use Rattle.quantity.specs.Refusals.{OUTSIDE-LIMITS, LARGE-ALLOWANCE}
 use Rattle.answer_codes.specs.declared.Answer.{Answer}
 use Rattle.answer_codes.specs.Codes.{code_of}
-use Rattle.radio_end_state.specs.State.{freshState}
-use Rattle.radio_end_state.specs.Limits.{allowancesFit}
+use Rattle.radio_end_state.specs.State.{fresh_state}
+use Rattle.radio_end_state.specs.Limits.{allowances_fit}
 use Rattle.radio_end_state.specs.Calls.{After}
-use Rattle.radio_end_words.specs.Words.{stateWords}
+use Rattle.radio_end_words.specs.Words.{state_words}
 use Rattle.radio_end_telling.specs.Left.{is_refused}
 use Rattle.radio_end_start.specs.declared.StartAnswer.{StartAnswer}
-use Rattle.radio_end_start.specs.Start.{configurationIn, startsIn, beginsIn, notStarted}
-use Rattle.nespovarda_station.specs.Outcomes.{startedAs, saidAs}
+use Rattle.radio_end_start.specs.Start.{configuration_in, starts_in, begins_in, not_started}
+use Rattle.nespovarda_station.specs.Outcomes.{started_as, said_as}
 
 -- THE CONTRACT OF AN EXPORTED CALL: the numbers of its answer, the words of the state that it comes to or those that it found, and the output
 pub record Exported (after : After) (words : List ℕ) (r : Answer) (words' out' : List ℕ) : Type 0 where
-  pub answer-is : r ≡ code_of (saidAs after.answer)
-  pub words_are : words' ≡ cond (is_refused after.answer) words (stateWords after.state)
-  pub output-is : out' ≡ after.output
+  pub answer_is : r ≡ code_of (said_as after.answer)
+  pub words_are : words' ≡ cond (is_refused after.answer) words (state_words after.state)
+  pub output_is : out' ≡ after.output
 
 -- THE CONTRACT OF AN EXPORTED START
 pub record StartExported (configuration words : List ℕ) (r : Answer) (words' : List ℕ) : Type 0 where
-  pub answer-is : r
+  pub answer_is : r
       ≡ code_of
-      (startedAs (cond (startsIn configuration words) (cond (allowancesFit (configurationIn configuration).settings) StartAnswer.Started (notStarted LARGE-ALLOWANCE)) (notStarted OUTSIDE-LIMITS)))
-  pub words_are : words' ≡ cond (beginsIn configuration words) (stateWords (freshState (configurationIn configuration))) words
+      (started_as (cond (starts_in configuration words) (cond (allowances_fit (configuration_in configuration).settings) StartAnswer.Started (not_started LARGE-ALLOWANCE)) (not_started OUTSIDE-LIMITS)))
+  pub words_are : words' ≡ cond (begins_in configuration words) (state_words (fresh_state (configuration_in configuration))) words

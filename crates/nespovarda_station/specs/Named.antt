@@ -4,11 +4,11 @@ use Rattle.std.specs.Prelude.{ℕ, Bool, cond, ◌&&◌, eqb}
 use Rattle.meaning.specs.declared.message.Instance.{Instance}
 use Rattle.meaning.specs.declared.message.Context.{Context}
 
-abbrev pub saysNone : (value length : ℕ) → Bool
-saysNone value length = eqb value 0 && eqb length 0
+abbrev pub says_none_of : (value length : ℕ) → Bool
+says_none_of value length = eqb value 0 && eqb length 0
 
-unfoldable pub instanceSaid : (value length : ℕ) → Instance
-instanceSaid value length = cond (saysNone value length) Instance.Absent (Instance.Given (record { 0 = value }) length)
+unfoldable pub instance_said : (value length : ℕ) → Instance
+instance_said value length = cond (says_none_of value length) Instance.Absent (Instance.Given (record { 0 = value }) length)
 
-unfoldable pub contextSaid : (value length : ℕ) → Context
-contextSaid value length = cond (saysNone value length) Context.Absent (Context.Given (record { 0 = value }) length)
+unfoldable pub context_said : (value length : ℕ) → Context
+context_said value length = cond (says_none_of value length) Context.Absent (Context.Given (record { 0 = value }) length)

@@ -1,14 +1,14 @@
 // The answer of each call as two numbers.
 ghost use Rattle.std.specs.Prelude.{◌≡◌};
 ghost use Rattle.answer_codes.specs.Codes.{code_of};
-ghost use Rattle.nespovarda_station.specs.Outcomes.{startedAs, saidAs};
+ghost use Rattle.nespovarda_station.specs.Outcomes.{started_as, said_as};
 
 use answer_codes::{ANSWERED, Answer, NO_MESSAGE, STARTED, UNASKED, counted, plain, refused};
 use radio_end::StartAnswer;
 use radio_end_state::answer;
 
 pub(crate) fn of_start(answer: StartAnswer) -> Answer
-    ensures { result ≡ code_of (startedAs answer) }
+    ensures { result ≡ code_of (started_as answer) }
 {
     match answer {
         StartAnswer::Started => plain(STARTED),
@@ -17,7 +17,7 @@ pub(crate) fn of_start(answer: StartAnswer) -> Answer
 }
 
 pub(crate) fn of_call(answer: answer::Answer) -> Answer
-    ensures { result ≡ code_of (saidAs answer) }
+    ensures { result ≡ code_of (said_as answer) }
 {
     match answer {
         answer::Answer::Answered(bytes) => counted(ANSWERED, bytes.0),

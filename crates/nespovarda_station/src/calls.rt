@@ -1,9 +1,9 @@
 // The calls on the radio's end, whose state stands in lent words.
 ghost use Rattle.std.specs.Prelude.{[], ◌≡◌};
-ghost use Rattle.radio_end_state.specs.Calls.{heard, statusTold, queuedTold, contextTold, linkTold, told};
-ghost use Rattle.radio_end_words.specs.Words.{stateIn};
-ghost use Rattle.radio_end.specs.Shown.{wordsNeeded};
-ghost use Rattle.nespovarda_station.specs.Named.{instanceSaid, contextSaid};
+ghost use Rattle.radio_end_state.specs.Calls.{heard, status_told, queued_told, context_told, link_told, told};
+ghost use Rattle.radio_end_words.specs.Words.{state_in};
+ghost use Rattle.radio_end.specs.Shown.{words_needed};
+ghost use Rattle.nespovarda_station.specs.Named.{instance_said, context_said};
 ghost use Rattle.nespovarda_station.specs.Exports.{Exported, StartExported};
 
 use crate::{answer, named};
@@ -14,7 +14,7 @@ use radio_end_words::slot;
 // How many words a state of so many channels asks for; 0 where no state has so many.
 #[unsafe(no_mangle)]
 pub extern "C" fn nespovarda_station_words(channels: u64) -> u64
-    ensures { result ≡ wordsNeeded channels }
+    ensures { result ≡ words_needed channels }
 {
     slot::wide(radio_end::words_for(slot::narrow(channels)))
 }
@@ -32,7 +32,7 @@ pub extern "C" fn nespovarda_station_hear(
     datagram: &[u8],
     out: &mut [u8],
 ) -> Answer
-    ensures { Exported (heard (stateIn words.old) datagram.now out.old) words.old result words.new out.new }
+    ensures { Exported (heard (state_in words.old) datagram.now out.old) words.old result words.new out.new }
 {
     answer::of_call(radio_end::hear(words, datagram, out))
 }
@@ -44,7 +44,7 @@ pub extern "C" fn nespovarda_station_status(
     value: u8,
     out: &mut [u8],
 ) -> Answer
-    ensures { Exported (statusTold (stateIn words.old) channel value out.old) words.old result words.new out.new }
+    ensures { Exported (status_told (state_in words.old) channel value out.old) words.old result words.new out.new }
 {
     answer::of_call(radio_end::tell_status(words, channel, value, out))
 }
@@ -56,7 +56,7 @@ pub extern "C" fn nespovarda_station_queued(
     bytes: u64,
     out: &mut [u8],
 ) -> Answer
-    ensures { Exported (queuedTold (stateIn words.old) channel (record { 0 = bytes }) out.old) words.old result words.new out.new }
+    ensures { Exported (queued_told (state_in words.old) channel (record { 0 = bytes }) out.old) words.old result words.new out.new }
 {
     let queued = ByteCount(slot::narrow(bytes));
     answer::of_call(radio_end::tell_queued(words, channel, queued, out))
@@ -69,7 +69,7 @@ pub extern "C" fn nespovarda_station_context(
     length: u64,
     out: &mut [u8],
 ) -> Answer
-    ensures { Exported (contextTold (stateIn words.old) (contextSaid value length) out.old) words.old result words.new out.new }
+    ensures { Exported (context_told (state_in words.old) (context_said value length) out.old) words.old result words.new out.new }
 {
     let context = named::context(value, length);
     answer::of_call(radio_end::tell_context(words, context, out))
@@ -77,7 +77,7 @@ pub extern "C" fn nespovarda_station_context(
 
 #[unsafe(no_mangle)]
 pub extern "C" fn nespovarda_station_link(words: &mut [u64], value: u64, length: u64) -> Answer
-    ensures { Exported (linkTold (stateIn words.old) (instanceSaid value length) []) words.old result words.new [] }
+    ensures { Exported (link_told (state_in words.old) (instance_said value length) []) words.old result words.new [] }
 {
     let instance = named::instance(value, length);
     answer::of_call(radio_end::tell_link(words, instance))
@@ -85,7 +85,7 @@ pub extern "C" fn nespovarda_station_link(words: &mut [u64], value: u64, length:
 
 #[unsafe(no_mangle)]
 pub extern "C" fn nespovarda_station_tell(words: &[u64], out: &mut [u8]) -> Answer
-    ensures { Exported (told (stateIn words.now) out.old) words.now result words.now out.new }
+    ensures { Exported (told (state_in words.now) out.old) words.now result words.now out.new }
 {
     answer::of_call(radio_end::tell(words, out))
 }

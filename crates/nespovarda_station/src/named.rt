@@ -1,19 +1,19 @@
 // A Link Instance and a Context from two numbers: a value and the length that it is written at; 0 and 0 where there is none.
 ghost use Rattle.std.specs.Prelude.{◌≡◌};
-ghost use Rattle.nespovarda_station.specs.Named.{saysNone, instanceSaid, contextSaid};
+ghost use Rattle.nespovarda_station.specs.Named.{says_none_of, instance_said, context_said};
 
 use meaning::message::{Context, ContextBytes, Instance};
 use quantity::count::LinkInstanceId;
 use radio_end_words::slot;
 
 fn says_none(value: u64, length: u64) -> bool
-    ensures { result ≡ saysNone value length }
+    ensures { result ≡ says_none_of value length }
 {
     value == 0 && length == 0
 }
 
 pub(crate) fn instance(value: u64, length: u64) -> Instance
-    ensures { result ≡ instanceSaid value length }
+    ensures { result ≡ instance_said value length }
 {
     if says_none(value, length) {
         return Instance::Absent;
@@ -22,7 +22,7 @@ pub(crate) fn instance(value: u64, length: u64) -> Instance
 }
 
 pub(crate) fn context(value: u64, length: u64) -> Context
-    ensures { result ≡ contextSaid value length }
+    ensures { result ≡ context_said value length }
 {
     if says_none(value, length) {
         return Context::Absent;

@@ -1,7 +1,7 @@
 // What stands in the words of a channel, as numbers. Nothing of the state is changed.
 ghost use Rattle.std.specs.Prelude.{◌≡◌};
-ghost use Rattle.radio_end_words.specs.Words.{stateIn};
-ghost use Rattle.nespovarda_station.specs.Shown.{channelNumbers, ShowsChannel};
+ghost use Rattle.radio_end_words.specs.Words.{state_in};
+ghost use Rattle.nespovarda_station.specs.Shown.{channel_numbers, ShowsChannel};
 
 use answer_codes::{Answer, SHOWN, plain, refused};
 use lent_messages::stated;
@@ -15,7 +15,7 @@ pub const STATION_NUMBERS: usize = 6;
 
 // The status; whether there is a Flow Window, without the field or with it, and the window; whether a sequence was heard, and the highest; the bytes queued.
 fn show(channel: Channel, shown: &mut [u64; STATION_NUMBERS])
-    ensures { shown.new ≡ channelNumbers channel }
+    ensures { shown.new ≡ channel_numbers channel }
 {
     let highest = channel.highest;
     let queued = channel.queued;
@@ -37,7 +37,7 @@ pub extern "C" fn nespovarda_station_show(
     channel: u8,
     shown: &mut [u64; STATION_NUMBERS],
 ) -> Answer
-    ensures { ShowsChannel (stateIn words.now) channel shown.old result shown.new }
+    ensures { ShowsChannel (state_in words.now) channel shown.old result shown.new }
 {
     match radio_end::show(words, channel) {
         ShowAnswer::Shown(found) => {

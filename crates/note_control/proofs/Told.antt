@@ -9,7 +9,7 @@ use borrow.Author.Tests.{eqb-true, eqb-false, eq-eqb, ne_eqb}
 use lib.ListN.{length, get_or, set, length-set, replicate, length-replicate}
 use lib.Seq.{get_or-set_same, get_or-set_other}
 use lib.Dec.{eqb}
-use Rattle.facts.proofs.Tables.{length-tabulate, each-tabulated}
+use Rattle.facts.proofs.Tables.{length_tabulate, each_tabulated}
 use Rattle.quantity.specs.Limits.{CHANNEL-IDS}
 use Rattle.quantity.specs.declared.count.DatalinkId.{DatalinkId}
 use Rattle.quantity.specs.declared.count.FlowSequence.{FlowSequence}
@@ -17,8 +17,8 @@ use Rattle.quantity.specs.declared.count.LinkInstanceId.{LinkInstanceId}
 use Rattle.quantity.specs.Refusals.{MISSING, OTHER-DATALINK}
 use Rattle.meaning.specs.declared.message.ContextBytes.{ContextBytes}
 use Rattle.meaning.specs.declared.message.Plane.{Plane}
-use Rattle.meaning.specs.Kinds.{among, mustHold, CHANNEL-STATUS}
-use Rattle.read_rules.specs.Sorts.{unstatedDatalink, isOurs}
+use Rattle.meaning.specs.Kinds.{among, must_hold, CHANNEL-STATUS}
+use Rattle.read_rules.specs.Sorts.{unstated_datalink, is_ours}
 use Rattle.meaning.specs.declared.message.End.{End}
 use Rattle.meaning.specs.declared.message.Datalink.{Datalink}
 use Rattle.meaning.specs.declared.message.Instance.{Instance}
@@ -30,32 +30,32 @@ use Rattle.meaning.specs.declared.message.StatusCell.{StatusCell}
 use Rattle.meaning.specs.declared.message.SequenceCell.{SequenceCell}
 use Rattle.meaning.specs.declared.message.WindowCell.{WindowCell}
 use Rattle.meaning.specs.declared.message.Control.{Control}
-use Rattle.meaning.specs.Cells.{noStatus, noSequence, noWindow}
+use Rattle.meaning.specs.Cells.{no_status, no_sequence, no_window}
 use Rattle.read_option.specs.declared.answer.Item.{Item}
-use Rattle.read_option.specs.Stated.{controlStated}
+use Rattle.read_option.specs.Stated.{control_stated}
 use Rattle.read_rules.specs.declared.answer.Verdict.{Verdict}
 use Rattle.read_control.specs.declared.ControlReading.{ControlReading}
-use Rattle.read_control.specs.Message.{unstatedStatus, unstatedSequence, unstatedWindow, blankControl, controlAccepted, controlRefused}
-use Rattle.read_control.proofs.Message.{Reached, seated, byTests, lacking}
+use Rattle.read_control.specs.Message.{unstated_status, unstated_sequence, unstated_window, blank_control, control_accepted, control_refused}
+use Rattle.read_control.proofs.Message.{Reached, seated, by_tests, lacking}
 use Rattle.note_control.specs.declared.Noted.{Noted}
 use Rattle.note_control.specs.Noted.{NotedBy}
-use Rattle.note_control.specs.Codes.{codeStatus, codeWindow, windowTag, windowWord}
+use Rattle.note_control.specs.Codes.{code_status, code_window, window_tag, window_word}
 
 -- m: what is stated so far; the tables tell the same of every channel
 pub record Told (m : Control) (datalink : Datalink) (instance : Instance) (context : Context) (statuses : List ℕ) (sequences : List Bool) (tags windows : List ℕ) : Type 0 where
-  pub datalink-is : m.datalink ≡ datalink
-  pub instance-is : m.instance ≡ instance
-  pub context-is : m.context ≡ context
-  pub status-is : (n : ℕ) → (get_or m.statuses n noStatus).status ≡ codeStatus (get_or statuses n 0)
-  pub sequence-is : (n : ℕ) → unstatedSequence (get_or m.sequences n noSequence).sequence ≡ not (get_or sequences n false)
-  pub window-is : (n : ℕ) → (get_or m.windows n noWindow).window ≡ codeWindow (get_or tags n 0) (get_or windows n 0)
-  pub statuses-cells : length m.statuses ≡ CHANNEL-IDS
-  pub sequences-cells : length m.sequences ≡ CHANNEL-IDS
-  pub windows-cells : length m.windows ≡ CHANNEL-IDS
-  pub statuses-long : length statuses ≡ CHANNEL-IDS
-  pub sequences-long : length sequences ≡ CHANNEL-IDS
-  pub tags-long : length tags ≡ CHANNEL-IDS
-  pub windows-long : length windows ≡ CHANNEL-IDS
+  pub datalink_is : m.datalink ≡ datalink
+  pub instance_is : m.instance ≡ instance
+  pub context_is : m.context ≡ context
+  pub status_is : (n : ℕ) → (get_or m.statuses n no_status).status ≡ code_status (get_or statuses n 0)
+  pub sequence_is : (n : ℕ) → unstated_sequence (get_or m.sequences n no_sequence).sequence ≡ not (get_or sequences n false)
+  pub window_is : (n : ℕ) → (get_or m.windows n no_window).window ≡ code_window (get_or tags n 0) (get_or windows n 0)
+  pub statuses_cells : length m.statuses ≡ CHANNEL-IDS
+  pub sequences_cells : length m.sequences ≡ CHANNEL-IDS
+  pub windows_cells : length m.windows ≡ CHANNEL-IDS
+  pub statuses_long : length statuses ≡ CHANNEL-IDS
+  pub sequences_long : length sequences ≡ CHANNEL-IDS
+  pub tags_long : length tags ≡ CHANNEL-IDS
+  pub windows_long : length windows ≡ CHANNEL-IDS
 
 -- at a place of the datagram
 pub record Judged (end : End) (id : DatalinkId) (s : List ℕ) (at : ℕ) (datalink : Datalink) (instance : Instance) (context : Context) (statuses : List ℕ) (sequences : List Bool) (tags windows : List ℕ) : Type 0 where
@@ -76,127 +76,127 @@ all_same (suc n) zero a = refl
 all_same (suc n) (suc i) a = all_same n i a
 
 -- ---- at the start nothing is told
-pub told-nothing : Told blankControl Datalink.Absent Instance.Absent Context.Absent (replicate CHANNEL-IDS 0) (replicate CHANNEL-IDS false) (replicate CHANNEL-IDS 0) (replicate CHANNEL-IDS 0)
-unfolding blankControl controlStated
-told-nothing = record {
-  datalink-is = refl;
-  instance-is = refl;
-  context-is = refl;
-  status-is = λ n. each-tabulated (λ (cell : StatusCell). cell.status ≡ Status.Absent) noStatus refl CHANNEL-IDS _ (λ k. refl) n ∙ sym (ap codeStatus (all_same CHANNEL-IDS n 0));
-  sequence-is = λ n. ap unstatedSequence (each-tabulated (λ (cell : SequenceCell). cell.sequence ≡ Sequence.Absent) noSequence refl CHANNEL-IDS _ (λ k. refl) n) ∙ sym (ap not (all_same CHANNEL-IDS n false));
-  window-is = λ n. each-tabulated (λ (cell : WindowCell). cell.window ≡ Window.Absent) noWindow refl CHANNEL-IDS _ (λ k. refl) n ∙ sym (ap (λ k. codeWindow k (get_or (replicate CHANNEL-IDS 0) n 0)) (all_same CHANNEL-IDS n 0));
-  statuses-cells = length-tabulate CHANNEL-IDS _;
-  sequences-cells = length-tabulate CHANNEL-IDS _;
-  windows-cells = length-tabulate CHANNEL-IDS _;
-  statuses-long = length-replicate {A = ℕ} CHANNEL-IDS 0;
-  sequences-long = length-replicate CHANNEL-IDS false;
-  tags-long = length-replicate {A = ℕ} CHANNEL-IDS 0;
-  windows-long = length-replicate {A = ℕ} CHANNEL-IDS 0;
+pub told_nothing : Told blank_control Datalink.Absent Instance.Absent Context.Absent (replicate CHANNEL-IDS 0) (replicate CHANNEL-IDS false) (replicate CHANNEL-IDS 0) (replicate CHANNEL-IDS 0)
+unfolding blank_control control_stated
+told_nothing = record {
+  datalink_is = refl;
+  instance_is = refl;
+  context_is = refl;
+  status_is = λ n. each_tabulated (λ (cell : StatusCell). cell.status ≡ Status.Absent) no_status refl CHANNEL-IDS _ (λ k. refl) n ∙ sym (ap code_status (all_same CHANNEL-IDS n 0));
+  sequence_is = λ n. ap unstated_sequence (each_tabulated (λ (cell : SequenceCell). cell.sequence ≡ Sequence.Absent) no_sequence refl CHANNEL-IDS _ (λ k. refl) n) ∙ sym (ap not (all_same CHANNEL-IDS n false));
+  window_is = λ n. each_tabulated (λ (cell : WindowCell). cell.window ≡ Window.Absent) no_window refl CHANNEL-IDS _ (λ k. refl) n ∙ sym (ap (λ k. code_window k (get_or (replicate CHANNEL-IDS 0) n 0)) (all_same CHANNEL-IDS n 0));
+  statuses_cells = length_tabulate CHANNEL-IDS _;
+  sequences_cells = length_tabulate CHANNEL-IDS _;
+  windows_cells = length_tabulate CHANNEL-IDS _;
+  statuses_long = length-replicate {A = ℕ} CHANNEL-IDS 0;
+  sequences_long = length-replicate CHANNEL-IDS false;
+  tags_long = length-replicate {A = ℕ} CHANNEL-IDS 0;
+  windows_long = length-replicate {A = ℕ} CHANNEL-IDS 0;
 }
 
-window-code : (w : Window) → codeWindow (windowTag w) (windowWord w) ≡ w
-window-code Window.Absent = refl
-window-code Window.Empty = refl
-window-code (Window.Given word) = refl
+window_code : (w : Window) → code_window (window_tag w) (window_word w) ≡ w
+window_code Window.Absent = refl
+window_code Window.Empty = refl
+window_code (Window.Given word) = refl
 
-pub unstated-code : (code : ℕ) → unstatedStatus (codeStatus code) ≡ eqb code 0
-unstated-code zero = refl
-unstated-code (suc k) = sym (ne_eqb (suc k) 0 (λ e. omega arith))
+pub unstated_code : (code : ℕ) → unstated_status (code_status code) ≡ eqb code 0
+unstated_code zero = refl
+unstated_code (suc k) = sym (ne_eqb (suc k) 0 (λ e. omega arith))
 
-unstated-tag : (tag word : ℕ) → unstatedWindow (codeWindow tag word) ≡ eqb tag 0
-unstated-tag zero word = refl
-unstated-tag (suc zero) word = refl
-unstated-tag (suc (suc k)) word = sym (ne_eqb (suc (suc k)) 0 (λ e. omega arith))
+unstated_tag : (tag word : ℕ) → unstated_window (code_window tag word) ≡ eqb tag 0
+unstated_tag zero word = refl
+unstated_tag (suc zero) word = refl
+unstated_tag (suc (suc k)) word = sym (ne_eqb (suc (suc k)) 0 (λ e. omega arith))
 
 module _ {m : Control} {datalink : Datalink} {instance : Instance} {context : Context} {statuses : List ℕ} {sequences : List Bool} {tags windows : List ℕ}
     (t : Told m datalink instance context statuses sequences tags windows) where
   -- ---- what is stated of a channel already
-  pub status-free : (n : ℕ) → get_or statuses n 0 ≡ 0 → unstatedStatus (get_or m.statuses n noStatus).status ≡ true
-  status-free n e = rw (t.status-is n, unstated-code) (eq-eqb (get_or statuses n 0) 0 e)
+  pub status_free : (n : ℕ) → get_or statuses n 0 ≡ 0 → unstated_status (get_or m.statuses n no_status).status ≡ true
+  status_free n e = rw (t.status_is n, unstated_code) (eq-eqb (get_or statuses n 0) 0 e)
 
-  pub status-there : (n : ℕ) → (get_or statuses n 0 ≡ 0 → ⊥) → unstatedStatus (get_or m.statuses n noStatus).status ≡ false
-  status-there n e = rw (t.status-is n, unstated-code) (ne_eqb (get_or statuses n 0) 0 e)
+  pub status_there : (n : ℕ) → (get_or statuses n 0 ≡ 0 → ⊥) → unstated_status (get_or m.statuses n no_status).status ≡ false
+  status_there n e = rw (t.status_is n, unstated_code) (ne_eqb (get_or statuses n 0) 0 e)
 
-  pub window-free : (n : ℕ) → get_or tags n 0 ≡ 0 → unstatedWindow (get_or m.windows n noWindow).window ≡ true
-  window-free n e = rw (t.window-is n, unstated-tag) (eq-eqb (get_or tags n 0) 0 e)
+  pub window_free : (n : ℕ) → get_or tags n 0 ≡ 0 → unstated_window (get_or m.windows n no_window).window ≡ true
+  window_free n e = rw (t.window_is n, unstated_tag) (eq-eqb (get_or tags n 0) 0 e)
 
-  pub window-there : (n : ℕ) → (get_or tags n 0 ≡ 0 → ⊥) → unstatedWindow (get_or m.windows n noWindow).window ≡ false
-  window-there n e = rw (t.window-is n, unstated-tag) (ne_eqb (get_or tags n 0) 0 e)
+  pub window_there : (n : ℕ) → (get_or tags n 0 ≡ 0 → ⊥) → unstated_window (get_or m.windows n no_window).window ≡ false
+  window_there n e = rw (t.window_is n, unstated_tag) (ne_eqb (get_or tags n 0) 0 e)
 
-  pub sequence-free : (n : ℕ) → get_or sequences n false ≡ false → unstatedSequence (get_or m.sequences n noSequence).sequence ≡ true
-  sequence-free n e = t.sequence-is n ∙ ap not e
+  pub sequence_free : (n : ℕ) → get_or sequences n false ≡ false → unstated_sequence (get_or m.sequences n no_sequence).sequence ≡ true
+  sequence_free n e = t.sequence_is n ∙ ap not e
 
-  pub sequence-there : (n : ℕ) → get_or sequences n false ≡ true → unstatedSequence (get_or m.sequences n noSequence).sequence ≡ false
-  sequence-there n e = t.sequence-is n ∙ ap not e
+  pub sequence_there : (n : ℕ) → get_or sequences n false ≡ true → unstated_sequence (get_or m.sequences n no_sequence).sequence ≡ false
+  sequence_there n e = t.sequence_is n ∙ ap not e
 
   -- ---- one item more
-  pub told-datalink : (d : DatalinkId) → Told (seated (Item.Datalink d) m) (Datalink.Given d) instance context statuses sequences tags windows
-  told-datalink d = record { datalink-is = refl; instance-is = t.instance-is; context-is = t.context-is; status-is = t.status-is; sequence-is = t.sequence-is; window-is = t.window-is; statuses-cells = t.statuses-cells; sequences-cells = t.sequences-cells; windows-cells = t.windows-cells; statuses-long = t.statuses-long; sequences-long = t.sequences-long; tags-long = t.tags-long; windows-long = t.windows-long }
+  pub told_datalink : (d : DatalinkId) → Told (seated (Item.Datalink d) m) (Datalink.Given d) instance context statuses sequences tags windows
+  told_datalink d = record { datalink_is = refl; instance_is = t.instance_is; context_is = t.context_is; status_is = t.status_is; sequence_is = t.sequence_is; window_is = t.window_is; statuses_cells = t.statuses_cells; sequences_cells = t.sequences_cells; windows_cells = t.windows_cells; statuses_long = t.statuses_long; sequences_long = t.sequences_long; tags_long = t.tags_long; windows_long = t.windows_long }
 
-  pub told-instance : (v : LinkInstanceId) (n : ℕ) → Told (seated (Item.Instance v n) m) datalink (Instance.Given v n) context statuses sequences tags windows
-  told-instance v n = record { datalink-is = t.datalink-is; instance-is = refl; context-is = t.context-is; status-is = t.status-is; sequence-is = t.sequence-is; window-is = t.window-is; statuses-cells = t.statuses-cells; sequences-cells = t.sequences-cells; windows-cells = t.windows-cells; statuses-long = t.statuses-long; sequences-long = t.sequences-long; tags-long = t.tags-long; windows-long = t.windows-long }
+  pub told_instance : (v : LinkInstanceId) (n : ℕ) → Told (seated (Item.Instance v n) m) datalink (Instance.Given v n) context statuses sequences tags windows
+  told_instance v n = record { datalink_is = t.datalink_is; instance_is = refl; context_is = t.context_is; status_is = t.status_is; sequence_is = t.sequence_is; window_is = t.window_is; statuses_cells = t.statuses_cells; sequences_cells = t.sequences_cells; windows_cells = t.windows_cells; statuses_long = t.statuses_long; sequences_long = t.sequences_long; tags_long = t.tags_long; windows_long = t.windows_long }
 
-  pub told-context : (v : ContextBytes) (n : ℕ) → Told (seated (Item.Context v n) m) datalink instance (Context.Given v n) statuses sequences tags windows
-  told-context v n = record { datalink-is = t.datalink-is; instance-is = t.instance-is; context-is = refl; status-is = t.status-is; sequence-is = t.sequence-is; window-is = t.window-is; statuses-cells = t.statuses-cells; sequences-cells = t.sequences-cells; windows-cells = t.windows-cells; statuses-long = t.statuses-long; sequences-long = t.sequences-long; tags-long = t.tags-long; windows-long = t.windows-long }
+  pub told_context : (v : ContextBytes) (n : ℕ) → Told (seated (Item.Context v n) m) datalink instance (Context.Given v n) statuses sequences tags windows
+  told_context v n = record { datalink_is = t.datalink_is; instance_is = t.instance_is; context_is = refl; status_is = t.status_is; sequence_is = t.sequence_is; window_is = t.window_is; statuses_cells = t.statuses_cells; sequences_cells = t.sequences_cells; windows_cells = t.windows_cells; statuses_long = t.statuses_long; sequences_long = t.sequences_long; tags_long = t.tags_long; windows_long = t.windows_long }
 
   -- the tests on the whole, by what the tables tell
-  pub fault-told : (end : End) (id : DatalinkId) {number : ℕ} → number ≡ byTests (unstatedDatalink datalink) (cond (among CHANNEL-STATUS (mustHold Plane.Control end)) (unstatedStatus (codeStatus (get_or statuses 0 0))) false) (isOurs id datalink) MISSING 0 OTHER-DATALINK
-      → number ≡ byTests (unstatedDatalink m.datalink) (lacking end m) (isOurs id m.datalink) MISSING 0 OTHER-DATALINK
-  fault-told end id e = rw (t.datalink-is, t.status-is 0) e
+  pub fault_told : (end : End) (id : DatalinkId) {number : ℕ} → number ≡ by_tests (unstated_datalink datalink) (cond (among CHANNEL-STATUS (must_hold Plane.Control end)) (unstated_status (code_status (get_or statuses 0 0))) false) (is_ours id datalink) MISSING 0 OTHER-DATALINK
+      → number ≡ by_tests (unstated_datalink m.datalink) (lacking end m) (is_ours id m.datalink) MISSING 0 OTHER-DATALINK
+  fault_told end id e = rw (t.datalink_is, t.status_is 0) e
 
   module _ (n v : ℕ) (inside : n < CHANNEL-IDS) where
-    pub told-status : Told (seated (Item.Status n v) m) datalink instance context (set statuses n (v + 1)) sequences tags windows
-    told-status = record { datalink-is = t.datalink-is; instance-is = t.instance-is; context-is = t.context-is; status-is = each; sequence-is = t.sequence-is; window-is = t.window-is; statuses-cells = length-set m.statuses n (record { status = Status.Given v }) ∙ t.statuses-cells; sequences-cells = t.sequences-cells; windows-cells = t.windows-cells; statuses-long = length-set statuses n (v + 1) ∙ t.statuses-long; sequences-long = t.sequences-long; tags-long = t.tags-long; windows-long = t.windows-long }
+    pub told_status : Told (seated (Item.Status n v) m) datalink instance context (set statuses n (v + 1)) sequences tags windows
+    told_status = record { datalink_is = t.datalink_is; instance_is = t.instance_is; context_is = t.context_is; status_is = each; sequence_is = t.sequence_is; window_is = t.window_is; statuses_cells = length-set m.statuses n (record { status = Status.Given v }) ∙ t.statuses_cells; sequences_cells = t.sequences_cells; windows_cells = t.windows_cells; statuses_long = length-set statuses n (v + 1) ∙ t.statuses_long; sequences_long = t.sequences_long; tags_long = t.tags_long; windows_long = t.windows_long }
       where
-        each : (k : ℕ) → (get_or (set m.statuses n (record { status = Status.Given v })) k noStatus).status ≡ codeStatus (get_or (set statuses n (v + 1)) k 0)
+        each : (k : ℕ) → (get_or (set m.statuses n (record { status = Status.Given v })) k no_status).status ≡ code_status (get_or (set statuses n (v + 1)) k 0)
         each k =
-            rw (at_set m.statuses n k (record { status = Status.Given v }) noStatus (omega (arith, t.statuses-cells)), at_set statuses n k (v + 1) 0 (omega (arith, t.statuses-long)))
+            rw (at_set m.statuses n k (record { status = Status.Given v }) no_status (omega (arith, t.statuses_cells)), at_set statuses n k (v + 1) 0 (omega (arith, t.statuses_long)))
             (go (eqb k n))
           where
-            go : (b : Bool) → (cond b (record { status = Status.Given v }) (get_or m.statuses k noStatus)).status ≡ codeStatus (cond b (v + 1) (get_or statuses k 0))
+            go : (b : Bool) → (cond b (record { status = Status.Given v }) (get_or m.statuses k no_status)).status ≡ code_status (cond b (v + 1) (get_or statuses k 0))
             go true = rw (add-one v)
-            go false = t.status-is k
+            go false = t.status_is k
 
   module _ (n : ℕ) (v : FlowSequence) (inside : n < CHANNEL-IDS) where
-    pub told-sequence : Told (seated (Item.Sequence n v) m) datalink instance context statuses (set sequences n true) tags windows
-    told-sequence = record { datalink-is = t.datalink-is; instance-is = t.instance-is; context-is = t.context-is; status-is = t.status-is; sequence-is = each; window-is = t.window-is; statuses-cells = t.statuses-cells; sequences-cells = length-set m.sequences n (record { sequence = Sequence.Given v }) ∙ t.sequences-cells; windows-cells = t.windows-cells; statuses-long = t.statuses-long; sequences-long = length-set sequences n true ∙ t.sequences-long; tags-long = t.tags-long; windows-long = t.windows-long }
+    pub told_sequence : Told (seated (Item.Sequence n v) m) datalink instance context statuses (set sequences n true) tags windows
+    told_sequence = record { datalink_is = t.datalink_is; instance_is = t.instance_is; context_is = t.context_is; status_is = t.status_is; sequence_is = each; window_is = t.window_is; statuses_cells = t.statuses_cells; sequences_cells = length-set m.sequences n (record { sequence = Sequence.Given v }) ∙ t.sequences_cells; windows_cells = t.windows_cells; statuses_long = t.statuses_long; sequences_long = length-set sequences n true ∙ t.sequences_long; tags_long = t.tags_long; windows_long = t.windows_long }
       where
-        each : (k : ℕ) → unstatedSequence (get_or (set m.sequences n (record { sequence = Sequence.Given v })) k noSequence).sequence ≡ not (get_or (set sequences n true) k false)
+        each : (k : ℕ) → unstated_sequence (get_or (set m.sequences n (record { sequence = Sequence.Given v })) k no_sequence).sequence ≡ not (get_or (set sequences n true) k false)
         each k =
-            rw (at_set m.sequences n k (record { sequence = Sequence.Given v }) noSequence (omega (arith, t.sequences-cells)), at_set sequences n k true false (omega (arith, t.sequences-long)))
+            rw (at_set m.sequences n k (record { sequence = Sequence.Given v }) no_sequence (omega (arith, t.sequences_cells)), at_set sequences n k true false (omega (arith, t.sequences_long)))
             (go (eqb k n))
           where
-            go : (b : Bool) → unstatedSequence (cond b (record { sequence = Sequence.Given v }) (get_or m.sequences k noSequence)).sequence ≡ not (cond b true (get_or sequences k false))
+            go : (b : Bool) → unstated_sequence (cond b (record { sequence = Sequence.Given v }) (get_or m.sequences k no_sequence)).sequence ≡ not (cond b true (get_or sequences k false))
             go true = refl
-            go false = t.sequence-is k
+            go false = t.sequence_is k
 
   module _ (n : ℕ) (v : Window) (inside : n < CHANNEL-IDS) where
-    pub told-window : Told (seated (Item.Window n v) m) datalink instance context statuses sequences (set tags n (windowTag v)) (set windows n (windowWord v))
-    told-window = record { datalink-is = t.datalink-is; instance-is = t.instance-is; context-is = t.context-is; status-is = t.status-is; sequence-is = t.sequence-is; window-is = each; statuses-cells = t.statuses-cells; sequences-cells = t.sequences-cells; windows-cells = length-set m.windows n (record { window = v }) ∙ t.windows-cells; statuses-long = t.statuses-long; sequences-long = t.sequences-long; tags-long = length-set tags n (windowTag v) ∙ t.tags-long; windows-long = length-set windows n (windowWord v) ∙ t.windows-long }
+    pub told_window : Told (seated (Item.Window n v) m) datalink instance context statuses sequences (set tags n (window_tag v)) (set windows n (window_word v))
+    told_window = record { datalink_is = t.datalink_is; instance_is = t.instance_is; context_is = t.context_is; status_is = t.status_is; sequence_is = t.sequence_is; window_is = each; statuses_cells = t.statuses_cells; sequences_cells = t.sequences_cells; windows_cells = length-set m.windows n (record { window = v }) ∙ t.windows_cells; statuses_long = t.statuses_long; sequences_long = t.sequences_long; tags_long = length-set tags n (window_tag v) ∙ t.tags_long; windows_long = length-set windows n (window_word v) ∙ t.windows_long }
       where
-        each : (k : ℕ) → (get_or (set m.windows n (record { window = v })) k noWindow).window ≡ codeWindow (get_or (set tags n (windowTag v)) k 0) (get_or (set windows n (windowWord v)) k 0)
+        each : (k : ℕ) → (get_or (set m.windows n (record { window = v })) k no_window).window ≡ code_window (get_or (set tags n (window_tag v)) k 0) (get_or (set windows n (window_word v)) k 0)
         each k =
-            rw (at_set m.windows n k (record { window = v }) noWindow (omega (arith, t.windows-cells)), at_set tags n k (windowTag v) 0 (omega (arith, t.tags-long)), at_set windows n k (windowWord v) 0 (omega (arith, t.windows-long)))
+            rw (at_set m.windows n k (record { window = v }) no_window (omega (arith, t.windows_cells)), at_set tags n k (window_tag v) 0 (omega (arith, t.tags_long)), at_set windows n k (window_word v) 0 (omega (arith, t.windows_long)))
             (go (eqb k n))
           where
-            go : (b : Bool) → (cond b (record { window = v }) (get_or m.windows k noWindow)).window ≡ codeWindow (cond b (windowTag v) (get_or tags k 0)) (cond b (windowWord v) (get_or windows k 0))
-            go true = sym (window-code v)
-            go false = t.window-is k
+            go : (b : Bool) → (cond b (record { window = v }) (get_or m.windows k no_window)).window ≡ code_window (cond b (window_tag v) (get_or tags k 0)) (cond b (window_word v) (get_or windows k 0))
+            go true = sym (window_code v)
+            go false = t.window_is k
 
 -- a refusal's verdict
-pub refusal_is : {number place : ℕ} {whole : ControlReading} → controlRefused number place ≡ whole → Verdict.Refused (record { number = number; place = place }) ≡ whole.verdict
-unfolding controlRefused
+pub refusal_is : {number place : ℕ} {whole : ControlReading} → control_refused number place ≡ whole → Verdict.Refused (record { number = number; place = place }) ≡ whole.verdict
+unfolding control_refused
 refusal_is e = ap (λ (r : ControlReading). r.verdict) e
 
 -- a refused message as it is noted
-pub unnoted-is : {number place : ℕ} {whole : ControlReading} {r : Noted} {statuses tags windows : List ℕ}
+pub unnoted_is : {number place : ℕ} {whole : ControlReading} {r : Noted} {statuses tags windows : List ℕ}
     → r ≡ record { verdict = Verdict.Refused (record { number = number; place = place }); instance = Instance.Absent; context = Context.Absent }
-    → controlRefused number place ≡ whole → NotedBy whole r statuses tags windows
-unnoted-is {number} {place} e f = rw e (record { verdict-is = refusal_is f; meant = tt })
+    → control_refused number place ≡ whole → NotedBy whole r statuses tags windows
+unnoted_is {number} {place} e f = rw e (record { verdict_is = refusal_is f; meant = tt })
 
 -- an accepted one
-pub noted-is : {m : Control} {whole : ControlReading} {datalink : Datalink} {instance : Instance} {context : Context} {statuses : List ℕ} {sequences : List Bool} {tags windows : List ℕ}
-    → Told m datalink instance context statuses sequences tags windows → controlAccepted m ≡ whole
+pub noted_is : {m : Control} {whole : ControlReading} {datalink : Datalink} {instance : Instance} {context : Context} {statuses : List ℕ} {sequences : List Bool} {tags windows : List ℕ}
+    → Told m datalink instance context statuses sequences tags windows → control_accepted m ≡ whole
     → NotedBy whole (record { verdict = Verdict.Accepted; instance = instance; context = context }) statuses tags windows
-unfolding controlAccepted
-noted-is t e = rw (← e) (record { verdict-is = refl; meant = record { instance-is = t.instance-is; context-is = t.context-is; tabled = record { status-is = t.status-is; window-is = t.window-is } } })
+unfolding control_accepted
+noted_is t e = rw (← e) (record { verdict_is = refl; meant = record { instance_is = t.instance_is; context_is = t.context_is; tabled = record { status_is = t.status_is; window_is = t.window_is } } })

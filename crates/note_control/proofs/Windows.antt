@@ -7,50 +7,50 @@ use native.Mathlib.Omega.{arith}
 use borrow.Author.Tests.{ltb-true, ltb-false}
 use lib.Dec.{ltb}
 use lib.ListN.{length, get_or, get_or-eq_default}
-use Rattle.facts.proofs.Tables.{length-tabulate, get_d_tabulate}
+use Rattle.facts.proofs.Tables.{length_tabulate, get_d_tabulate}
 use Rattle.quantity.specs.Limits.{CHANNEL-IDS}
 use Rattle.meaning.specs.declared.message.Window.{Window}
 use Rattle.meaning.specs.declared.message.WindowCell.{WindowCell}
-use Rattle.meaning.specs.Cells.{noWindow}
+use Rattle.meaning.specs.Cells.{no_window}
 use Rattle.read_rules.specs.declared.answer.Verdict.{Verdict}
 use Rattle.read_control.specs.declared.ControlReading.{ControlReading}
 use Rattle.note_control.specs.declared.Noted.{Noted}
-use Rattle.note_control.specs.Codes.{codeWindow}
+use Rattle.note_control.specs.Codes.{code_window}
 use Rattle.note_control.specs.Noted.{MeantIf, NotedBy}
-use Rattle.note_control.specs.Windows.{windowCells}
+use Rattle.note_control.specs.Windows.{window_cells}
 
-pub given-code : (tag word : ℕ) → (tag ≡ 0 → ⊥) → (tag ≡ 1 → ⊥) → Window.Given (record { 0 = word }) ≡ codeWindow tag word
-given-code zero word n m = absurd (n refl)
-given-code (suc zero) word n m = absurd (m refl)
-given-code (suc (suc k)) word n m = refl
+pub given_code : (tag word : ℕ) → (tag ≡ 0 → ⊥) → (tag ≡ 1 → ⊥) → Window.Given (record { 0 = word }) ≡ code_window tag word
+given_code zero word n m = absurd (n refl)
+given_code (suc zero) word n m = absurd (m refl)
+given_code (suc (suc k)) word n m = refl
 
-pub cells-long : (tags windows : List ℕ) → length (windowCells tags windows) ≡ CHANNEL-IDS
-unfolding windowCells
-cells-long tags windows = length-tabulate CHANNEL-IDS _
+pub cells_long : (tags windows : List ℕ) → length (window_cells tags windows) ≡ CHANNEL-IDS
+unfolding window_cells
+cells_long tags windows = length_tabulate CHANNEL-IDS _
 
 -- a channel's place
-pub told-window-is : (tags windows : List ℕ) (n : ℕ) → n < CHANNEL-IDS → (get_or (windowCells tags windows) n noWindow).window ≡ codeWindow (get_or tags n 0) (get_or windows n 0)
-unfolding windowCells
-told-window-is tags windows n h = ap (λ (cell : WindowCell). cell.window) (get_d_tabulate CHANNEL-IDS _ n noWindow h)
+pub told_window_is : (tags windows : List ℕ) (n : ℕ) → n < CHANNEL-IDS → (get_or (window_cells tags windows) n no_window).window ≡ code_window (get_or tags n 0) (get_or windows n 0)
+unfolding window_cells
+told_window_is tags windows n h = ap (λ (cell : WindowCell). cell.window) (get_d_tabulate CHANNEL-IDS _ n no_window h)
 
 -- behind the last one nothing is told
-told-beyond : (tags windows : List ℕ) (n : ℕ) → length tags ≡ CHANNEL-IDS → CHANNEL-IDS ≤ n → codeWindow (get_or tags n 0) (get_or windows n 0) ≡ (get_or (windowCells tags windows) n noWindow).window
-told-beyond tags windows n e h =
-    ap (λ (tag : ℕ). codeWindow tag (get_or windows n 0)) (get_or-eq_default tags 0 {n = n} (omega (arith, e)))
-    ∙ sym (ap (λ (cell : WindowCell). cell.window) (get_or-eq_default (windowCells tags windows) noWindow {n = n} (omega (arith, cells-long tags windows))))
+told_beyond : (tags windows : List ℕ) (n : ℕ) → length tags ≡ CHANNEL-IDS → CHANNEL-IDS ≤ n → code_window (get_or tags n 0) (get_or windows n 0) ≡ (get_or (window_cells tags windows) n no_window).window
+told_beyond tags windows n e h =
+    ap (λ (tag : ℕ). code_window tag (get_or windows n 0)) (get_or-eq_default tags 0 {n = n} (omega (arith, e)))
+    ∙ sym (ap (λ (cell : WindowCell). cell.window) (get_or-eq_default (window_cells tags windows) no_window {n = n} (omega (arith, cells_long tags windows))))
 
 -- an accepted message's windows are those that the tables tell
-pub windows-told : {reading : ControlReading} {noted : Noted} {statuses tags windows : List ℕ} → NotedBy reading noted statuses tags windows
+pub windows_told : {reading : ControlReading} {noted : Noted} {statuses tags windows : List ℕ} → NotedBy reading noted statuses tags windows
     → noted.verdict ≡ Verdict.Accepted → length tags ≡ CHANNEL-IDS
-    → (n : ℕ) → (get_or reading.message.windows n noWindow).window ≡ (get_or (windowCells tags windows) n noWindow).window
-windows-told {reading} {noted} {statuses} {tags} {windows} k e long n = stated ∙ go (ltb n CHANNEL-IDS) refl
+    → (n : ℕ) → (get_or reading.message.windows n no_window).window ≡ (get_or (window_cells tags windows) n no_window).window
+windows_told {reading} {noted} {statuses} {tags} {windows} k e long n = stated ∙ go (ltb n CHANNEL-IDS) refl
   where
     meant : MeantIf Verdict.Accepted reading.message noted statuses tags windows
     meant = subst (λ (verdict : Verdict). MeantIf verdict reading.message noted statuses tags windows) e k.meant
 
-    stated : (get_or reading.message.windows n noWindow).window ≡ codeWindow (get_or tags n 0) (get_or windows n 0)
-    stated = meant.tabled.window-is n
+    stated : (get_or reading.message.windows n no_window).window ≡ code_window (get_or tags n 0) (get_or windows n 0)
+    stated = meant.tabled.window_is n
 
-    go : (b : Bool) → ltb n CHANNEL-IDS ≡ b → codeWindow (get_or tags n 0) (get_or windows n 0) ≡ (get_or (windowCells tags windows) n noWindow).window
-    go true q = sym (told-window-is tags windows n (ltb-true n CHANNEL-IDS q))
-    go false q = told-beyond tags windows n long (ltb-false n CHANNEL-IDS q)
+    go : (b : Bool) → ltb n CHANNEL-IDS ≡ b → code_window (get_or tags n 0) (get_or windows n 0) ≡ (get_or (window_cells tags windows) n no_window).window
+    go true q = sym (told_window_is tags windows n (ltb-true n CHANNEL-IDS q))
+    go false q = told_beyond tags windows n long (ltb-false n CHANNEL-IDS q)

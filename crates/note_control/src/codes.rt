@@ -1,6 +1,6 @@
 // What stands in the tables of a channel, as a message states it.
 ghost use Rattle.std.specs.Prelude.{◌≡◌};
-ghost use Rattle.note_control.specs.Codes.{codeWindow};
+ghost use Rattle.note_control.specs.Codes.{code_window};
 
 use crate::{ABSENT_WINDOW, EMPTY_WINDOW};
 use meaning::message::Window;
@@ -8,7 +8,7 @@ use quantity::count::FlowWindow;
 
 // A Flow Window by its tag and its word.
 pub fn window(tag: u8, word: u32) -> Window
-    ensures { result ≡ codeWindow tag word }
+    ensures { result ≡ code_window tag word }
 {
     if tag == ABSENT_WINDOW {
         return Window::Absent;

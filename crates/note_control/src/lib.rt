@@ -4,12 +4,12 @@ ghost use Rattle.std.specs.Prelude.{◌≡◌, false, cond, drop, replicate};
 ghost use Rattle.wire.specs.Options.{split};
 ghost use Rattle.quantity.specs.Refusals.{MISSING, OTHER-DATALINK};
 ghost use Rattle.meaning.specs.declared.message.Plane.{Plane};
-ghost use Rattle.meaning.specs.Kinds.{among, mustHold, CHANNEL-STATUS};
+ghost use Rattle.meaning.specs.Kinds.{among, must_hold, CHANNEL-STATUS};
 ghost use Rattle.read_rules.specs.Judging.{judge};
-ghost use Rattle.read_rules.specs.Sorts.{isOurs, rulesOf, unstatedDatalink};
-ghost use Rattle.read_control.specs.Message.{unstatedStatus, blankControl, controlSort};
+ghost use Rattle.read_rules.specs.Sorts.{is_ours, rules_of, unstated_datalink};
+ghost use Rattle.read_control.specs.Message.{unstated_status, blank_control, control_sort};
 ghost use Rattle.quantity.specs.Limits.{CHANNEL-IDS};
-ghost use Rattle.note_control.specs.Codes.{windowTag, windowWord, codeStatus};
+ghost use Rattle.note_control.specs.Codes.{window_tag, window_word, code_status};
 ghost use Rattle.note_control.specs.Noted.{NotedBy};
 
 use meaning::message::{Context, Datalink, End, Instance, Window};
@@ -33,7 +33,7 @@ pub const EMPTY_WINDOW: u8 = 1;
 pub const GIVEN_WINDOW: u8 = 2;
 
 fn window_tag(window: Window) -> u8
-    ensures { result ≡ windowTag window }
+    ensures { result ≡ window_tag window }
 {
     match window {
         Window::Absent => ABSENT_WINDOW,
@@ -43,7 +43,7 @@ fn window_tag(window: Window) -> u8
 }
 
 fn window_word(window: Window) -> u32
-    ensures { result ≡ windowWord window }
+    ensures { result ≡ window_word window }
 {
     match window {
         Window::Absent => 0,
@@ -54,7 +54,7 @@ fn window_word(window: Window) -> u32
 
 // Whether a message of this end must hold a Channel Status for channel 0, and doesn't.
 fn lacks_status(end: End, code: u16) -> bool
-    ensures { result ≡ cond (among CHANNEL-STATUS (mustHold Plane.Control end)) (unstatedStatus (codeStatus code)) false }
+    ensures { result ≡ cond (among CHANNEL-STATUS (must_hold Plane.Control end)) (unstated_status (code_status code)) false }
 {
     match end {
         End::Ips => false,
@@ -64,7 +64,7 @@ fn lacks_status(end: End, code: u16) -> bool
 
 // The tests on the whole, 9, then 11: the number of the refusal, or 0.
 fn fault(end: End, id: DatalinkId, datalink: Datalink, code: u16) -> u8
-    ensures { result ≡ cond (unstatedDatalink datalink) MISSING (cond (cond (among CHANNEL-STATUS (mustHold Plane.Control end)) (unstatedStatus (codeStatus code)) false) MISSING (cond (isOurs id datalink) 0 OTHER-DATALINK)) }
+    ensures { result ≡ cond (unstated_datalink datalink) MISSING (cond (cond (among CHANNEL-STATUS (must_hold Plane.Control end)) (unstated_status (code_status code)) false) MISSING (cond (is_ours id datalink) 0 OTHER-DATALINK)) }
 {
     let Datalink::Given(stated) = datalink else {
         return MISSING;
@@ -107,7 +107,7 @@ pub fn note(
     windows: &mut [u32],
 ) -> Noted
     requires { (statuses.old ≡ replicate CHANNEL-IDS 0) × (tags.old ≡ replicate CHANNEL-IDS 0) × (windows.old ≡ replicate CHANNEL-IDS 0) }
-    ensures { NotedBy (judge (rulesOf (controlSort end id)) (split (drop 1 datagram.now)) 1 blankControl) result statuses.new tags.new windows.new }
+    ensures { NotedBy (judge (rules_of (control_sort end id)) (split (drop 1 datagram.now)) 1 blank_control) result statuses.new tags.new windows.new }
 {
     let mut datalink = Datalink::Absent;
     let mut instance = Instance::Absent;

@@ -10,18 +10,18 @@ use Rattle.facts.proofs.Tests.{clash}
 use Rattle.quantity.specs.declared.count.FlowSequence.{FlowSequence}
 use Rattle.quantity.specs.declared.count.FlowWindow.{FlowWindow}
 use Rattle.quantity.specs.declared.count.ByteCount.{ByteCount}
-use Rattle.quantity.specs.Distance.{fits_of, advanceOf}
+use Rattle.quantity.specs.Distance.{fits_of, advance_of}
 use Rattle.meaning.specs.declared.message.Sequence.{Sequence}
 use Rattle.meaning.specs.declared.message.Window.{Window}
 use Rattle.flow.specs.declared.Flow as ours
-use Rattle.flow.specs.Counting.{mayGo, sequenceOn, carriedBy, flowAfter}
+use Rattle.flow.specs.Counting.{may_go, sequence_on, carried_by, flow_after}
 use Rattle.ips_channel_rules.specs.Rules.{offer, next, withdraw, nothingWaiting, notOperational, windowShut, sent, refused, answered, taken, emptied, Event, Happened, called, heard, Terms, Condition}
 use Rattle.ips_channel_rules.specs.Machine.{WordCounter, machine}
 use Rattle.ips_channel_rules.proofs.Leaves.{Leaves, stays, joins, looks, sends, clears, hears}
 use Rattle.conduct_rules.specs.declared.Flow.{Flow}
-use Rattle.conduct_rules.specs.Rules.{flow_of, Obeys, less_of, obeysWithin}
-use Rattle.conduct_rules.proofs.Exactly.{obeys-is}
-use Rattle.conduct.specs.Account.{last_or, ifGiven}
+use Rattle.conduct_rules.specs.Rules.{flow_of, Obeys, less_of, obeys_within}
+use Rattle.conduct_rules.proofs.Exactly.{obeys_is}
+use Rattle.conduct.specs.Account.{last_or, if_given}
 
 -- ---- the judge's flow and base beside the channel's own
 
@@ -29,67 +29,67 @@ pub data FlowAgrees : Flow → ours.Flow → Type 0 where
   -- without a window nothing goes, whatever the judge saw last: nobody records a silence
   shut : {flow : Flow} → FlowAgrees flow ours.Flow.NoWindow
   free : FlowAgrees Flow.Free ours.Flow.Free
-  in-force : {window : FlowWindow} → FlowAgrees (Flow.InForce window) (ours.Flow.InForce window)
+  in_force : {window : FlowWindow} → FlowAgrees (Flow.InForce window) (ours.Flow.InForce window)
 
 pub data BaseAgrees : Sequence → FlowSequence → Type 0 where
   first : {sequence : FlowSequence} → BaseAgrees Sequence.Absent sequence
   last : {sequence : FlowSequence} → BaseAgrees (Sequence.Given sequence) sequence
 
 pub record Agrees (flow : Flow) (base : Sequence) (counter : WordCounter) : Type 0 where
-  pub of-flow : FlowAgrees flow counter.flow
-  pub of-base : BaseAgrees base counter.sequence
+  pub of_flow : FlowAgrees flow counter.flow
+  pub of_base : BaseAgrees base counter.sequence
   pub small : counter.sequence.0 < 2 ^ 32
 
 -- ---- a radio control message
 
-pub heard-agrees : {flow : Flow} {base : Sequence} {counter : WordCounter} (window : Window) → Agrees flow base counter
-    → Agrees (flow_of window) base (record { flow = flowAfter window; sequence = counter.sequence })
-heard-agrees Window.Absent k = record { of-flow = free; of-base = k.of-base; small = k.small }
-heard-agrees Window.Empty k = record { of-flow = shut; of-base = k.of-base; small = k.small }
-heard-agrees (Window.Given window) k = record { of-flow = in-force; of-base = k.of-base; small = k.small }
+pub heard_agrees : {flow : Flow} {base : Sequence} {counter : WordCounter} (window : Window) → Agrees flow base counter
+    → Agrees (flow_of window) base (record { flow = flow_after window; sequence = counter.sequence })
+heard_agrees Window.Absent k = record { of_flow = free; of_base = k.of_base; small = k.small }
+heard_agrees Window.Empty k = record { of_flow = shut; of_base = k.of_base; small = k.small }
+heard_agrees (Window.Given window) k = record { of_flow = in_force; of_base = k.of_base; small = k.small }
 
 -- ---- a silence
 
-pub silence-agrees : {flow : Flow} {base : Sequence} {counter : WordCounter} → Agrees flow base counter → Agrees flow base (record { flow = flowAfter Window.Empty; sequence = counter.sequence })
-silence-agrees k = record { of-flow = shut; of-base = k.of-base; small = k.small }
+pub silence_agrees : {flow : Flow} {base : Sequence} {counter : WordCounter} → Agrees flow base counter → Agrees flow base (record { flow = flow_after Window.Empty; sequence = counter.sequence })
+silence_agrees k = record { of_flow = shut; of_base = k.of_base; small = k.small }
 
 -- ---- a packet that goes
 
 -- a sequence and the bytes, less the bytes
-less-back : (sequence : FlowSequence) (bytes : ByteCount) → sequence.0 < 2 ^ 32 → less_of (advanceOf sequence bytes) bytes ≡ sequence
-less-back sequence bytes h = ap {B = FlowSequence} (λ (n : ℕ). record { 0 = n }) (omega arith)
+less_back : (sequence : FlowSequence) (bytes : ByteCount) → sequence.0 < 2 ^ 32 → less_of (advance_of sequence bytes) bytes ≡ sequence
+less_back sequence bytes h = ap {B = FlowSequence} (λ (n : ℕ). record { 0 = n }) (omega arith)
 
-within : (window : FlowWindow) (sequence : FlowSequence) (bytes : ByteCount) → fits_of sequence window bytes ≡ true → obeysWithin window sequence bytes (advanceOf sequence bytes) ≡ true
-unfolding obeysWithin
-within window sequence bytes f = rw (eq-eqb (advanceOf sequence bytes).0 (advanceOf sequence bytes).0 refl, f)
+within : (window : FlowWindow) (sequence : FlowSequence) (bytes : ByteCount) → fits_of sequence window bytes ≡ true → obeys_within window sequence bytes (advance_of sequence bytes) ≡ true
+unfolding obeys_within
+within window sequence bytes f = rw (eq-eqb (advance_of sequence bytes).0 (advance_of sequence bytes).0 refl, f)
 
 under : (window : FlowWindow) {base : Sequence} {sequence : FlowSequence} (bytes : ByteCount) → BaseAgrees base sequence → sequence.0 < 2 ^ 32 → fits_of sequence window bytes ≡ true
-    → Obeys (Flow.InForce window) base bytes (Sequence.Given (advanceOf sequence bytes))
+    → Obeys (Flow.InForce window) base bytes (Sequence.Given (advance_of sequence bytes))
 under window {sequence = sequence} bytes first h f =
-    obeys-is (Flow.InForce window) Sequence.Absent bytes (Sequence.Given (advanceOf sequence bytes)) (rw (less-back sequence bytes h) (within window sequence bytes f))
+    obeys_is (Flow.InForce window) Sequence.Absent bytes (Sequence.Given (advance_of sequence bytes)) (rw (less_back sequence bytes h) (within window sequence bytes f))
 under window {sequence = sequence} bytes last h f =
-    obeys-is (Flow.InForce window) (Sequence.Given sequence) bytes (Sequence.Given (advanceOf sequence bytes)) (within window sequence bytes f)
+    obeys_is (Flow.InForce window) (Sequence.Given sequence) bytes (Sequence.Given (advance_of sequence bytes)) (within window sequence bytes f)
 
 pub record Goes (flow : Flow) (base : Sequence) (bytes : ByteCount) (carried : Sequence) (counter : WordCounter) : Type 0 where
   pub obeys : Obeys flow base bytes carried
-  pub agrees : Agrees flow (last_or base (ifGiven carried)) counter
+  pub agrees : Agrees flow (last_or base (if_given carried)) counter
 
 goes_by : {flow : Flow} {own : ours.Flow} {base : Sequence} {sequence : FlowSequence} (bytes : ByteCount) → FlowAgrees flow own → BaseAgrees base sequence → sequence.0 < 2 ^ 32
-    → mayGo own sequence bytes ≡ true → Goes flow base bytes (carriedBy own (sequenceOn own sequence bytes)) (record { flow = own; sequence = sequenceOn own sequence bytes })
+    → may_go own sequence bytes ≡ true → Goes flow base bytes (carried_by own (sequence_on own sequence bytes)) (record { flow = own; sequence = sequence_on own sequence bytes })
 goes_by bytes shut b h f = clash f
-goes_by bytes free b h f = record { obeys = Obeys.free; agrees = record { of-flow = free; of-base = b; small = h } }
-goes_by bytes (in-force {window}) b h f = record { obeys = under window bytes b h f; agrees = record { of-flow = in-force; of-base = last; small = omega arith } }
+goes_by bytes free b h f = record { obeys = Obeys.free; agrees = record { of_flow = free; of_base = b; small = h } }
+goes_by bytes (in_force {window}) b h f = record { obeys = under window bytes b h f; agrees = record { of_flow = in_force; of_base = last; small = omega arith } }
 
-pub goes : {flow : Flow} {base : Sequence} {counter : WordCounter} (bytes : ByteCount) → Agrees flow base counter → mayGo counter.flow counter.sequence bytes ≡ true
+pub goes : {flow : Flow} {base : Sequence} {counter : WordCounter} (bytes : ByteCount) → Agrees flow base counter → may_go counter.flow counter.sequence bytes ≡ true
     → Goes flow base bytes (machine.carried (machine.grow bytes counter)) (machine.grow bytes counter)
-goes bytes k f = goes_by bytes k.of-flow k.of-base k.small f
+goes bytes k f = goes_by bytes k.of_flow k.of_base k.small f
 
 -- ---- what happened on the channel: its count stands still, but where a packet went
 
 pub record Went (packet : List ℕ) (carried : Sequence) (counter counter' : WordCounter) : Type 0 where
-  pub fits : mayGo counter.flow counter.sequence (record { 0 = length packet }) ≡ true
-  pub carried-is : carried ≡ machine.carried (machine.grow (record { 0 = length packet }) counter)
-  pub counter-is : counter' ≡ machine.grow (record { 0 = length packet }) counter
+  pub fits : may_go counter.flow counter.sequence (record { 0 = length packet }) ≡ true
+  pub carried_is : carried ≡ machine.carried (machine.grow (record { 0 = length packet }) counter)
+  pub counter_is : counter' ≡ machine.grow (record { 0 = length packet }) counter
 
 abbrev pub After : Happened → (counter counter' : WordCounter) → Type 0
 After (called c (refused number)) counter counter' = counter' ≡ counter
@@ -108,6 +108,6 @@ leaves_after (looks {says = nothingWaiting} n t) = refl
 leaves_after (looks {says = notOperational} n t) = refl
 leaves_after (looks {says = windowShut} n t) = refl
 leaves_after (looks {says = sent packet carried} n t) = clash (cc)
-leaves_after (sends t w f) = record { fits = f; carried-is = refl; counter-is = refl }
+leaves_after (sends t w f) = record { fits = f; carried_is = refl; counter_is = refl }
 leaves_after clears = refl
 leaves_after hears = tt

@@ -5,36 +5,36 @@ use Rattle.pacer.specs.declared.Pacer.{Pacer}
 use Rattle.pacer.specs.declared.PaceAnswer.{PaceAnswer}
 
 -- "The pacer has one clock, and both waits first run from 0"
-abbrev pub freshPacer : (hello limit : ℕ) → Pacer
-freshPacer hello limit = record { hello = hello; limit = limit; clock = 0; due = 0; heard = 0 }
+abbrev pub fresh_pacer : (hello limit : ℕ) → Pacer
+fresh_pacer hello limit = record { hello = hello; limit = limit; clock = 0; due = 0; heard = 0 }
 
 -- "22, HelloTime or silence limit of 0": given where this doesn't hold
-abbrev pub pacerFits : Pacer → Bool
-pacerFits p = ltb 0 p.hello && ltb 0 p.limit
+abbrev pub pacer_fits : Pacer → Bool
+pacer_fits p = ltb 0 p.hello && ltb 0 p.limit
 
 -- "21, pacer time earlier than its latest"
-abbrev pub isEarlier : (time : ℕ) → Pacer → Bool
-isEarlier time p = ltb time p.clock
+abbrev pub is_earlier : (time : ℕ) → Pacer → Bool
+is_earlier time p = ltb time p.clock
 
 -- a wait "or more has passed since" a time, in numbers without a limit
 abbrev pub passed : (since wait time : ℕ) → Bool
 passed since wait time = leb (since + wait) time
 
 -- "the configured HelloTime or more has passed since the last due one"
-abbrev pub isDue : (time : ℕ) → Pacer → Bool
-isDue time p = passed p.due p.hello time
+abbrev pub is_due : (time : ℕ) → Pacer → Bool
+is_due time p = passed p.due p.hello time
 
 -- "no radio control message was accepted for a configured silence limit or longer"
-abbrev pub isSilent : (time : ℕ) → Pacer → Bool
-isSilent time p = passed p.heard p.limit time
+abbrev pub is_silent : (time : ℕ) → Pacer → Bool
+is_silent time p = passed p.heard p.limit time
 
 -- ---- what moves it
 unfoldable pub asked : (time : ℕ) → Pacer → Pacer
-asked time p = record { hello = p.hello; limit = p.limit; clock = time; due = cond (isDue time p) time p.due; heard = p.heard }
+asked time p = record { hello = p.hello; limit = p.limit; clock = time; due = cond (is_due time p) time p.due; heard = p.heard }
 
 -- a radio message "once accepted .. moves that clock, a data message too, which changes nothing else"
-unfoldable pub heardAt : (time : ℕ) → Pacer → Pacer
-heardAt time p = record { hello = p.hello; limit = p.limit; clock = time; due = p.due; heard = time }
+unfoldable pub heard_at : (time : ℕ) → Pacer → Pacer
+heard_at time p = record { hello = p.hello; limit = p.limit; clock = time; due = p.due; heard = time }
 
 unfoldable pub moved_to : (time : ℕ) → Pacer → Pacer
 moved_to time p = record { hello = p.hello; limit = p.limit; clock = time; due = p.due; heard = p.heard }

@@ -1,6 +1,6 @@
 // The pacer: when a query is due, and when the radio has been silent too long. Document 02, "Query pacing and silence".
 ghost use Rattle.std.specs.Prelude.{◌≡◌};
-ghost use Rattle.pacer.specs.Pacing.{freshPacer, pacerFits, isEarlier, passed, isDue, isSilent, asked, heardAt, moved_to, answer_of};
+ghost use Rattle.pacer.specs.Pacing.{fresh_pacer, pacer_fits, is_earlier, passed, is_due, is_silent, asked, heard_at, moved_to, answer_of};
 
 use quantity::refusal::Refusal;
 
@@ -26,7 +26,7 @@ pub enum PaceAnswer {
 
 // Both waits first run from 0.
 pub fn fresh(hello: u64, limit: u64) -> Pacer
-    ensures { result ≡ freshPacer hello limit }
+    ensures { result ≡ fresh_pacer hello limit }
 {
     Pacer {
         hello,
@@ -39,14 +39,14 @@ pub fn fresh(hello: u64, limit: u64) -> Pacer
 
 // Number 22 is given where this doesn't hold.
 pub fn fits(hello: u64, limit: u64) -> bool
-    ensures { result ≡ pacerFits (freshPacer hello limit) }
+    ensures { result ≡ pacer_fits (fresh_pacer hello limit) }
 {
     0 < hello && 0 < limit
 }
 
 // Number 21.
 pub fn is_earlier(pacer: Pacer, time: u64) -> bool
-    ensures { result ≡ isEarlier time pacer }
+    ensures { result ≡ is_earlier time pacer }
 {
     time < pacer.clock
 }
@@ -62,13 +62,13 @@ fn has_passed(since: u64, wait: u64, time: u64) -> bool
 }
 
 pub fn is_due(pacer: Pacer, time: u64) -> bool
-    ensures { result ≡ isDue time pacer }
+    ensures { result ≡ is_due time pacer }
 {
     has_passed(pacer.due, pacer.hello, time)
 }
 
 pub fn is_silent(pacer: Pacer, time: u64) -> bool
-    ensures { result ≡ isSilent time pacer }
+    ensures { result ≡ is_silent time pacer }
 {
     has_passed(pacer.heard, pacer.limit, time)
 }
@@ -88,7 +88,7 @@ pub fn ask(pacer: Pacer, time: u64) -> Pacer
 
 // An accepted radio control message moves the clock, and the silence runs from it.
 pub fn hear(pacer: Pacer, time: u64) -> Pacer
-    ensures { result ≡ heardAt time pacer }
+    ensures { result ≡ heard_at time pacer }
 {
     let mut next = pacer;
     next.clock = time;

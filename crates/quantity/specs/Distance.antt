@@ -32,5 +32,5 @@ unfoldable pub fits_of : FlowSequence → FlowWindow → ByteCount → Bool
 fits_of sequence window bytes = int_le (pos bytes.0) (distance_of sequence window)
 
 -- "Sending under a window adds n to the sequence modulo 2^32"
-abbrev pub advanceOf : FlowSequence → ByteCount → FlowSequence
-advanceOf sequence bytes = record { 0 = (sequence.0 + bytes.0) % 2 ^ 32 }
+abbrev pub advance_of : FlowSequence → ByteCount → FlowSequence
+advance_of sequence bytes = record { 0 = (sequence.0 + bytes.0) % 2 ^ 32 }

@@ -1,6 +1,6 @@
 // Document 01, "Counting": the five sorts of quantity, and the distance from a sequence to a window.
 ghost use Rattle.std.specs.Prelude.{◌≡◌};
-ghost use Rattle.quantity.specs.Distance.{ahead_of, distance_of, fits_of, advanceOf};
+ghost use Rattle.quantity.specs.Distance.{ahead_of, distance_of, fits_of, advance_of};
 
 #[derive(Drop)]
 pub struct DatalinkId(pub u8);
@@ -55,7 +55,7 @@ pub fn fits(sequence: FlowSequence, window: FlowWindow, bytes: ByteCount) -> boo
 
 // Sending under a window adds the bytes to the sequence modulo 2^32.
 pub fn advance(sequence: FlowSequence, bytes: ByteCount) -> FlowSequence
-    ensures { result ≡ advanceOf sequence bytes }
+    ensures { result ≡ advance_of sequence bytes }
 {
     let low = (bytes.0 % 4294967296) as u32;
     FlowSequence(std::num::wrapping_add_u32(sequence.0, low))

@@ -9,48 +9,48 @@ use lib.ListN.{length}
 use Rattle.quantity.specs.Limits.{FEWEST-CHANNELS, MOST-CHANNELS}
 use Rattle.quantity.specs.Refusals.{NO-CHANNEL, OUTSIDE-LIMITS}
 use Rattle.radio_end_state.specs.declared.channel.Channel.{Channel}
-use Rattle.radio_end_state.specs.State.{State, channelAt}
-use Rattle.radio_end_state.specs.Limits.{stateFits, isConfigured, indexIn}
-use Rattle.radio_end_run.proofs.Places.{id-at, lacks-it, has-it}
-use Rattle.radio_end_words.specs.Words.{stateIn, Placed}
+use Rattle.radio_end_state.specs.State.{State, channel_at}
+use Rattle.radio_end_state.specs.Limits.{state_fits, is_configured, index_in}
+use Rattle.radio_end_run.proofs.Places.{id_at_lem, lacks_it, has_it}
+use Rattle.radio_end_words.specs.Words.{state_in, Placed}
 use Rattle.radio_end_telling.specs.declared.locate.Found.{Found}
-use Rattle.radio_end_telling.specs.Left.{foundOf}
-use Rattle.radio_end_telling.proofs.Settling.{found_at, found-placed}
+use Rattle.radio_end_telling.specs.Left.{found_of}
+use Rattle.radio_end_telling.proofs.Settling.{found_at, found_placed}
 use Rattle.radio_end.specs.declared.shown.ShowAnswer.{ShowAnswer}
-use Rattle.radio_end.specs.Shown.{wordsNeeded, refusedShow, shownOf}
+use Rattle.radio_end.specs.Shown.{words_needed, refused_show, shown_of}
 
 -- ---- how many words: from 1 to 64 channels, in literal numbers
-pub needs-none : (channels : ℕ) → channels < 1 → 0 ≡ wordsNeeded channels
-unfolding wordsNeeded
-needs-none channels h = rw (lt-leb FEWEST-CHANNELS channels h)
+pub needs_none : (channels : ℕ) → channels < 1 → 0 ≡ words_needed channels
+unfolding words_needed
+needs_none channels h = rw (lt-leb FEWEST-CHANNELS channels h)
 
 module _ (channels : ℕ) (some : 1 ≤ channels) where
-  pub needs-many : 64 < channels → 0 ≡ wordsNeeded channels
-  unfolding wordsNeeded
-  needs-many h = rw (le-leb FEWEST-CHANNELS channels some, lt-leb channels MOST-CHANNELS h)
+  pub needs_many : 64 < channels → 0 ≡ words_needed channels
+  unfolding words_needed
+  needs_many h = rw (le-leb FEWEST-CHANNELS channels some, lt-leb channels MOST-CHANNELS h)
 
-  pub needs-words : channels ≤ 64 → 8 + 8 * channels ≡ wordsNeeded channels
-  unfolding wordsNeeded
-  needs-words h = rw (le-leb FEWEST-CHANNELS channels some, le-leb channels MOST-CHANNELS h)
+  pub needs_words : channels ≤ 64 → 8 + 8 * channels ≡ words_needed channels
+  unfolding words_needed
+  needs_words h = rw (le-leb FEWEST-CHANNELS channels some, le-leb channels MOST-CHANNELS h)
 
 -- ---- a channel, by where it is found
 module _ (words : List ℕ) (id : ℕ) where
-  pub show-placed : (i : ℕ) → Found.At i ≡ foundOf (stateIn words) id → Placed words i
-  show-placed i e = found-placed words id i (found_at (stateIn words) id i e)
+  pub show_placed : (i : ℕ) → Found.At i ≡ found_of (state_in words) id → Placed words i
+  show_placed i e = found_placed words id i (found_at (state_in words) id i e)
 
-  pub show-channel : (i : ℕ) → Found.At i ≡ foundOf (stateIn words) id → (c : Channel) → c ≡ channelAt (stateIn words) i → ShowAnswer.Shown c ≡ shownOf (stateIn words) id
-  unfolding shownOf
-  show-channel i e c is =
-      let f = found_at (stateIn words) id i e in
+  pub show_channel : (i : ℕ) → Found.At i ≡ found_of (state_in words) id → (c : Channel) → c ≡ channel_at (state_in words) i → ShowAnswer.Shown c ≡ shown_of (state_in words) id
+  unfolding shown_of
+  show_channel i e c is =
+      let f = found_at (state_in words) id i e in
       rw (f.fits, f.has, is, f.index_is)
 
-  pub show-refused : (number : ℕ) → Found.Refused number ≡ foundOf (stateIn words) id → refusedShow number ≡ shownOf (stateIn words) id
-  unfolding shownOf foundOf
-  show-refused number e = go (stateFits (stateIn words)) refl (isConfigured (stateIn words) id) refl
+  pub show_refused : (number : ℕ) → Found.Refused number ≡ found_of (state_in words) id → refused_show number ≡ shown_of (state_in words) id
+  unfolding shown_of found_of
+  show_refused number e = go (state_fits (state_in words)) refl (is_configured (state_in words) id) refl
     where
-      go : (a : Bool) → stateFits (stateIn words) ≡ a → (b : Bool) → isConfigured (stateIn words) id ≡ b → refusedShow number ≡ shownOf (stateIn words) id
+      go : (a : Bool) → state_fits (state_in words) ≡ a → (b : Bool) → is_configured (state_in words) id ≡ b → refused_show number ≡ shown_of (state_in words) id
       go true f true g =
-          let at : Found.Refused number ≡ Found.At (indexIn (stateIn words) id) = rw (f, g) at e in
+          let at : Found.Refused number ≡ Found.At (index_in (state_in words) id) = rw (f, g) at e in
           let z : ◌≡◌ {A = ℕ} 0 1 = cc in
           absurd (omega arith)
       go true f false g =
@@ -64,44 +64,44 @@ module _ (words : List ℕ) (id : ℕ) where
 
 -- ---- the same of a state, by plain facts: 19, then 12, else the channel that has the ID
 module _ (s : State) (id : ℕ) where
-  pub shown-nineteen : stateFits s ≡ false → shownOf s id ≡ ShowAnswer.Refused (record { number = 19; place = 0 })
-  unfolding shownOf
-  shown-nineteen e = rw e
+  pub shown_nineteen : state_fits s ≡ false → shown_of s id ≡ ShowAnswer.Refused (record { number = 19; place = 0 })
+  unfolding shown_of
+  shown_nineteen e = rw e
 
-  pub shown-twelve : stateFits s ≡ true → isConfigured s id ≡ false → shownOf s id ≡ ShowAnswer.Refused (record { number = 12; place = 0 })
-  unfolding shownOf
-  shown-twelve e f = rw (e, f)
+  pub shown_twelve : state_fits s ≡ true → is_configured s id ≡ false → shown_of s id ≡ ShowAnswer.Refused (record { number = 12; place = 0 })
+  unfolding shown_of
+  shown_twelve e f = rw (e, f)
 
-  pub shown-channel : stateFits s ≡ true → isConfigured s id ≡ true → shownOf s id ≡ ShowAnswer.Shown (channelAt s (indexIn s id))
-  unfolding shownOf
-  shown-channel e f = rw (e, f)
+  pub shown_channel : state_fits s ≡ true → is_configured s id ≡ true → shown_of s id ≡ ShowAnswer.Shown (channel_at s (index_in s id))
+  unfolding shown_of
+  shown_channel e f = rw (e, f)
 
   -- a channel that is shown has the ID that was asked for
-  pub shown-own : (c : Channel) → shownOf s id ≡ ShowAnswer.Shown c → c.setting.id ≡ id
-  unfolding shownOf
-  shown-own c e = go (stateFits s) refl (isConfigured s id) refl
+  pub shown_own : (c : Channel) → shown_of s id ≡ ShowAnswer.Shown c → c.setting.id ≡ id
+  unfolding shown_of
+  shown_own c e = go (state_fits s) refl (is_configured s id) refl
     where
-      go : (a : Bool) → stateFits s ≡ a → (b : Bool) → isConfigured s id ≡ b → c.setting.id ≡ id
+      go : (a : Bool) → state_fits s ≡ a → (b : Bool) → is_configured s id ≡ b → c.setting.id ≡ id
       go true f true g =
-          let at : ShowAnswer.Shown (channelAt s (indexIn s id)) ≡ ShowAnswer.Shown c = rw (f, g) at e in
-          let same : c ≡ channelAt s (indexIn s id) = cc in
-          ap (λ (x : Channel). x.setting.id) same ∙ id-at s id g
+          let at : ShowAnswer.Shown (channel_at s (index_in s id)) ≡ ShowAnswer.Shown c = rw (f, g) at e in
+          let same : c ≡ channel_at s (index_in s id) = cc in
+          ap (λ (x : Channel). x.setting.id) same ∙ id_at_lem s id g
       go true f false g =
-          let at : refusedShow NO-CHANNEL ≡ ShowAnswer.Shown c = rw (f, g) at e in
+          let at : refused_show NO-CHANNEL ≡ ShowAnswer.Shown c = rw (f, g) at e in
           let z : ◌≡◌ {A = ℕ} 0 1 = cc in
           absurd (omega arith)
       go false f b g =
-          let at : refusedShow OUTSIDE-LIMITS ≡ ShowAnswer.Shown c = rw f at e in
+          let at : refused_show OUTSIDE-LIMITS ≡ ShowAnswer.Shown c = rw f at e in
           let z : ◌≡◌ {A = ℕ} 0 1 = cc in
           absurd (omega arith)
 
 -- ---- and without an order of tests: the channel that has the ID, 12 where none has it
-module _ (s : State) (fits : stateFits s ≡ true) where
-  pub shown-at : (index : ℕ) → index < length s.channels → shownOf s (channelAt s index).setting.id ≡ ShowAnswer.Shown (channelAt s index)
-  shown-at index inside =
-      let found = has-it s fits index inside in
-      shown-channel s (channelAt s index).setting.id fits found.0 ∙ ap (λ (i : ℕ). ShowAnswer.Shown (channelAt s i)) found.1
+module _ (s : State) (fits : state_fits s ≡ true) where
+  pub shown_at : (index : ℕ) → index < length s.channels → shown_of s (channel_at s index).setting.id ≡ ShowAnswer.Shown (channel_at s index)
+  shown_at index inside =
+      let found = has_it s fits index inside in
+      shown_channel s (channel_at s index).setting.id fits found.0 ∙ ap (λ (i : ℕ). ShowAnswer.Shown (channel_at s i)) found.1
 
-  pub shown-lacking : (id : ℕ) → ((index : ℕ) → index < length s.channels → (channelAt s index).setting.id ≡ id → ⊥)
-      → shownOf s id ≡ ShowAnswer.Refused (record { number = 12; place = 0 })
-  shown-lacking id none = shown-twelve s id fits (lacks-it s id none)
+  pub shown_lacking : (id : ℕ) → ((index : ℕ) → index < length s.channels → (channel_at s index).setting.id ≡ id → ⊥)
+      → shown_of s id ≡ ShowAnswer.Refused (record { number = 12; place = 0 })
+  shown_lacking id none = shown_twelve s id fits (lacks_it s id none)

@@ -1,7 +1,7 @@
 // What the words say of a channel. Nothing is changed.
 ghost use Rattle.std.specs.Prelude.{◌≡◌};
-ghost use Rattle.radio_end_words.specs.Words.{stateIn};
-ghost use Rattle.radio_end.specs.Shown.{shownOf};
+ghost use Rattle.radio_end_words.specs.Words.{state_in};
+ghost use Rattle.radio_end.specs.Shown.{shown_of};
 
 use quantity::refusal::Refusal;
 use radio_end_state::channel::Channel;
@@ -17,7 +17,7 @@ pub enum ShowAnswer {
 
 // 19, then 12.
 pub fn show(words: &[u64], id: u8) -> ShowAnswer
-    ensures { result ≡ shownOf (stateIn words.now) id }
+    ensures { result ≡ shown_of (state_in words.now) id }
 {
     match locate::find(words, id) {
         Found::At(index) => ShowAnswer::Shown(place::load(words, index)),

@@ -16,74 +16,74 @@ use Rattle.quantity.specs.Limits.{CHANNEL-IDS}
 use Rattle.meaning.specs.declared.message.Sequence.{Sequence}
 use Rattle.meaning.specs.declared.message.SequenceCell.{SequenceCell}
 use Rattle.meaning.specs.declared.message.Control.{Control}
-use Rattle.meaning.specs.Cells.{noSequence}
+use Rattle.meaning.specs.Cells.{no_sequence}
 use Rattle.radio_end_state.specs.declared.channel.Channel.{Channel}
-use Rattle.radio_end_state.specs.Channel.{hearingOn}
-use Rattle.radio_end_state.specs.State.{State, noChannel, channelAt, withChannels, withChannel}
-use Rattle.radio_end_state.specs.Limits.{up_to, ids, hasId, isConfigured, indexIn, stateFits}
-use Rattle.radio_end_state.specs.Calls.{sequenceIn, isStated, namesOwn, lacksNone, hearingAll}
-use Rattle.radio_end_state.proofs.UpTo.{up-to-by, up-to-out}
-use Rattle.radio_end_state.proofs.Fit.{ChannelFit, channel-fit, Fit, fit-facts, ids-length}
-use Rattle.radio_end_words.specs.Words.{HEAD, SLOT, wordsFor, slotStart, slot, channelIn, stateIn, channelWords, stateWords, Loadable}
-use Rattle.radio_end_words.proofs.Slots.{channel-back}
-use Rattle.radio_end_words.proofs.Whole.{state-length, slot-state, put-channel, fit_words}
-use Rattle.radio_end_words.proofs.Placing.{channel-loadable}
+use Rattle.radio_end_state.specs.Channel.{hearing_on}
+use Rattle.radio_end_state.specs.State.{State, no_channel, channel_at, with_channels, with_channel}
+use Rattle.radio_end_state.specs.Limits.{up_to, ids, has_id, is_configured, index_in, state_fits}
+use Rattle.radio_end_state.specs.Calls.{sequence_in, is_stated, names_own, lacks_none, hearing_all}
+use Rattle.radio_end_state.proofs.UpTo.{up_to_by, up_to_out}
+use Rattle.radio_end_state.proofs.Fit.{ChannelFit, channel_fit, Fit, fit_facts, ids_length}
+use Rattle.radio_end_words.specs.Words.{HEAD, SLOT, words_for, slot_start, slot, channel_in, state_in, channel_words, state_words, Loadable}
+use Rattle.radio_end_words.proofs.Slots.{channel_back}
+use Rattle.radio_end_words.proofs.Whole.{state_length, slot_state, put_channel_lem, fit_words}
+use Rattle.radio_end_words.proofs.Placing.{channel_loadable}
 use Rattle.radio_end_message.specs.Changed.{hears}
-use Rattle.radio_end_hearing.specs.Passing.{heardTo}
+use Rattle.radio_end_hearing.specs.Passing.{heard_to}
 
 -- ---- every channel that is named is configured
-pub configured-is : (s : State) (id i n : ℕ) → i ≡ indexIn s id → n ≡ length s.channels → ltb i n ≡ isConfigured s id
-unfolding hasId
-configured-is s id i n e f = rw (e, f, ids-length s.channels)
+pub configured_is : (s : State) (id i n : ℕ) → i ≡ index_in s id → n ≡ length s.channels → ltb i n ≡ is_configured s id
+unfolding has_id
+configured_is s id i n e f = rw (e, f, ids_length s.channels)
 
 pub record Asking (s : State) (message : Control) (id : ℕ) : Type 0 where
   pub inside : id ≤ CHANNEL-IDS
-  pub asked : (k : ℕ) → k < id → namesOwn s message k ≡ true
+  pub asked : (k : ℕ) → k < id → names_own s message k ≡ true
 
 module _ (s : State) (message : Control) where
-  pub ask-start : Asking s message 0
-  ask-start = record { inside = omega arith; asked = λ k h. absurd (omega arith) }
+  pub ask_start : Asking s message 0
+  ask_start = record { inside = omega arith; asked = λ k h. absurd (omega arith) }
 
-  pub ask_out : (id : ℕ) → id < CHANNEL-IDS → (r : Bool) → r ≡ (not (isStated (get_or message.sequences id noSequence).sequence) || isConfigured s id) → r ≡ false → false ≡ lacksNone s message
-  unfolding lacksNone sequenceIn
-  ask_out id h r is e = sym (up-to-out (namesOwn s message) CHANNEL-IDS id h (sym is ∙ e))
+  pub ask_out : (id : ℕ) → id < CHANNEL-IDS → (r : Bool) → r ≡ (not (is_stated (get_or message.sequences id no_sequence).sequence) || is_configured s id) → r ≡ false → false ≡ lacks_none s message
+  unfolding lacks_none sequence_in
+  ask_out id h r is e = sym (up_to_out (names_own s message) CHANNEL-IDS id h (sym is ∙ e))
 
-  pub ask-on : (id : ℕ) → Asking s message id → id < CHANNEL-IDS → (r : Bool) → r ≡ (not (isStated (get_or message.sequences id noSequence).sequence) || isConfigured s id) → r ≡ true → Asking s message (id + 1)
-  unfolding sequenceIn
-  ask-on id a h r is e = record {
+  pub ask_on : (id : ℕ) → Asking s message id → id < CHANNEL-IDS → (r : Bool) → r ≡ (not (is_stated (get_or message.sequences id no_sequence).sequence) || is_configured s id) → r ≡ true → Asking s message (id + 1)
+  unfolding sequence_in
+  ask_on id a h r is e = record {
     inside = omega arith;
     asked = λ k l. ⊎_elim (λ (p : k ≡ id). rw p (sym is ∙ e)) (λ (o : k < id). a.asked k o) (eq-or-lt_of_le (omega arith));
   }
 
-  pub ask-end : (id : ℕ) → Asking s message id → CHANNEL-IDS ≤ id → true ≡ lacksNone s message
-  unfolding lacksNone
-  ask-end id a h = sym (up-to-by (namesOwn s message) CHANNEL-IDS (λ k l. a.asked k (omega (arith, a.inside))))
+  pub ask_end : (id : ℕ) → Asking s message id → CHANNEL-IDS ≤ id → true ≡ lacks_none s message
+  unfolding lacks_none
+  ask_end id a h = sym (up_to_by (names_own s message) CHANNEL-IDS (λ k l. a.asked k (omega (arith, a.inside))))
 
 -- ---- the first channels have heard
 module _ (cells : List SequenceCell) where
-  heard-length : (cs : List Channel) (at : ℕ) → length (heardTo cells cs at) ≡ length cs
-  unfolding heardTo
-  heard-length [] zero = refl
-  heard-length [] (suc at) = refl
-  heard-length (c ∷ cs) zero = refl
-  heard-length (c ∷ cs) (suc at) = ap suc (heard-length cs at)
+  heard_length : (cs : List Channel) (at : ℕ) → length (heard_to cells cs at) ≡ length cs
+  unfolding heard_to
+  heard_length [] zero = refl
+  heard_length [] (suc at) = refl
+  heard_length (c ∷ cs) zero = refl
+  heard_length (c ∷ cs) (suc at) = ap suc (heard_length cs at)
 
-  heard-next : (cs : List Channel) (at : ℕ) → get_or (heardTo cells cs at) at noChannel ≡ get_or cs at noChannel
-  unfolding heardTo
-  heard-next [] zero = refl
-  heard-next [] (suc at) = refl
-  heard-next (c ∷ cs) zero = refl
-  heard-next (c ∷ cs) (suc at) = heard-next cs at
+  heard_next : (cs : List Channel) (at : ℕ) → get_or (heard_to cells cs at) at no_channel ≡ get_or cs at no_channel
+  unfolding heard_to
+  heard_next [] zero = refl
+  heard_next [] (suc at) = refl
+  heard_next (c ∷ cs) zero = refl
+  heard_next (c ∷ cs) (suc at) = heard_next cs at
 
-  heard-more : (cs : List Channel) (at : ℕ) → at < length cs → set (heardTo cells cs at) at (hears cells (get_or cs at noChannel)) ≡ heardTo cells cs (suc at)
-  unfolding heardTo
-  heard-more [] at h = absurd (omega arith)
-  heard-more (c ∷ cs) zero h = refl
-  heard-more (c ∷ cs) (suc at) h = ap (λ (ds : List Channel). hears cells c ∷ ds) (heard-more cs at (omega arith))
+  heard_more : (cs : List Channel) (at : ℕ) → at < length cs → set (heard_to cells cs at) at (hears cells (get_or cs at no_channel)) ≡ heard_to cells cs (suc at)
+  unfolding heard_to
+  heard_more [] at h = absurd (omega arith)
+  heard_more (c ∷ cs) zero h = refl
+  heard_more (c ∷ cs) (suc at) h = ap (λ (ds : List Channel). hears cells c ∷ ds) (heard_more cs at (omega arith))
 
-  heard-end : (cs : List Channel) (at : ℕ) → length cs ≤ at → heardTo cells cs at ≡ map (hears cells) cs
-  unfolding heardTo
-  heard-end cs at h = rw (take_all at cs h, drop_of_length-le cs {i = at} h) (append-nil (map (hears cells) cs))
+  heard_end : (cs : List Channel) (at : ℕ) → length cs ≤ at → heard_to cells cs at ≡ map (hears cells) cs
+  unfolding heard_to
+  heard_end cs at h = rw (take_all at cs h, drop_of_length-le cs {i = at} h) (append-nil (map (hears cells) cs))
 
 -- ---- the words as they hear
 pub more_by : (n k at : ℕ) → n ≡ k → at < n → at < k
@@ -93,71 +93,71 @@ pub end_by : (n k at : ℕ) → n ≡ k → n ≤ at → k ≤ at
 end_by n k at e h = omega arith
 
 abbrev pub passed : State → Control → ℕ → State
-passed s message at = withChannels s (heardTo message.sequences s.channels at)
+passed s message at = with_channels s (heard_to message.sequences s.channels at)
 
 pub record Hearing (s : State) (message : Control) (words : List ℕ) (at from : ℕ) : Type 0 where
   pub inside : at ≤ length s.channels
-  pub from_is : from ≡ slotStart at
-  pub words_are : words ≡ stateWords (passed s message at)
+  pub from_is : from ≡ slot_start at
+  pub words_are : words ≡ state_words (passed s message at)
 
-pub hear-start : (words : List ℕ) (message : Control) → stateFits (stateIn words) ≡ true → Hearing (stateIn words) message words 0 HEAD
-unfolding heardTo withChannels
-hear-start words message fits = record { inside = omega arith; from_is = omega arith; words_are = sym (fit_words words fits) }
+pub hear_start : (words : List ℕ) (message : Control) → state_fits (state_in words) ≡ true → Hearing (state_in words) message words 0 HEAD
+unfolding heard_to with_channels
+hear_start words message fits = record { inside = omega arith; from_is = omega arith; words_are = sym (fit_words words fits) }
 
-module _ (s : State) (fits : stateFits s ≡ true) (message : Control) (words : List ℕ) (at from : ℕ) (h : Hearing s message words at from) where
-  pub hear-length : length words ≡ wordsFor (length s.channels)
-  unfolding withChannels
-  hear-length = ap length h.words_are ∙ state-length (passed s message at) ∙ ap wordsFor (heard-length message.sequences s.channels at)
+module _ (s : State) (fits : state_fits s ≡ true) (message : Control) (words : List ℕ) (at from : ℕ) (h : Hearing s message words at from) where
+  pub hear_length : length words ≡ words_for (length s.channels)
+  unfolding with_channels
+  hear_length = ap length h.words_are ∙ state_length (passed s message at) ∙ ap words_for (heard_length message.sequences s.channels at)
 
   module _ (more : at < length s.channels) where
     abbrev part : List ℕ
     part = take ((from + SLOT) - from) (drop from words)
 
-    slot-here : slot words at ≡ channelWords (channelAt s at)
-    unfolding withChannels channelAt
-    slot-here =
-        ap (λ (w : List ℕ). slot w at) h.words_are ∙ slot-state (passed s message at) at (omega (arith, heard-length message.sequences s.channels at))
-        ∙ ap channelWords (heard-next message.sequences s.channels at)
+    slot_here : slot words at ≡ channel_words (channel_at s at)
+    unfolding with_channels channel_at
+    slot_here =
+        ap (λ (w : List ℕ). slot w at) h.words_are ∙ slot_state (passed s message at) at (omega (arith, heard_length message.sequences s.channels at))
+        ∙ ap channel_words (heard_next message.sequences s.channels at)
 
-    part-is : part ≡ channelWords (channelAt s at)
+    part_is : part ≡ channel_words (channel_at s at)
     unfolding slot
-    part-is =
+    part_is =
         let size : (from + SLOT) - from ≡ SLOT = omega arith in
-        rw (size, h.from_is) slot-here
+        rw (size, h.from_is) slot_here
 
-    fit-here : ChannelFit (channelAt s at)
-    fit-here = channel-fit (channelAt s at) ((fit-facts s fits).each at more)
+    fit_here : ChannelFit (channel_at s at)
+    fit_here = channel_fit (channel_at s at) ((fit_facts s fits).each at more)
 
-    pub here-loadable : Loadable part
-    here-loadable = rw part-is (channel-loadable (channelAt s at) fit-here)
+    pub here_loadable : Loadable part
+    here_loadable = rw part_is (channel_loadable (channel_at s at) fit_here)
 
-    pub here-loaded : (c : Channel) → c ≡ channelIn part → c ≡ channelAt s at
-    here-loaded c e = e ∙ rw part-is (channel-back (channelAt s at))
+    pub here_loaded : (c : Channel) → c ≡ channel_in part → c ≡ channel_at s at
+    here_loaded c e = e ∙ rw part_is (channel_back (channel_at s at))
 
-    pub here-small : (c : Channel) → c ≡ channelIn part → c.setting.id < 255
-    here-small c e = rw (here-loaded c e) fit-here.unreserved
+    pub here_small : (c : Channel) → c ≡ channel_in part → c.setting.id < 255
+    here_small c e = rw (here_loaded c e) fit_here.unreserved
 
-    pub here-bound : from + SLOT ≤ 520
-    here-bound = omega (arith, h.from_is, (fit-facts s fits).few)
+    pub here_bound : from + SLOT ≤ 520
+    here_bound = omega (arith, h.from_is, (fit_facts s fits).few)
 
-    pub here-ends : from + SLOT ≤ length words
-    here-ends = omega (arith, hear-length, h.from_is)
+    pub here_ends : from + SLOT ≤ length words
+    here_ends = omega (arith, hear_length, h.from_is)
 
-    pub hear-on : (c d : Channel) → c ≡ channelIn part → d ≡ hearingOn c (get_or message.sequences c.setting.id noSequence).sequence → (saved : List ℕ) → saved ≡ channelWords d
+    pub hear_on : (c d : Channel) → c ≡ channel_in part → d ≡ hearing_on c (get_or message.sequences c.setting.id no_sequence).sequence → (saved : List ℕ) → saved ≡ channel_words d
         → Hearing s message (put_mid from ((from + SLOT) - from) words saved) (at + 1) (from + SLOT)
-    unfolding withChannels withChannel channelAt
-    hear-on c d e is saved w = record { inside = omega arith; from_is = omega (arith, h.from_is); words_are = next }
+    unfolding with_channels with_channel channel_at
+    hear_on c d e is saved w = record { inside = omega arith; from_is = omega (arith, h.from_is); words_are = next }
       where
         size : (from + SLOT) - from ≡ SLOT
         size = omega arith
 
-        heard : d ≡ hears message.sequences (get_or s.channels at noChannel)
-        heard = is ∙ ap (hears message.sequences) (here-loaded c e)
+        heard : d ≡ hears message.sequences (get_or s.channels at no_channel)
+        heard = is ∙ ap (hears message.sequences) (here_loaded c e)
 
-        next : put_mid from ((from + SLOT) - from) words saved ≡ stateWords (passed s message (at + 1))
+        next : put_mid from ((from + SLOT) - from) words saved ≡ state_words (passed s message (at + 1))
         next =
-            rw (size, drop-drop, h.from_is, w, h.words_are, put-channel (passed s message at) at d (omega (arith, heard-length message.sequences s.channels at)), heard, heard-more message.sequences s.channels at more, add-one at)
+            rw (size, drop-drop, h.from_is, w, h.words_are, put_channel_lem (passed s message at) at d (omega (arith, heard_length message.sequences s.channels at)), heard, heard_more message.sequences s.channels at more, add-one at)
 
-  pub hear-end : length s.channels ≤ at → words ≡ stateWords (hearingAll s message)
-  unfolding hearingAll sequenceIn withChannels
-  hear-end l = h.words_are ∙ rw (heard-end message.sequences s.channels at l)
+  pub hear_end : length s.channels ≤ at → words ≡ state_words (hearing_all s message)
+  unfolding hearing_all sequence_in with_channels
+  hear_end l = h.words_are ∙ rw (heard_end message.sequences s.channels at l)

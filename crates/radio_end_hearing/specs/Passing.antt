@@ -4,5 +4,5 @@ use Rattle.meaning.specs.declared.message.SequenceCell.{SequenceCell}
 use Rattle.radio_end_state.specs.declared.channel.Channel.{Channel}
 use Rattle.radio_end_message.specs.Changed.{hears}
 
-unfoldable pub heardTo : List SequenceCell → List Channel → ℕ → List Channel
-heardTo cells cs at = map (hears cells) (take at cs) ++ drop at cs
+unfoldable pub heard_to : List SequenceCell → List Channel → ℕ → List Channel
+heard_to cells cs at = map (hears cells) (take at cs) ++ drop at cs

@@ -1,9 +1,9 @@
 // A datagram of the IPS end, heard by the radio's: a control message is answered; a data message is heard and its packet queued. 19, then 1 to 11 as for reading,
 // then 12, then 18; a refusal leaves every word and the output as they were.
 ghost use Rattle.std.specs.Prelude.{◌≡◌, true, not, ◌||◌};
-ghost use Rattle.radio_end_state.specs.Limits.{stateFits, isConfigured};
-ghost use Rattle.radio_end_state.specs.Calls.{isStated, lacksNone, channelNamed, sequenceCounted, hearingAll, controlHeard, dataHeard, controlRead, dataRead, heard};
-ghost use Rattle.radio_end_words.specs.Words.{stateIn, stateWords};
+ghost use Rattle.radio_end_state.specs.Limits.{state_fits, is_configured};
+ghost use Rattle.radio_end_state.specs.Calls.{is_stated, lacks_none, channel_named, sequence_counted, hearing_all, control_heard, data_heard, control_read, data_read, heard};
+ghost use Rattle.radio_end_words.specs.Words.{state_in, state_words};
 ghost use Rattle.radio_end_telling.specs.Left.{Left};
 
 use meaning::message;
@@ -24,8 +24,8 @@ use writer::answer::WriteAnswer;
 
 // Whether what is stated of a Channel ID names a channel that is configured, or nothing is.
 fn names_own(words: &[u64], id: u8, stated: Sequence) -> bool
-    requires { stateFits (stateIn words.now) ≡ true }
-    ensures { result ≡ (not (isStated stated) || isConfigured (stateIn words.now) id) }
+    requires { state_fits (state_in words.now) ≡ true }
+    ensures { result ≡ (not (is_stated stated) || is_configured (state_in words.now) id) }
 {
     match stated {
         Sequence::Absent => true,
@@ -35,8 +35,8 @@ fn names_own(words: &[u64], id: u8, stated: Sequence) -> bool
 
 // Whether every channel that a control message names is configured.
 fn lacks_none(words: &[u64], message: Control) -> bool
-    requires { stateFits (stateIn words.now) ≡ true }
-    ensures { result ≡ lacksNone (stateIn words.now) message }
+    requires { state_fits (state_in words.now) ≡ true }
+    ensures { result ≡ lacks_none (state_in words.now) message }
 {
     let mut id: u8 = 0;
     while id < RESERVED_CHANNEL {
@@ -52,8 +52,8 @@ fn lacks_none(words: &[u64], message: Control) -> bool
 
 // Every channel hears what is stated of its Channel ID.
 fn save_heard(words: &mut [u64], message: Control)
-    requires { stateFits (stateIn words.old) ≡ true }
-    ensures { words.new ≡ stateWords (hearingAll (stateIn words.old) message) }
+    requires { state_fits (state_in words.old) ≡ true }
+    ensures { words.new ≡ state_words (hearing_all (state_in words.old) message) }
 {
     let count = place::count(words);
     let mut at = 0;
@@ -73,8 +73,8 @@ fn save_heard(words: &mut [u64], message: Control)
 
 // A control message is always answered, with windows as they are after hearing.
 fn control_accepted(words: &mut [u64], message: Control, out: &mut [u8]) -> Answer
-    requires { stateFits (stateIn words.old) ≡ true }
-    ensures { Left (controlHeard (stateIn words.old) message out.old) words.old result words.new out.new }
+    requires { state_fits (state_in words.old) ≡ true }
+    ensures { Left (control_heard (state_in words.old) message out.old) words.old result words.new out.new }
 {
     if !lacks_none(words, message) {
         return settle::refused(refusal::NO_CHANNEL);
@@ -98,8 +98,8 @@ fn control_accepted(words: &mut [u64], message: Control, out: &mut [u8]) -> Answ
 }
 
 fn control(words: &mut [u64], reading: ControlReading, out: &mut [u8]) -> Answer
-    requires { stateFits (stateIn words.old) ≡ true }
-    ensures { Left (controlRead (stateIn words.old) reading out.old) words.old result words.new out.new }
+    requires { state_fits (state_in words.old) ≡ true }
+    ensures { Left (control_read (state_in words.old) reading out.old) words.old result words.new out.new }
 {
     let verdict = reading.verdict;
     match verdict {
@@ -114,7 +114,7 @@ fn control(words: &mut [u64], reading: ControlReading, out: &mut [u8]) -> Answer
 }
 
 fn named(channel: message::Channel) -> u8
-    ensures { result ≡ channelNamed channel }
+    ensures { result ≡ channel_named channel }
 {
     match channel {
         message::Channel::Absent => 0,
@@ -123,7 +123,7 @@ fn named(channel: message::Channel) -> u8
 }
 
 fn counted(sequence: Counted) -> Sequence
-    ensures { result ≡ sequenceCounted sequence }
+    ensures { result ≡ sequence_counted sequence }
 {
     match sequence {
         Counted::Absent => Sequence::Absent,
@@ -133,8 +133,8 @@ fn counted(sequence: Counted) -> Sequence
 
 // Its Flow Sequence is heard, and its packet queued.
 fn data_accepted(words: &mut [u64], message: Data, bytes: ByteCount, out: &mut [u8]) -> Answer
-    requires { stateFits (stateIn words.old) ≡ true }
-    ensures { Left (dataHeard (stateIn words.old) message bytes out.old) words.old result words.new out.new }
+    requires { state_fits (state_in words.old) ≡ true }
+    ensures { Left (data_heard (state_in words.old) message bytes out.old) words.old result words.new out.new }
 {
     let channel = message.channel;
     let sequence = message.sequence;
@@ -149,8 +149,8 @@ fn data_accepted(words: &mut [u64], message: Data, bytes: ByteCount, out: &mut [
 }
 
 fn data(words: &mut [u64], reading: DataReading, bytes: ByteCount, out: &mut [u8]) -> Answer
-    requires { stateFits (stateIn words.old) ≡ true }
-    ensures { Left (dataRead (stateIn words.old) reading bytes out.old) words.old result words.new out.new }
+    requires { state_fits (state_in words.old) ≡ true }
+    ensures { Left (data_read (state_in words.old) reading bytes out.old) words.old result words.new out.new }
 {
     let verdict = reading.verdict;
     match verdict {
@@ -165,7 +165,7 @@ fn data(words: &mut [u64], reading: DataReading, bytes: ByteCount, out: &mut [u8
 
 // 19, then 1 to 11 as for reading, then 12, then 18.
 pub fn hear(words: &mut [u64], datagram: &[u8], out: &mut [u8]) -> Answer
-    ensures { Left (heard (stateIn words.old) datagram.now out.old) words.old result words.new out.new }
+    ensures { Left (heard (state_in words.old) datagram.now out.old) words.old result words.new out.new }
 {
     if !survey::fits(words) {
         return settle::refused(refusal::OUTSIDE_LIMITS);

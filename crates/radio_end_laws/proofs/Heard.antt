@@ -19,204 +19,204 @@ use Rattle.meaning.specs.declared.message.Counted.{Counted}
 use Rattle.meaning.specs.declared.message.Channel as named
 use Rattle.meaning.specs.declared.message.Control.{Control}
 use Rattle.meaning.specs.declared.message.Data.{Data}
-use Rattle.writer.specs.Written.{noRoom}
-use Rattle.reader.specs.Readings.{Verdict, ControlReading, DataReading, readControl, readData, planeOf, packetOf}
+use Rattle.writer.specs.Written.{no_room_of}
+use Rattle.reader.specs.Readings.{Verdict, ControlReading, DataReading, read_control, read_data, plane_of, packet_of}
 use Rattle.reader.specs.declared.answer.PlaneAnswer.{PlaneAnswer}
-use Rattle.acceptance.proofs.Verdicts.{control-numbers, data-numbers, plane-numbers, control-own, data-own}
-use Rattle.radio_flow.specs.Granting.{queuedOn}
+use Rattle.acceptance.proofs.Verdicts.{control_numbers, data_numbers, plane_numbers, control_own, data_own}
+use Rattle.radio_flow.specs.Granting.{queued_on}
 use Rattle.radio_end_state.specs.declared.answer.Answer.{Answer}
 use Rattle.radio_end_state.specs.declared.channel.Channel.{Channel}
-use Rattle.radio_end_state.specs.Channel.{hearingOn, queueing, withQueued}
-use Rattle.radio_end_state.specs.State.{State, channelAt, withChannels}
-use Rattle.radio_end_state.specs.Limits.{stateFits, isConfigured, indexIn}
-use Rattle.radio_end_state.specs.Message.{messageBytes, differs}
-use Rattle.radio_end_state.specs.Calls.{After, refusedAt, telling, sequenceIn, isStated, namesOwn, lacksNone, hearingAll, controlHeard, channelNamed, sequenceCounted, dataOn, dataHeard, heard}
-use Rattle.radio_end_state.proofs.UpTo.{up-to-at, up-to-by}
-use Rattle.radio_end_laws.specs.Plain.{Has, sequenceOf, eachChannel, ofId, namedChannel, countedSequence, controlTaken, dataTaken, NamesOwn, WindowChanges}
+use Rattle.radio_end_state.specs.Channel.{hearing_on, queueing, with_queued}
+use Rattle.radio_end_state.specs.State.{State, channel_at, with_channels}
+use Rattle.radio_end_state.specs.Limits.{state_fits, is_configured, index_in}
+use Rattle.radio_end_state.specs.Message.{message_bytes, differs}
+use Rattle.radio_end_state.specs.Calls.{After, refused_at, telling, sequence_in, is_stated, names_own, lacks_none, hearing_all, control_heard, channel_named, sequence_counted, data_on, data_heard, heard}
+use Rattle.radio_end_state.proofs.UpTo.{up_to_at, up_to_by}
+use Rattle.radio_end_laws.specs.Plain.{Has, sequence_of, each_channel, of_id, named_channel, counted_sequence, control_taken, data_taken, NamesOwn, WindowChanges}
 use Rattle.radio_end_laws.specs.Limits.{WithinLimits}
-use Rattle.radio_end_laws.specs.Given.{numbered, NoRoom, Given, given-19, given-12, given-20, given-18, given-message, given-quiet, Exactly, ReadingRefuses, by-header, by-control, by-data, ControlRead, DataRead, Reading, unread, control-read, data-read}
-use Rattle.radio_end_laws.proofs.Places.{has-exactly}
-use Rattle.radio_end_laws.proofs.Limits.{always, limits-exactly}
-use Rattle.radio_end_laws.proofs.Differs.{window-differs}
-use Rattle.radio_end_laws.proofs.Ordered.{off, no-room-exactly, Speaks, answered-speaks, unasked-speaks, ordered, exactly}
-use Rattle.radio_end_laws.proofs.Changed.{changing-ordered}
+use Rattle.radio_end_laws.specs.Given.{numbered, NoRoom, Given, given_19, given_12, given_20, given_18, given_message, given_quiet, Exactly, ReadingRefuses, by_header, by_control, by_data, ControlRead, DataRead, Reading, unread, control_read_lem, data_read_lem}
+use Rattle.radio_end_laws.proofs.Places.{has_exactly}
+use Rattle.radio_end_laws.proofs.Limits.{always, limits_exactly}
+use Rattle.radio_end_laws.proofs.Differs.{window_differs}
+use Rattle.radio_end_laws.proofs.Ordered.{off, no_room_exactly, Speaks, answered_speaks, unasked_speaks, ordered, exactly}
+use Rattle.radio_end_laws.proofs.Changed.{changing_ordered}
 
 -- ---- what a datagram is to the reader: refused, or an accepted message of one plane
 module _ (datalink : DatalinkId) (datagram : List ℕ) where
   abbrev control : ControlReading
-  control = readControl ends.Ips datalink datagram
+  control = read_control ends.Ips datalink datagram
 
   abbrev carried : DataReading
-  carried = readData ends.Ips datalink datagram
+  carried = read_data ends.Ips datalink datagram
 
-  of-control : planeOf datagram ≡ PlaneAnswer.Control → (v : Verdict) → control.verdict ≡ v → Reading datalink datagram
-  of-control p Verdict.Accepted e = control-read control.message (record { plane = p; reading = ap (λ (v : Verdict). record { verdict = v; message = control.message }) e })
-  of-control p Verdict.OtherPlane e = absurd (control-own ends.Ips datalink datagram p e)
-  of-control p (Verdict.Refused refusal) e = unread refusal (by-control p e)
+  of_control_lem : plane_of datagram ≡ PlaneAnswer.Control → (v : Verdict) → control.verdict ≡ v → Reading datalink datagram
+  of_control_lem p Verdict.Accepted e = control_read_lem control.message (record { plane = p; reading = ap (λ (v : Verdict). record { verdict = v; message = control.message }) e })
+  of_control_lem p Verdict.OtherPlane e = absurd (control_own ends.Ips datalink datagram p e)
+  of_control_lem p (Verdict.Refused refusal) e = unread refusal (by_control p e)
 
-  of-data : planeOf datagram ≡ PlaneAnswer.Data → (v : Verdict) → carried.verdict ≡ v → Reading datalink datagram
-  of-data p Verdict.Accepted e = data-read carried.message (record { plane = p; reading = ap (λ (v : Verdict). record { verdict = v; message = carried.message }) e })
-  of-data p Verdict.OtherPlane e = absurd (data-own ends.Ips datalink datagram p e)
-  of-data p (Verdict.Refused refusal) e = unread refusal (by-data p e)
+  of_data_lem : plane_of datagram ≡ PlaneAnswer.Data → (v : Verdict) → carried.verdict ≡ v → Reading datalink datagram
+  of_data_lem p Verdict.Accepted e = data_read_lem carried.message (record { plane = p; reading = ap (λ (v : Verdict). record { verdict = v; message = carried.message }) e })
+  of_data_lem p Verdict.OtherPlane e = absurd (data_own ends.Ips datalink datagram p e)
+  of_data_lem p (Verdict.Refused refusal) e = unread refusal (by_data p e)
 
-  by-plane : (p : PlaneAnswer) → planeOf datagram ≡ p → Reading datalink datagram
-  by-plane PlaneAnswer.Control p = of-control p control.verdict refl
-  by-plane PlaneAnswer.Data p = of-data p carried.verdict refl
-  by-plane (PlaneAnswer.Refused refusal) p = unread refusal (by-header p)
+  by_plane_lem : (p : PlaneAnswer) → plane_of datagram ≡ p → Reading datalink datagram
+  by_plane_lem PlaneAnswer.Control p = of_control_lem p control.verdict refl
+  by_plane_lem PlaneAnswer.Data p = of_data_lem p carried.verdict refl
+  by_plane_lem (PlaneAnswer.Refused refusal) p = unread refusal (by_header p)
 
   pub reads : Reading datalink datagram
-  reads = by-plane (planeOf datagram) refl
+  reads = by_plane_lem (plane_of datagram) refl
 
 -- ---- 12, of a control message
-lacks-exactly : (s : State) (m : Control) → (lacksNone s m ≡ true) ↔ NamesOwn s m
-unfolding lacksNone sequenceIn
-lacks-exactly s m = (
+lacks_exactly : (s : State) (m : Control) → (lacks_none s m ≡ true) ↔ NamesOwn s m
+unfolding lacks_none sequence_in
+lacks_exactly s m = (
   λ e id h sequence is.
-      let own : (not (isStated (sequenceOf m id)) || isConfigured s id) ≡ true = up-to-at (namesOwn s m) CHANNEL-IDS e id h in
-      (has-exactly s id).0 (rw is at own),
-  λ f. up-to-by (namesOwn s m) CHANNEL-IDS (λ id h. by-stated id (sequenceOf m id) (λ sequence e. f id h sequence e)),
+      let own : (not (is_stated (sequence_of m id)) || is_configured s id) ≡ true = up_to_at (names_own s m) CHANNEL-IDS e id h in
+      (has_exactly s id).0 (rw is at own),
+  λ f. up_to_by (names_own s m) CHANNEL-IDS (λ id h. by_stated id (sequence_of m id) (λ sequence e. f id h sequence e)),
 )
   where
-    by-stated : (id : ℕ) (stated : Sequence) → ((sequence : FlowSequence) → stated ≡ Sequence.Given sequence → Has s id) → (not (isStated stated) || isConfigured s id) ≡ true
-    by-stated id Sequence.Absent f = refl
-    by-stated id (Sequence.Given sequence) f = (has-exactly s id).1 (f sequence refl)
+    by_stated : (id : ℕ) (stated : Sequence) → ((sequence : FlowSequence) → stated ≡ Sequence.Given sequence → Has s id) → (not (is_stated stated) || is_configured s id) ≡ true
+    by_stated id Sequence.Absent f = refl
+    by_stated id (Sequence.Given sequence) f = (has_exactly s id).1 (f sequence refl)
 
 -- ---- what a data message names and states
-named-is : (channel : named.Channel) → channelNamed channel ≡ namedChannel channel
-named-is named.Channel.Absent = refl
-named-is (named.Channel.Given id) = refl
+named_is : (channel : named.Channel) → channel_named channel ≡ named_channel channel
+named_is named.Channel.Absent = refl
+named_is (named.Channel.Given id) = refl
 
-counted_is : (counted : Counted) → sequenceCounted counted ≡ countedSequence counted
+counted_is : (counted : Counted) → sequence_counted counted ≡ counted_sequence counted
 counted_is Counted.Absent = refl
 counted_is (Counted.Given id sequence) = refl
 
-taken_is : (m : Data) (bytes : ℕ) (c : Channel) → dataOn m (record { 0 = bytes }) c ≡ dataTaken m bytes c
-unfolding dataOn queueing withQueued hearingOn queuedOn
+taken_is : (m : Data) (bytes : ℕ) (c : Channel) → data_on m (record { 0 = bytes }) c ≡ data_taken m bytes c
+unfolding data_on queueing with_queued hearing_on queued_on
 taken_is m bytes c = rw (counted_is m.sequence)
 
 module _ (s : State) (datagram out : List ℕ) where
   abbrev short : State → Bool
-  short after = noRoom (length (messageBytes after)) (length out)
+  short after = no_room_of (length (message_bytes after)) (length out)
 
   -- ---- an accepted control message: 19, 12, 18
   module _ (m : Control) (accepted : ControlRead s.datalink datagram m) where
     -- its answer has windows as they are after hearing
-    abbrev pub afterControl : State
-    afterControl = eachChannel s (controlTaken m)
+    abbrev pub after_control : State
+    after_control = each_channel s (control_taken m)
 
-    pub control-ordered : heard s datagram out ≡ ordered (λ n. Answer.Answered n) s afterControl out (stateFits s) (lacksNone s m) true true (short afterControl)
-    unfolding heard controlHeard telling hearingAll withChannels hearingOn sequenceIn
-    control-ordered = rw (accepted.plane, accepted.reading)
+    pub control_ordered : heard s datagram out ≡ ordered (λ n. Answer.Answered n) s after_control out (state_fits s) (lacks_none s m) true true (short after_control)
+    unfolding heard control_heard telling hearing_all with_channels hearing_on sequence_in
+    control_ordered = rw (accepted.plane, accepted.reading)
 
-    pub heard-control-exactly : Exactly (WithinLimits s) (NamesOwn s m) (Unit {0}) (Unit {0}) (λ n. Answer.Answered n) s afterControl out (heard s datagram out)
-    heard-control-exactly =
-        exactly (λ n. Answer.Answered n) s afterControl out answered-speaks (stateFits s) (lacksNone s m) true true (limits-exactly s) (lacks-exactly s m) always always control-ordered
+    pub heard_control_exactly : Exactly (WithinLimits s) (NamesOwn s m) (Unit {0}) (Unit {0}) (λ n. Answer.Answered n) s after_control out (heard s datagram out)
+    heard_control_exactly =
+        exactly (λ n. Answer.Answered n) s after_control out answered_speaks (state_fits s) (lacks_none s m) true true (limits_exactly s) (lacks_exactly s m) always always control_ordered
 
     -- "answers each accepted IPS control message"
-    pub control-answered : WithinLimits s → NamesOwn s m → (NoRoom (messageBytes afterControl) out → ⊥)
-        → heard s datagram out ≡ record { answer = Answer.Answered (record { 0 = length (messageBytes afterControl) }); state = afterControl; output = over (messageBytes afterControl) out }
-    control-answered within own room = control-ordered ∙ rw ((limits-exactly s).1 within, (lacks-exactly s m).1 own, off (short afterControl) (no-room-exactly (messageBytes afterControl) out) room)
+    pub control_answered : WithinLimits s → NamesOwn s m → (NoRoom (message_bytes after_control) out → ⊥)
+        → heard s datagram out ≡ record { answer = Answer.Answered (record { 0 = length (message_bytes after_control) }); state = after_control; output = over (message_bytes after_control) out }
+    control_answered within own room = control_ordered ∙ rw ((limits_exactly s).1 within, (lacks_exactly s m).1 own, off (short after_control) (no_room_exactly (message_bytes after_control) out) room)
 
   -- ---- an accepted data message: 19, 12, 18
   module _ (m : Data) (accepted : DataRead s.datalink datagram m) where
-    abbrev pub channelOf : ℕ
-    channelOf = namedChannel m.channel
+    abbrev pub channel_of : ℕ
+    channel_of = named_channel m.channel
 
-    abbrev pub takenBy : Channel → Channel
-    takenBy = dataTaken m (length (packetOf datagram))
+    abbrev pub taken_by : Channel → Channel
+    taken_by = data_taken m (length (packet_of datagram))
 
-    abbrev pub afterData : State
-    afterData = ofId s channelOf takenBy
+    abbrev pub after_data : State
+    after_data = of_id s channel_of taken_by
 
-    pub data-ordered : heard s datagram out ≡ ordered (λ n. Answer.Unasked n) s afterData out (stateFits s) (isConfigured s channelOf) true (differs s afterData) (short afterData)
-    unfolding heard dataHeard
-    data-ordered =
-        rw (accepted.plane, accepted.reading, named-is m.channel, taken_is m (length (packetOf datagram)) (channelAt s (indexIn s channelOf)))
-        (changing-ordered s channelOf takenBy out (stateFits s) (isConfigured s channelOf) true refl refl)
+    pub data_ordered : heard s datagram out ≡ ordered (λ n. Answer.Unasked n) s after_data out (state_fits s) (is_configured s channel_of) true (differs s after_data) (short after_data)
+    unfolding heard data_heard
+    data_ordered =
+        rw (accepted.plane, accepted.reading, named_is m.channel, taken_is m (length (packet_of datagram)) (channel_at s (index_in s channel_of)))
+        (changing_ordered s channel_of taken_by out (state_fits s) (is_configured s channel_of) true refl refl)
 
     -- it makes a message exactly if a window changed
-    pub heard-data-exactly : Exactly (WithinLimits s) (Has s channelOf) (Unit {0}) (WindowChanges s channelOf takenBy) (λ n. Answer.Unasked n) s afterData out (heard s datagram out)
-    heard-data-exactly =
-        exactly (λ n. Answer.Unasked n) s afterData out unasked-speaks (stateFits s) (isConfigured s channelOf) true (differs s afterData)
-        (limits-exactly s) (has-exactly s channelOf) always (window-differs s channelOf takenBy (λ c. refl)) data-ordered
+    pub heard_data_exactly : Exactly (WithinLimits s) (Has s channel_of) (Unit {0}) (WindowChanges s channel_of taken_by) (λ n. Answer.Unasked n) s after_data out (heard s datagram out)
+    heard_data_exactly =
+        exactly (λ n. Answer.Unasked n) s after_data out unasked_speaks (state_fits s) (is_configured s channel_of) true (differs s after_data)
+        (limits_exactly s) (has_exactly s channel_of) always (window_differs s channel_of taken_by (λ c. refl)) data_ordered
 
   -- ---- 1 to 11
-  pub heard-unread : stateFits s ≡ true → (refusal : Refusal) → ReadingRefuses s.datalink datagram refusal → heard s datagram out ≡ refusedAt refusal s out
+  pub heard_unread : state_fits s ≡ true → (refusal : Refusal) → ReadingRefuses s.datalink datagram refusal → heard s datagram out ≡ refused_at refusal s out
   unfolding heard
-  heard-unread fits refusal (by-header p) = rw (fits, p)
-  heard-unread fits refusal (by-control p v) = rw (fits, p, v)
-  heard-unread fits refusal (by-data p v) = rw (fits, p, v)
+  heard_unread fits refusal (by_header p) = rw (fits, p)
+  heard_unread fits refusal (by_control p v) = rw (fits, p, v)
+  heard_unread fits refusal (by_data p v) = rw (fits, p, v)
 
   -- ---- 19
-  heard-outside : stateFits s ≡ false → heard s datagram out ≡ record { answer = numbered 19; state = s; output = out }
+  heard_outside : state_fits s ≡ false → heard s datagram out ≡ record { answer = numbered 19; state = s; output = out }
   unfolding heard
-  heard-outside e = rw e
+  heard_outside e = rw e
 
 -- no other refusal has a number up to 11
-one-refusal : {refusal other : Refusal} → Answer.Refused refusal ≡ Answer.Refused other → refusal ≡ other
-one-refusal e = cc
+one_refusal : {refusal other : Refusal} → Answer.Refused refusal ≡ Answer.Refused other → refusal ≡ other
+one_refusal e = cc
 
 high : (number : ℕ) (refusal : Refusal) → 12 ≤ number → numbered number ≡ Answer.Refused refusal → 12 ≤ refusal.number
-high number refusal h e = let same = ap (λ (r : Refusal). r.number) (one-refusal e) in omega (arith, h, same)
+high number refusal h e = let same = ap (λ (r : Refusal). r.number) (one_refusal e) in omega (arith, h, same)
 
-given-high : {Fits Named Writable Told : Type 0} (say : ByteCount → Answer) → Speaks say → (message out : List ℕ) (a : Answer) → Given Fits Named Writable Told say message out a
+given_high : {Fits Named Writable Told : Type 0} (say : ByteCount → Answer) → Speaks say → (message out : List ℕ) (a : Answer) → Given Fits Named Writable Told say message out a
     → (refusal : Refusal) → a ≡ Answer.Refused refusal → 12 ≤ refusal.number
-given-high say speaks message out a (given-19 x) refusal e = high 19 refusal (omega arith) e
-given-high say speaks message out a (given-12 x y) refusal e = high 12 refusal (omega arith) e
-given-high say speaks message out a (given-20 x y z) refusal e = high 20 refusal (omega arith) e
-given-high say speaks message out a (given-18 x y z u v) refusal e = high 18 refusal (omega arith) e
-given-high say speaks message out a (given-message x y z u v) refusal e = absurd (speaks.not-refused _ refusal e)
-given-high say speaks message out a (given-quiet x y z u) refusal e = clash (cc)
+given_high say speaks message out a (given_19 x) refusal e = high 19 refusal (omega arith) e
+given_high say speaks message out a (given_12 x y) refusal e = high 12 refusal (omega arith) e
+given_high say speaks message out a (given_20 x y z) refusal e = high 20 refusal (omega arith) e
+given_high say speaks message out a (given_18 x y z u v) refusal e = high 18 refusal (omega arith) e
+given_high say speaks message out a (given_message x y z u v) refusal e = absurd (speaks.not_refused _ refusal e)
+given_high say speaks message out a (given_quiet x y z u) refusal e = clash (cc)
 
 -- and reading has no higher one
-reading-low : (datalink : DatalinkId) (datagram : List ℕ) (refusal : Refusal) → ReadingRefuses datalink datagram refusal → refusal.number ≤ 11
-reading-low datalink datagram refusal (by-header p) = (plane-numbers datagram refusal p).1
-reading-low datalink datagram refusal (by-control p v) = (control-numbers ends.Ips datalink datagram refusal v).1
-reading-low datalink datagram refusal (by-data p v) = (data-numbers ends.Ips datalink datagram refusal v).1
+reading_low : (datalink : DatalinkId) (datagram : List ℕ) (refusal : Refusal) → ReadingRefuses datalink datagram refusal → refusal.number ≤ 11
+reading_low datalink datagram refusal (by_header p) = (plane_numbers datagram refusal p).1
+reading_low datalink datagram refusal (by_control p v) = (control_numbers ends.Ips datalink datagram refusal v).1
+reading_low datalink datagram refusal (by_data p v) = (data_numbers ends.Ips datalink datagram refusal v).1
 
 -- 19 is the state's alone
-one_number : (number other : ℕ) → numbered number ≡ numbered other → number ≡ other
-one_number number other e = ap (λ (r : Refusal). r.number) (one-refusal e)
+one_number_lem : (number other : ℕ) → numbered number ≡ numbered other → number ≡ other
+one_number_lem number other e = ap (λ (r : Refusal). r.number) (one_refusal e)
 
 alone : {Fits Named Writable Told : Type 0} (say : ByteCount → Answer) → Speaks say → (message out : List ℕ) (a : Answer) → Given Fits Named Writable Told say message out a
     → a ≡ numbered 19 → Fits → ⊥
-alone say speaks message out a (given-19 x) e = x
-alone say speaks message out a (given-12 x y) e = λ fits. omega (arith, one_number 12 19 e)
-alone say speaks message out a (given-20 x y z) e = λ fits. omega (arith, one_number 20 19 e)
-alone say speaks message out a (given-18 x y z u v) e = λ fits. omega (arith, one_number 18 19 e)
-alone say speaks message out a (given-message x y z u v) e = λ fits. speaks.not-refused _ _ e
-alone say speaks message out a (given-quiet x y z u) e = clash (cc)
+alone say speaks message out a (given_19 x) e = x
+alone say speaks message out a (given_12 x y) e = λ fits. omega (arith, one_number_lem 12 19 e)
+alone say speaks message out a (given_20 x y z) e = λ fits. omega (arith, one_number_lem 20 19 e)
+alone say speaks message out a (given_18 x y z u v) e = λ fits. omega (arith, one_number_lem 18 19 e)
+alone say speaks message out a (given_message x y z u v) e = λ fits. speaks.not_refused _ _ e
+alone say speaks message out a (given_quiet x y z u) e = clash (cc)
 
 module _ (s : State) (datagram out : List ℕ) where
   -- REFUSED BY 1 TO 11 exactly as reading refuses it, by that number and at that place
-  pub heard-reading : (refusal : Refusal) → refusal.number ≤ 11 → ((heard s datagram out).answer ≡ Answer.Refused refusal) ↔ (WithinLimits s × ReadingRefuses s.datalink datagram refusal)
-  heard-reading refusal low = (
-    λ e. fitting (stateFits s) refl e,
-    λ x. ap (λ (r : After). r.answer) (heard-unread s datagram out ((limits-exactly s).1 x.0) refusal x.1),
+  pub heard_reading : (refusal : Refusal) → refusal.number ≤ 11 → ((heard s datagram out).answer ≡ Answer.Refused refusal) ↔ (WithinLimits s × ReadingRefuses s.datalink datagram refusal)
+  heard_reading refusal low = (
+    λ e. fitting (state_fits s) refl e,
+    λ x. ap (λ (r : After). r.answer) (heard_unread s datagram out ((limits_exactly s).1 x.0) refusal x.1),
   )
     where
-      by-reading : stateFits s ≡ true → Reading s.datalink datagram → (heard s datagram out).answer ≡ Answer.Refused refusal → ReadingRefuses s.datalink datagram refusal
-      by-reading fits (unread other w) e =
-          let same : other ≡ refusal = one-refusal (sym (ap (λ (r : After). r.answer) (heard-unread s datagram out fits other w)) ∙ e) in
+      by_reading : state_fits s ≡ true → Reading s.datalink datagram → (heard s datagram out).answer ≡ Answer.Refused refusal → ReadingRefuses s.datalink datagram refusal
+      by_reading fits (unread other w) e =
+          let same : other ≡ refusal = one_refusal (sym (ap (λ (r : After). r.answer) (heard_unread s datagram out fits other w)) ∙ e) in
           subst (ReadingRefuses s.datalink datagram) same w
-      by-reading fits (control-read m a) e = let h = given-high (λ n. Answer.Answered n) answered-speaks _ out _ (((heard-control-exactly s datagram out m a).given _).0 e) refusal refl in absurd (omega (arith, h, low))
-      by-reading fits (data-read m a) e = let h = given-high (λ n. Answer.Unasked n) unasked-speaks _ out _ (((heard-data-exactly s datagram out m a).given _).0 e) refusal refl in absurd (omega (arith, h, low))
+      by_reading fits (control_read_lem m a) e = let h = given_high (λ n. Answer.Answered n) answered_speaks _ out _ (((heard_control_exactly s datagram out m a).given _).0 e) refusal refl in absurd (omega (arith, h, low))
+      by_reading fits (data_read_lem m a) e = let h = given_high (λ n. Answer.Unasked n) unasked_speaks _ out _ (((heard_data_exactly s datagram out m a).given _).0 e) refusal refl in absurd (omega (arith, h, low))
 
-      fitting : (f : Bool) → stateFits s ≡ f → (heard s datagram out).answer ≡ Answer.Refused refusal → WithinLimits s × ReadingRefuses s.datalink datagram refusal
-      fitting true f e = ((limits-exactly s).0 f, by-reading f (reads s.datalink datagram) e)
-      fitting false f e = let h = high 19 refusal (omega arith) (sym (ap (λ (r : After). r.answer) (heard-outside s datagram out f)) ∙ e) in absurd (omega (arith, h, low))
+      fitting : (f : Bool) → state_fits s ≡ f → (heard s datagram out).answer ≡ Answer.Refused refusal → WithinLimits s × ReadingRefuses s.datalink datagram refusal
+      fitting true f e = ((limits_exactly s).0 f, by_reading f (reads s.datalink datagram) e)
+      fitting false f e = let h = high 19 refusal (omega arith) (sym (ap (λ (r : After). r.answer) (heard_outside s datagram out f)) ∙ e) in absurd (omega (arith, h, low))
 
   -- REFUSED BY 19 exactly if the state is outside the limits, whatever the datagram is; then state and output are as they were
-  pub heard-nineteen : (((heard s datagram out).answer ≡ numbered 19) ↔ (WithinLimits s → ⊥))
+  pub heard_nineteen : (((heard s datagram out).answer ≡ numbered 19) ↔ (WithinLimits s → ⊥))
       × ((WithinLimits s → ⊥) → heard s datagram out ≡ record { answer = numbered 19; state = s; output = out })
-  heard-nineteen = ((λ e within. of-reading within (reads s.datalink datagram) e, λ never. ap (λ (r : After). r.answer) (outside never)), outside)
+  heard_nineteen = ((λ e within. of_reading within (reads s.datalink datagram) e, λ never. ap (λ (r : After). r.answer) (outside never)), outside)
     where
       outside : (WithinLimits s → ⊥) → heard s datagram out ≡ record { answer = numbered 19; state = s; output = out }
-      outside never = heard-outside s datagram out (off (stateFits s) (limits-exactly s) never)
+      outside never = heard_outside s datagram out (off (state_fits s) (limits_exactly s) never)
 
-      of-reading : WithinLimits s → Reading s.datalink datagram → (heard s datagram out).answer ≡ numbered 19 → ⊥
-      of-reading within (unread other w) e =
-          let same = one-refusal (sym (ap (λ (r : After). r.answer) (heard-unread s datagram out ((limits-exactly s).1 within) other w)) ∙ e) in
-          omega (arith, reading-low s.datalink datagram other w, ap (λ (r : Refusal). r.number) same)
-      of-reading within (control-read m a) e = alone (λ n. Answer.Answered n) answered-speaks _ out _ (((heard-control-exactly s datagram out m a).given _).0 e) refl within
-      of-reading within (data-read m a) e = alone (λ n. Answer.Unasked n) unasked-speaks _ out _ (((heard-data-exactly s datagram out m a).given _).0 e) refl within
+      of_reading : WithinLimits s → Reading s.datalink datagram → (heard s datagram out).answer ≡ numbered 19 → ⊥
+      of_reading within (unread other w) e =
+          let same = one_refusal (sym (ap (λ (r : After). r.answer) (heard_unread s datagram out ((limits_exactly s).1 within) other w)) ∙ e) in
+          omega (arith, reading_low s.datalink datagram other w, ap (λ (r : Refusal). r.number) same)
+      of_reading within (control_read_lem m a) e = alone (λ n. Answer.Answered n) answered_speaks _ out _ (((heard_control_exactly s datagram out m a).given _).0 e) refl within
+      of_reading within (data_read_lem m a) e = alone (λ n. Answer.Unasked n) unasked_speaks _ out _ (((heard_data_exactly s datagram out m a).given _).0 e) refl within

@@ -12,25 +12,25 @@ use Rattle.quantity.specs.Limits.{RESERVED-CHANNEL, HIGHEST-STATUS, MOST-ALLOWAN
 use Rattle.meaning.specs.declared.message.End.TheVariants as ends
 use Rattle.meaning.specs.declared.message.Instance.{Instance}
 use Rattle.meaning.specs.declared.message.Context.{Context}
-use Rattle.meaning.specs.Kinds.{lengthListed}
-use Rattle.writable.specs.Allowed.{instanceAllowed, contextAllowed}
+use Rattle.meaning.specs.Kinds.{length_listed}
+use Rattle.writable.specs.Allowed.{instance_allowed, context_allowed}
 use Rattle.radio_flow.specs.declared.Highest.{Highest}
 use Rattle.radio_end_state.specs.declared.channel.Channel.{Channel}
-use Rattle.radio_end_state.specs.State.{State, channelAt}
-use Rattle.radio_end_state.specs.Limits.{indexOf, standsFirst, highestFits, channelFits, ids, stateFits}
-use Rattle.radio_end_state.proofs.UpTo.{up-to-by}
-use Rattle.radio_end_state.proofs.Fit.{channel-fit, fit-facts, fit-state, ids_at, ids-length}
+use Rattle.radio_end_state.specs.State.{State, channel_at}
+use Rattle.radio_end_state.specs.Limits.{indexOf, stands_first, highest_fits, channel_fits, ids, state_fits}
+use Rattle.radio_end_state.proofs.UpTo.{up_to_by}
+use Rattle.radio_end_state.proofs.Fit.{channel_fit, fit_facts, fit_state, ids_at, ids_length}
 use Rattle.radio_end_laws.specs.Plain.{Spelled, ContextWritable, InstanceWritable}
 use Rattle.radio_end_laws.specs.Limits.{ChannelWithin, WithinLimits}
-use Rattle.radio_end_laws.proofs.Places.{index_is, index-least, has-exactly, stands-first}
+use Rattle.radio_end_laws.proofs.Places.{index_is, index_least, has_exactly, stands_first_lem}
 
 -- a test that always passes
 pub always : (true ≡ true) ↔ Unit {0}
 always = (λ e. tt, λ x. refl)
 
 -- ---- what can be written
-spelled-exactly : (number size : ℕ) → (((leb 1 size && leb size 8) && ltb number (256 ^ size)) ≡ true) ↔ Spelled number size
-spelled-exactly number size = (
+spelled_exactly : (number size : ℕ) → (((leb 1 size && leb size 8) && ltb number (256 ^ size)) ≡ true) ↔ Spelled number size
+spelled_exactly number size = (
   λ e.
       let a = (and-eq-true_iff (leb 1 size && leb size 8) (ltb number (256 ^ size))).0 e in
       let b = (and-eq-true_iff (leb 1 size) (leb size 8)).0 a.0 in
@@ -38,76 +38,76 @@ spelled-exactly number size = (
   λ x. rw (le-leb 1 size x.0, le-leb size 8 x.1, lt-ltb number (256 ^ size) x.2),
 )
 
-pub context-writable : (context : Context) → (contextAllowed ends.Radio context ≡ true) ↔ ContextWritable context
-unfolding lengthListed
-context-writable Context.Absent = always
-context-writable (Context.Given bytes size) = spelled-exactly bytes.0 size
+pub context_writable : (context : Context) → (context_allowed ends.Radio context ≡ true) ↔ ContextWritable context
+unfolding length_listed
+context_writable Context.Absent = always
+context_writable (Context.Given bytes size) = spelled_exactly bytes.0 size
 
-pub instance-writable : (instance : Instance) → (instanceAllowed ends.Radio instance ≡ true) ↔ InstanceWritable instance
-unfolding lengthListed
-instance-writable Instance.Absent = always
-instance-writable (Instance.Given number size) = spelled-exactly number.0 size
+pub instance_writable : (instance : Instance) → (instance_allowed ends.Radio instance ≡ true) ↔ InstanceWritable instance
+unfolding length_listed
+instance_writable Instance.Absent = always
+instance_writable (Instance.Given number size) = spelled_exactly number.0 size
 
 -- ---- a channel
-word_fits : (highest : Highest) → ((h : FlowSequence) → highest ≡ Highest.At h → h.0 < 4294967296) → highestFits highest ≡ true
+word_fits : (highest : Highest) → ((h : FlowSequence) → highest ≡ Highest.At h → h.0 < 4294967296) → highest_fits highest ≡ true
 word_fits Highest.Unheard f = refl
 word_fits (Highest.At h) f = lt-ltb h.0 (2 ^ 32) (f h refl)
 
-fits_word : (highest : Highest) → highestFits highest ≡ true → (h : FlowSequence) → highest ≡ Highest.At h → h.0 < 4294967296
+fits_word : (highest : Highest) → highest_fits highest ≡ true → (h : FlowSequence) → highest ≡ Highest.At h → h.0 < 4294967296
 fits_word highest e h is = ltb-true h.0 (2 ^ 32) (rw is at e)
 
-channel-within : (c : Channel) → channelFits c ≡ true → ChannelWithin c
-channel-within c e =
-    let f = channel-fit c e in
+channel_within : (c : Channel) → channel_fits c ≡ true → ChannelWithin c
+channel_within c e =
+    let f = channel_fit c e in
     record { unreserved = f.unreserved; watermark = f.watermark; throughput = f.throughput; status = f.status; highest = fits_word c.highest f.highest }
 
-within-channel : (c : Channel) → ChannelWithin c → channelFits c ≡ true
-unfolding channelFits
-within-channel c w =
+within_channel : (c : Channel) → ChannelWithin c → channel_fits c ≡ true
+unfolding channel_fits
+within_channel c w =
     rw (lt-ltb c.setting.id RESERVED-CHANNEL w.unreserved, le-leb c.setting.watermark.0 MOST-ALLOWANCE w.watermark, le-leb c.setting.throughput.0 MOST-ALLOWANCE w.throughput, le-leb c.status HIGHEST-STATUS w.status)
     (word_fits c.highest w.highest)
 
 -- ---- the state
 module _ (s : State) where
-  fits-within : stateFits s ≡ true → WithinLimits s
-  fits-within fits =
-      let f = fit-facts s fits in
+  fits_within : state_fits s ≡ true → WithinLimits s
+  fits_within fits =
+      let f = fit_facts s fits in
       record {
         datalink = f.datalink;
         some = f.some;
         few = f.few;
-        instance = (instance-writable s.instance).0 f.instance;
-        context = (context-writable s.context).0 f.context;
-        each = λ index h. channel-within (channelAt s index) (f.each index h);
+        instance = (instance_writable s.instance).0 f.instance;
+        context = (context_writable s.context).0 f.context;
+        each = λ index h. channel_within (channel_at s index) (f.each index h);
         apart = λ first second h k e.
-            sym (stands-first s fits (channelAt s second).setting.id first (record { inside = h; is = e })) ∙ stands-first s fits (channelAt s second).setting.id second (record { inside = k; is = refl });
-        primary = (has-exactly s 0).0 f.primary;
+            sym (stands_first_lem s fits (channel_at s second).setting.id first (record { inside = h; is = e })) ∙ stands_first_lem s fits (channel_at s second).setting.id second (record { inside = k; is = refl });
+        primary = (has_exactly s 0).0 f.primary;
       }
 
-  first-places : WithinLimits s → (i : ℕ) → i < length (ids s.channels) → standsFirst (ids s.channels) i ≡ true
-  unfolding channelAt
-  first-places w i h =
+  first_places : WithinLimits s → (i : ℕ) → i < length (ids s.channels) → stands_first (ids s.channels) i ≡ true
+  unfolding channel_at
+  first_places w i h =
       let ns = ids s.channels in
       let id = get_or ns i 0 in
-      let least = index-least id ns i h refl in
+      let least = index_least id ns i h refl in
       let near : indexOf id ns < length ns = omega (arith, least, h) in
-      let long = ids-length s.channels in
-      let same : (channelAt s (indexOf id ns)).setting.id ≡ (channelAt s i).setting.id = sym (ids_at s.channels (indexOf id ns)) ∙ index_is id ns near ∙ ids_at s.channels i in
+      let long = ids_length s.channels in
+      let same : (channel_at s (indexOf id ns)).setting.id ≡ (channel_at s i).setting.id = sym (ids_at s.channels (indexOf id ns)) ∙ index_is id ns near ∙ ids_at s.channels i in
       eq-eqb (indexOf id ns) i (w.apart (indexOf id ns) i (omega (arith, near, long)) (omega (arith, h, long)) same)
 
-  within-fits : WithinLimits s → stateFits s ≡ true
-  within-fits w =
-      fit-state s
+  within_fits : WithinLimits s → state_fits s ≡ true
+  within_fits w =
+      fit_state s
       (record {
         datalink = w.datalink;
         some = w.some;
         few = w.few;
-        instance = (instance-writable s.instance).1 w.instance;
-        context = (context-writable s.context).1 w.context;
-        each = λ index h. within-channel (channelAt s index) (w.each index h);
-        apart = up-to-by (standsFirst (ids s.channels)) (length (ids s.channels)) (first-places w);
-        primary = (has-exactly s 0).1 w.primary;
+        instance = (instance_writable s.instance).1 w.instance;
+        context = (context_writable s.context).1 w.context;
+        each = λ index h. within_channel (channel_at s index) (w.each index h);
+        apart = up_to_by (stands_first (ids s.channels)) (length (ids s.channels)) (first_places w);
+        primary = (has_exactly s 0).1 w.primary;
       })
 
-  pub limits-exactly : (stateFits s ≡ true) ↔ WithinLimits s
-  limits-exactly = (fits-within, within-fits)
+  pub limits_exactly : (state_fits s ≡ true) ↔ WithinLimits s
+  limits_exactly = (fits_within, within_fits)

@@ -13,13 +13,13 @@ use Rattle.quantity.specs.declared.refusal.Refusal.{Refusal}
 use Rattle.quantity.specs.Limits.{LONGEST-DATAGRAM}
 use Rattle.quantity.specs.Refusals.{NO-CHANNEL, NO-ROOM, OUTSIDE-LIMITS, NOT-WRITABLE}
 use Rattle.wire.specs.Options.{over}
-use Rattle.writer.specs.Written.{noRoom}
+use Rattle.writer.specs.Written.{no_room_of}
 use Rattle.radio_end_state.specs.declared.answer.Answer.{Answer}
 use Rattle.radio_end_state.specs.State.{State}
-use Rattle.radio_end_state.specs.Message.{messageBytes}
-use Rattle.radio_end_state.specs.Calls.{After, refusedBy, quietly}
+use Rattle.radio_end_state.specs.Message.{message_bytes}
+use Rattle.radio_end_state.specs.Calls.{After, refused_by, quietly}
 use Rattle.radio_end_state.specs.Each.{Keeps}
-use Rattle.radio_end_laws.specs.Given.{NoRoom, Given, given-19, given-12, given-20, given-18, given-message, given-quiet, Exactly}
+use Rattle.radio_end_laws.specs.Given.{NoRoom, Given, given_19, given_12, given_20, given_18, given_message, given_quiet, Exactly}
 
 -- a test fails if what it tells doesn't hold
 pub off : (b : Bool) {T : Type 0} → (b ≡ true) ↔ T → (T → ⊥) → b ≡ false
@@ -27,8 +27,8 @@ off true i never = absurd (never (i.0 refl))
 off false i never = refl
 
 -- number 18's test
-pub no-room-exactly : (message out : List ℕ) → (noRoom (length message) (length out) ≡ true) ↔ NoRoom message out
-no-room-exactly message out = (go (ltb (length out) (length message)) refl, back)
+pub no_room_exactly : (message out : List ℕ) → (no_room_of (length message) (length out) ≡ true) ↔ NoRoom message out
+no_room_exactly message out = (go (ltb (length out) (length message)) refl, back)
   where
     go : (b : Bool) → ltb (length out) (length message) ≡ b → (b || ltb LONGEST-DATAGRAM (length message)) ≡ true → NoRoom message out
     go true e f = inl (ltb-true _ _ e)
@@ -44,32 +44,32 @@ no-room-exactly message out = (go (ltb (length out) (length message)) refl, back
 
 -- an answer that is a message of so many bytes
 pub record Speaks (say : ByteCount → Answer) : Type 0 where
-  pub not-quiet : (n : ByteCount) → say n ≡ Answer.Quiet → ⊥
-  pub not-refused : (n : ByteCount) (refusal : Refusal) → say n ≡ Answer.Refused refusal → ⊥
+  pub not_quiet : (n : ByteCount) → say n ≡ Answer.Quiet → ⊥
+  pub not_refused : (n : ByteCount) (refusal : Refusal) → say n ≡ Answer.Refused refusal → ⊥
   pub one : (n m : ByteCount) → (say n ≡ Answer.Answered m) ⊎ (say n ≡ Answer.Unasked m) → n ≡ m
 
-answered-one : (n m : ByteCount) → (Answer.Answered n ≡ Answer.Answered m) ⊎ (Answer.Answered n ≡ Answer.Unasked m) → n ≡ m
-answered-one n m (inl e) = cc
-answered-one n m (inr e) = clash (cc)
+answered_one : (n m : ByteCount) → (Answer.Answered n ≡ Answer.Answered m) ⊎ (Answer.Answered n ≡ Answer.Unasked m) → n ≡ m
+answered_one n m (inl e) = cc
+answered_one n m (inr e) = clash (cc)
 
-unasked-one : (n m : ByteCount) → (Answer.Unasked n ≡ Answer.Answered m) ⊎ (Answer.Unasked n ≡ Answer.Unasked m) → n ≡ m
-unasked-one n m (inl e) = clash (cc)
-unasked-one n m (inr e) = cc
+unasked_one : (n m : ByteCount) → (Answer.Unasked n ≡ Answer.Answered m) ⊎ (Answer.Unasked n ≡ Answer.Unasked m) → n ≡ m
+unasked_one n m (inl e) = clash (cc)
+unasked_one n m (inr e) = cc
 
-pub answered-speaks : Speaks (λ n. Answer.Answered n)
-answered-speaks = record { not-quiet = λ n e. clash (cc); not-refused = λ n refusal e. clash (cc); one = answered-one }
+pub answered_speaks : Speaks (λ n. Answer.Answered n)
+answered_speaks = record { not_quiet = λ n e. clash (cc); not_refused = λ n refusal e. clash (cc); one = answered_one }
 
-pub unasked-speaks : Speaks (λ n. Answer.Unasked n)
-unasked-speaks = record { not-quiet = λ n e. clash (cc); not-refused = λ n refusal e. clash (cc); one = unasked-one }
+pub unasked_speaks : Speaks (λ n. Answer.Unasked n)
+unasked_speaks = record { not_quiet = λ n e. clash (cc); not_refused = λ n refusal e. clash (cc); one = unasked_one }
 
 -- a refusal, or nothing to write, is no message
-pub refused-silent : {refusal : Refusal} {n : ByteCount} → (Answer.Refused refusal ≡ Answer.Answered n) ⊎ (Answer.Refused refusal ≡ Answer.Unasked n) → ⊥
-refused-silent (inl e) = clash (cc)
-refused-silent (inr e) = clash (cc)
+pub refused_silent : {refusal : Refusal} {n : ByteCount} → (Answer.Refused refusal ≡ Answer.Answered n) ⊎ (Answer.Refused refusal ≡ Answer.Unasked n) → ⊥
+refused_silent (inl e) = clash (cc)
+refused_silent (inr e) = clash (cc)
 
-quiet-silent : {n : ByteCount} → (Answer.Quiet ≡ Answer.Answered n) ⊎ (Answer.Quiet ≡ Answer.Unasked n) → ⊥
-quiet-silent (inl e) = clash (cc)
-quiet-silent (inr e) = clash (cc)
+quiet_silent : {n : ByteCount} → (Answer.Quiet ≡ Answer.Answered n) ⊎ (Answer.Quiet ≡ Answer.Unasked n) → ⊥
+quiet_silent (inl e) = clash (cc)
+quiet_silent (inr e) = clash (cc)
 
 module _ (say : ByteCount → Answer) (before after : State) (out : List ℕ) where
   -- the tests in their order
@@ -79,86 +79,86 @@ module _ (say : ByteCount → Answer) (before after : State) (out : List ℕ) wh
       (cond named
       (cond writable
       (cond told
-      (cond short (refusedBy NO-ROOM before out) (record { answer = say (record { 0 = length (messageBytes after) }); state = after; output = over (messageBytes after) out }))
+      (cond short (refused_by NO-ROOM before out) (record { answer = say (record { 0 = length (message_bytes after) }); state = after; output = over (message_bytes after) out }))
       (quietly after out))
-      (refusedBy NOT-WRITABLE before out))
-      (refusedBy NO-CHANNEL before out))
-      (refusedBy OUTSIDE-LIMITS before out)
+      (refused_by NOT-WRITABLE before out))
+      (refused_by NO-CHANNEL before out))
+      (refused_by OUTSIDE-LIMITS before out)
 
   -- what holds of the state before, and of that after where all tests passed
-  pub ordered-state : (P : State → Type 0) (f n w t l : Bool) → P before → (f ≡ true → n ≡ true → w ≡ true → P after) → P (ordered f n w t l).state
-  ordered-state P false n w t l p q = p
-  ordered-state P true false w t l p q = p
-  ordered-state P true true false t l p q = p
-  ordered-state P true true true false l p q = q refl refl refl
-  ordered-state P true true true true true p q = p
-  ordered-state P true true true true false p q = q refl refl refl
+  pub ordered_state : (P : State → Type 0) (f n w t l : Bool) → P before → (f ≡ true → n ≡ true → w ≡ true → P after) → P (ordered f n w t l).state
+  ordered_state P false n w t l p q = p
+  ordered_state P true false w t l p q = p
+  ordered_state P true true false t l p q = p
+  ordered_state P true true true false l p q = q refl refl refl
+  ordered_state P true true true true true p q = p
+  ordered_state P true true true true false p q = q refl refl refl
 
   module _ (speaks : Speaks say) where
-    message-left : (f n w t l : Bool) (m : ByteCount) → (ordered f n w t l).answer ≡ say m
-        → ((ordered f n w t l).state ≡ after) × ((ordered f n w t l).output ≡ over (messageBytes after) out)
-    message-left false n w t l m e = absurd (speaks.not-refused m _ (sym e))
-    message-left true false w t l m e = absurd (speaks.not-refused m _ (sym e))
-    message-left true true false t l m e = absurd (speaks.not-refused m _ (sym e))
-    message-left true true true false l m e = absurd (speaks.not-quiet m (sym e))
-    message-left true true true true true m e = absurd (speaks.not-refused m _ (sym e))
-    message-left true true true true false m e = (refl, refl)
+    message_left : (f n w t l : Bool) (m : ByteCount) → (ordered f n w t l).answer ≡ say m
+        → ((ordered f n w t l).state ≡ after) × ((ordered f n w t l).output ≡ over (message_bytes after) out)
+    message_left false n w t l m e = absurd (speaks.not_refused m _ (sym e))
+    message_left true false w t l m e = absurd (speaks.not_refused m _ (sym e))
+    message_left true true false t l m e = absurd (speaks.not_refused m _ (sym e))
+    message_left true true true false l m e = absurd (speaks.not_quiet m (sym e))
+    message_left true true true true true m e = absurd (speaks.not_refused m _ (sym e))
+    message_left true true true true false m e = (refl, refl)
 
-    quiet-left : (f n w t l : Bool) → (ordered f n w t l).answer ≡ Answer.Quiet → ((ordered f n w t l).state ≡ after) × ((ordered f n w t l).output ≡ out)
-    quiet-left false n w t l e = clash (cc)
-    quiet-left true false w t l e = clash (cc)
-    quiet-left true true false t l e = clash (cc)
-    quiet-left true true true false l e = (refl, refl)
-    quiet-left true true true true true e = clash (cc)
-    quiet-left true true true true false e = absurd (speaks.not-quiet _ e)
+    quiet_left : (f n w t l : Bool) → (ordered f n w t l).answer ≡ Answer.Quiet → ((ordered f n w t l).state ≡ after) × ((ordered f n w t l).output ≡ out)
+    quiet_left false n w t l e = clash (cc)
+    quiet_left true false w t l e = clash (cc)
+    quiet_left true true false t l e = clash (cc)
+    quiet_left true true true false l e = (refl, refl)
+    quiet_left true true true true true e = clash (cc)
+    quiet_left true true true true false e = absurd (speaks.not_quiet _ e)
 
-    refused-left : (f n w t l : Bool) → Keeps before out (ordered f n w t l)
-    refused-left false n w t l refusal e = (refl, refl)
-    refused-left true false w t l refusal e = (refl, refl)
-    refused-left true true false t l refusal e = (refl, refl)
-    refused-left true true true false l refusal e = clash (cc)
-    refused-left true true true true true refusal e = (refl, refl)
-    refused-left true true true true false refusal e = absurd (speaks.not-refused _ refusal e)
+    refused_left : (f n w t l : Bool) → Keeps before out (ordered f n w t l)
+    refused_left false n w t l refusal e = (refl, refl)
+    refused_left true false w t l refusal e = (refl, refl)
+    refused_left true true false t l refusal e = (refl, refl)
+    refused_left true true true false l refusal e = clash (cc)
+    refused_left true true true true true refusal e = (refl, refl)
+    refused_left true true true true false refusal e = absurd (speaks.not_refused _ refusal e)
 
     -- a message that is written is that of the state that is left
-    pub ordered-message : (f n w t l : Bool) (m : ByteCount) → ((ordered f n w t l).answer ≡ Answer.Answered m) ⊎ ((ordered f n w t l).answer ≡ Answer.Unasked m)
-        → (m.0 ≡ length (messageBytes (ordered f n w t l).state)) × ((ordered f n w t l).output ≡ over (messageBytes (ordered f n w t l).state) out)
-    ordered-message false n w t l m e = absurd (refused-silent e)
-    ordered-message true false w t l m e = absurd (refused-silent e)
-    ordered-message true true false t l m e = absurd (refused-silent e)
-    ordered-message true true true false l m e = absurd (quiet-silent e)
-    ordered-message true true true true true m e = absurd (refused-silent e)
-    ordered-message true true true true false m e = (sym (ap (λ (k : ByteCount). k.0) (speaks.one _ m e)), refl)
+    pub ordered_message : (f n w t l : Bool) (m : ByteCount) → ((ordered f n w t l).answer ≡ Answer.Answered m) ⊎ ((ordered f n w t l).answer ≡ Answer.Unasked m)
+        → (m.0 ≡ length (message_bytes (ordered f n w t l).state)) × ((ordered f n w t l).output ≡ over (message_bytes (ordered f n w t l).state) out)
+    ordered_message false n w t l m e = absurd (refused_silent e)
+    ordered_message true false w t l m e = absurd (refused_silent e)
+    ordered_message true true false t l m e = absurd (refused_silent e)
+    ordered_message true true true false l m e = absurd (quiet_silent e)
+    ordered_message true true true true true m e = absurd (refused_silent e)
+    ordered_message true true true true false m e = (sym (ap (λ (k : ByteCount). k.0) (speaks.one _ m e)), refl)
 
   module _ {Fits Named Writable Told : Type 0} where
-    given_so : (f n w t l : Bool) → (f ≡ true) ↔ Fits → (n ≡ true) ↔ Named → (w ≡ true) ↔ Writable → (t ≡ true) ↔ Told → (l ≡ true) ↔ NoRoom (messageBytes after) out
-        → Given Fits Named Writable Told say (messageBytes after) out (ordered f n w t l).answer
-    given_so false n w t l F N W T L = given-19 (λ x. clash (F.1 x))
-    given_so true false w t l F N W T L = given-12 (F.0 refl) (λ x. clash (N.1 x))
-    given_so true true false t l F N W T L = given-20 (F.0 refl) (N.0 refl) (λ x. clash (W.1 x))
-    given_so true true true false l F N W T L = given-quiet (F.0 refl) (N.0 refl) (W.0 refl) (λ x. clash (T.1 x))
-    given_so true true true true true F N W T L = given-18 (F.0 refl) (N.0 refl) (W.0 refl) (T.0 refl) (L.0 refl)
-    given_so true true true true false F N W T L = given-message (F.0 refl) (N.0 refl) (W.0 refl) (T.0 refl) (λ x. clash (L.1 x))
+    given_so : (f n w t l : Bool) → (f ≡ true) ↔ Fits → (n ≡ true) ↔ Named → (w ≡ true) ↔ Writable → (t ≡ true) ↔ Told → (l ≡ true) ↔ NoRoom (message_bytes after) out
+        → Given Fits Named Writable Told say (message_bytes after) out (ordered f n w t l).answer
+    given_so false n w t l F N W T L = given_19 (λ x. clash (F.1 x))
+    given_so true false w t l F N W T L = given_12 (F.0 refl) (λ x. clash (N.1 x))
+    given_so true true false t l F N W T L = given_20 (F.0 refl) (N.0 refl) (λ x. clash (W.1 x))
+    given_so true true true false l F N W T L = given_quiet (F.0 refl) (N.0 refl) (W.0 refl) (λ x. clash (T.1 x))
+    given_so true true true true true F N W T L = given_18 (F.0 refl) (N.0 refl) (W.0 refl) (T.0 refl) (L.0 refl)
+    given_so true true true true false F N W T L = given_message (F.0 refl) (N.0 refl) (W.0 refl) (T.0 refl) (λ x. clash (L.1 x))
 
-    so-given : (f n w t l : Bool) → (f ≡ true) ↔ Fits → (n ≡ true) ↔ Named → (w ≡ true) ↔ Writable → (t ≡ true) ↔ Told → (l ≡ true) ↔ NoRoom (messageBytes after) out
-        → (a : Answer) → Given Fits Named Writable Told say (messageBytes after) out a → (ordered f n w t l).answer ≡ a
-    so-given f n w t l F N W T L a (given-19 x) = rw (off f F x)
-    so-given f n w t l F N W T L a (given-12 x y) = rw (F.1 x, off n N y)
-    so-given f n w t l F N W T L a (given-20 x y z) = rw (F.1 x, N.1 y, off w W z)
-    so-given f n w t l F N W T L a (given-18 x y z u v) = rw (F.1 x, N.1 y, W.1 z, T.1 u, L.1 v)
-    so-given f n w t l F N W T L a (given-message x y z u v) = rw (F.1 x, N.1 y, W.1 z, T.1 u, off l L v)
-    so-given f n w t l F N W T L a (given-quiet x y z u) = rw (F.1 x, N.1 y, W.1 z, off t T u)
+    so_given : (f n w t l : Bool) → (f ≡ true) ↔ Fits → (n ≡ true) ↔ Named → (w ≡ true) ↔ Writable → (t ≡ true) ↔ Told → (l ≡ true) ↔ NoRoom (message_bytes after) out
+        → (a : Answer) → Given Fits Named Writable Told say (message_bytes after) out a → (ordered f n w t l).answer ≡ a
+    so_given f n w t l F N W T L a (given_19 x) = rw (off f F x)
+    so_given f n w t l F N W T L a (given_12 x y) = rw (F.1 x, off n N y)
+    so_given f n w t l F N W T L a (given_20 x y z) = rw (F.1 x, N.1 y, off w W z)
+    so_given f n w t l F N W T L a (given_18 x y z u v) = rw (F.1 x, N.1 y, W.1 z, T.1 u, L.1 v)
+    so_given f n w t l F N W T L a (given_message x y z u v) = rw (F.1 x, N.1 y, W.1 z, T.1 u, off l L v)
+    so_given f n w t l F N W T L a (given_quiet x y z u) = rw (F.1 x, N.1 y, W.1 z, off t T u)
 
     -- THE LAW: a call that tests in this order
     pub exactly : Speaks say → (f n w t : Bool) → (f ≡ true) ↔ Fits → (n ≡ true) ↔ Named → (w ≡ true) ↔ Writable → (t ≡ true) ↔ Told
-        → {r : After} → r ≡ ordered f n w t (noRoom (length (messageBytes after)) (length out)) → Exactly Fits Named Writable Told say before after out r
+        → {r : After} → r ≡ ordered f n w t (no_room_of (length (message_bytes after)) (length out)) → Exactly Fits Named Writable Told say before after out r
     exactly speaks f n w t F N W T e =
-        let l = noRoom (length (messageBytes after)) (length out) in
-        let L = no-room-exactly (messageBytes after) out in
+        let l = no_room_of (length (message_bytes after)) (length out) in
+        let L = no_room_exactly (message_bytes after) out in
         subst (Exactly Fits Named Writable Told say before after out) (sym e)
         (record {
-          given = λ a. (λ p. subst (Given Fits Named Writable Told say (messageBytes after) out) p (given_so f n w t l F N W T L), so-given f n w t l F N W T L a);
-          refused-leaves = refused-left speaks f n w t l;
-          message-leaves = message-left speaks f n w t l;
-          quiet-leaves = quiet-left speaks f n w t l;
+          given = λ a. (λ p. subst (Given Fits Named Writable Told say (message_bytes after) out) p (given_so f n w t l F N W T L), so_given f n w t l F N W T L a);
+          refused_leaves = refused_left speaks f n w t l;
+          message_leaves = message_left speaks f n w t l;
+          quiet_leaves = quiet_left speaks f n w t l;
         })

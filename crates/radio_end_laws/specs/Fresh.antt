@@ -10,29 +10,29 @@ use Rattle.meaning.specs.declared.message.Status.{Status}
 use Rattle.meaning.specs.declared.message.Sequence.{Sequence}
 use Rattle.meaning.specs.declared.message.Window.{Window}
 use Rattle.meaning.specs.declared.message.Control.{Control}
-use Rattle.reader.specs.Readings.{Verdict, readControl}
+use Rattle.reader.specs.Readings.{Verdict, read_control}
 use Rattle.radio_end_state.specs.declared.answer.Answer.{Answer}
-use Rattle.radio_end_state.specs.State.{Configuration, noSetting, freshState}
+use Rattle.radio_end_state.specs.State.{Configuration, no_setting, fresh_state}
 use Rattle.radio_end_state.specs.Calls.{After}
-use Rattle.radio_end_laws.specs.Plain.{statusOf, sequenceOf, windowOf}
+use Rattle.radio_end_laws.specs.Plain.{status_of, sequence_of, window_of}
 
 -- Datalink Identifier; Channel Status 0 of every channel; Flow Window without the field of every flow-controlled one; nothing else
 pub record TellsFresh (k : Configuration) (m : Control) : Type 0 where
   pub datalink : m.datalink ≡ Datalink.Given k.datalink
   pub instance : m.instance ≡ Instance.Absent
   pub context : m.context ≡ Context.Absent
-  pub status : (index : ℕ) → index < length k.settings → statusOf m (get_or k.settings index noSetting).id ≡ Status.Given 0
-  pub window : (index : ℕ) → index < length k.settings → (get_or k.settings index noSetting).controlled ≡ true → windowOf m (get_or k.settings index noSetting).id ≡ Window.Empty
-  pub plain : (index : ℕ) → index < length k.settings → (get_or k.settings index noSetting).controlled ≡ false → windowOf m (get_or k.settings index noSetting).id ≡ Window.Absent
-  pub no_other : (id : ℕ) → ((index : ℕ) → index < length k.settings → (get_or k.settings index noSetting).id ≡ id → ⊥)
-      → (statusOf m id ≡ Status.Absent) × (windowOf m id ≡ Window.Absent)
-  pub no-sequence : (id : ℕ) → sequenceOf m id ≡ Sequence.Absent
+  pub status : (index : ℕ) → index < length k.settings → status_of m (get_or k.settings index no_setting).id ≡ Status.Given 0
+  pub window : (index : ℕ) → index < length k.settings → (get_or k.settings index no_setting).controlled ≡ true → window_of m (get_or k.settings index no_setting).id ≡ Window.Empty
+  pub plain : (index : ℕ) → index < length k.settings → (get_or k.settings index no_setting).controlled ≡ false → window_of m (get_or k.settings index no_setting).id ≡ Window.Absent
+  pub no_other : (id : ℕ) → ((index : ℕ) → index < length k.settings → (get_or k.settings index no_setting).id ≡ id → ⊥)
+      → (status_of m id ≡ Status.Absent) × (window_of m id ≡ Window.Absent)
+  pub no_sequence_lem : (id : ℕ) → sequence_of m id ≡ Sequence.Absent
 
 -- a call that answers with it: so many bytes of the output read back as that message, and the state is as it was
 pub record FreshTold (k : Configuration) (r : After) : Type 0 where
   pub bytes : ByteCount
   pub message : Control
   pub answered : r.answer ≡ Answer.Answered bytes
-  pub kept : r.state ≡ freshState k
-  pub reads : readControl ends.Radio k.datalink (take bytes.0 r.output) ≡ record { verdict = Verdict.Accepted; message = message }
+  pub kept : r.state ≡ fresh_state k
+  pub reads : read_control ends.Radio k.datalink (take bytes.0 r.output) ≡ record { verdict = Verdict.Accepted; message = message }
   pub tells : TellsFresh k message

@@ -3,7 +3,7 @@ use Rattle.std.specs.Prelude.{ℕ, ◌≤◌, ◌<◌, ◌≡◌, length}
 use Rattle.quantity.specs.declared.count.FlowSequence.{FlowSequence}
 use Rattle.radio_flow.specs.declared.Highest.{Highest}
 use Rattle.radio_end_state.specs.declared.channel.Channel.{Channel}
-use Rattle.radio_end_state.specs.State.{State, channelAt}
+use Rattle.radio_end_state.specs.State.{State, channel_at}
 use Rattle.radio_end_laws.specs.Plain.{Has, ContextWritable, InstanceWritable}
 
 -- "ID 255", "a status above 15", "watermark or throughput above 2^31 - 1"; a sequence is a number of 32 bits
@@ -21,7 +21,7 @@ pub record WithinLimits (s : State) : Type 0 where
   pub few : length s.channels ≤ 64
   pub instance : InstanceWritable s.instance
   pub context : ContextWritable s.context
-  pub each : (index : ℕ) → index < length s.channels → ChannelWithin (channelAt s index)
+  pub each : (index : ℕ) → index < length s.channels → ChannelWithin (channel_at s index)
   pub apart : (first second : ℕ) → first < length s.channels → second < length s.channels
-      → (channelAt s first).setting.id ≡ (channelAt s second).setting.id → first ≡ second
+      → (channel_at s first).setting.id ≡ (channel_at s second).setting.id → first ≡ second
   pub primary : Has s 0

@@ -6,7 +6,7 @@ use Rattle.radio_flow.specs.declared.Highest.{Highest}
 use Rattle.radio_end_state.specs.declared.answer.Answer.{Answer}
 use Rattle.radio_end_state.specs.declared.channel.Setting.{Setting}
 use Rattle.radio_end_state.specs.State.{State}
-use Rattle.radio_end_state.specs.Calls.{After, statusTold, queuedTold, contextTold, linkTold, told, heard}
+use Rattle.radio_end_state.specs.Calls.{After, status_told, queued_told, context_told, link_told, told, heard}
 
 -- a watermark of 1,000 and a throughput of 500
 abbrev pub plain : ℕ → Setting
@@ -87,8 +87,8 @@ packet channel = 24 ∷ 1 ∷ 0 ∷ 1 ∷ 7 ∷ (channel ++ (128 ∷ 0 ∷ 3 ∷
 abbrev pub hears : (datagram : List ℕ) → After → CallRow
 hears datagram after = record { comes = heard three datagram (zeros 60); is = after }
 
-abbrev pub heardRows : List CallRow
-heardRows =
+abbrev pub heard_rows : List CallRow
+heard_rows =
     -- a query that names no channel is answered; 1204 is over the wrap
     hears (16 ∷ 1 ∷ 0 ∷ 1 ∷ 7 ∷ []) (answers 41 three (message 0 0 0 4 180 (zeros 19)))
     -- 100 is ahead of 4294967000: the window is 1600, from after hearing; 4294966999 is behind
@@ -114,28 +114,28 @@ heardRows =
     ∷ hears (packet []) (quiet (standing link ab 43 0 0 (at 4294967000) 2000 Highest.Unheard) 60)
     ∷ []
 
-abbrev pub toldRows : List CallRow
-toldRows =
+abbrev pub told_rows : List CallRow
+told_rows =
     -- a status: another is told, an equal one is not; 12, 20, 18
-    record { comes = statusTold three 9 7 (zeros 60); is = unasked 41 (standing link ab 40 7 0 (at 4294967000) 2000 Highest.Unheard) (message 7 0 0 4 180 (zeros 19)) }
-    ∷ record { comes = statusTold three 9 0 (zeros 40); is = quiet three 40 }
-    ∷ record { comes = statusTold three 4 16 (zeros 40); is = refused 12 0 40 }
-    ∷ record { comes = statusTold three 9 16 (zeros 40); is = refused 20 0 40 }
-    ∷ record { comes = statusTold three 9 15 (zeros 40); is = refused 18 0 40 }
+    record { comes = status_told three 9 7 (zeros 60); is = unasked 41 (standing link ab 40 7 0 (at 4294967000) 2000 Highest.Unheard) (message 7 0 0 4 180 (zeros 19)) }
+    ∷ record { comes = status_told three 9 0 (zeros 40); is = quiet three 40 }
+    ∷ record { comes = status_told three 4 16 (zeros 40); is = refused 12 0 40 }
+    ∷ record { comes = status_told three 9 16 (zeros 40); is = refused 20 0 40 }
+    ∷ record { comes = status_told three 9 15 (zeros 40); is = refused 18 0 40 }
     -- bytes queued: set, and not added; at the sum and above it the window is the highest; kept without a message where no window depends on them
-    ∷ record { comes = queuedTold three 9 (record { 0 = 1499 }) (zeros 60); is = unasked 41 (nine 4294967000 1499) (message 0 255 255 254 217 (zeros 19)) }
-    ∷ record { comes = queuedTold three 9 (record { 0 = 1500 }) (zeros 60); is = unasked 41 (nine 4294967000 1500) (message 0 255 255 254 216 (zeros 19)) }
-    ∷ record { comes = queuedTold three 9 (record { 0 = 18446744073709551615 }) (zeros 60); is = unasked 41 (nine 4294967000 18446744073709551615) (message 0 255 255 254 216 (zeros 19)) }
-    ∷ record { comes = queuedTold three 5 (record { 0 = 7 }) (zeros 40); is = quiet (standing link ab 40 0 0 (at 4294967000) 7 Highest.Unheard) 40 }
-    ∷ record { comes = queuedTold three 0 (record { 0 = 7 }) (zeros 40); is = quiet (standing link ab 7 0 0 (at 4294967000) 2000 Highest.Unheard) 40 }
+    ∷ record { comes = queued_told three 9 (record { 0 = 1499 }) (zeros 60); is = unasked 41 (nine 4294967000 1499) (message 0 255 255 254 217 (zeros 19)) }
+    ∷ record { comes = queued_told three 9 (record { 0 = 1500 }) (zeros 60); is = unasked 41 (nine 4294967000 1500) (message 0 255 255 254 216 (zeros 19)) }
+    ∷ record { comes = queued_told three 9 (record { 0 = 18446744073709551615 }) (zeros 60); is = unasked 41 (nine 4294967000 18446744073709551615) (message 0 255 255 254 216 (zeros 19)) }
+    ∷ record { comes = queued_told three 5 (record { 0 = 7 }) (zeros 40); is = quiet (standing link ab 40 0 0 (at 4294967000) 7 Highest.Unheard) 40 }
+    ∷ record { comes = queued_told three 0 (record { 0 = 7 }) (zeros 40); is = quiet (standing link ab 7 0 0 (at 4294967000) 2000 Highest.Unheard) 40 }
     -- the Context: an equal one, the same number as two bytes, none; 20
-    ∷ record { comes = contextTold three ab (zeros 40); is = quiet three 40 }
-    ∷ record { comes = contextTold three (Context.Given (record { 0 = 171 }) 2) (zeros 60); is = unasked 42 (standing link (Context.Given (record { 0 = 171 }) 2) 40 0 0 (at 4294967000) 2000 Highest.Unheard) (16 ∷ 1 ∷ 0 ∷ 1 ∷ 7 ∷ 3 ∷ 0 ∷ 2 ∷ 1 ∷ 2 ∷ 4 ∷ 0 ∷ 2 ∷ 0 ∷ 171 ∷ statuses 0 (windows 0 0 4 180 (zeros 18))) }
-    ∷ record { comes = contextTold three Context.Absent (zeros 60); is = unasked 37 (standing link Context.Absent 40 0 0 (at 4294967000) 2000 Highest.Unheard) (16 ∷ 1 ∷ 0 ∷ 1 ∷ 7 ∷ 3 ∷ 0 ∷ 2 ∷ 1 ∷ 2 ∷ statuses 0 (windows 0 0 4 180 (zeros 23))) }
-    ∷ record { comes = contextTold three (Context.Given (record { 0 = 256 }) 1) (zeros 40); is = refused 20 0 40 }
+    ∷ record { comes = context_told three ab (zeros 40); is = quiet three 40 }
+    ∷ record { comes = context_told three (Context.Given (record { 0 = 171 }) 2) (zeros 60); is = unasked 42 (standing link (Context.Given (record { 0 = 171 }) 2) 40 0 0 (at 4294967000) 2000 Highest.Unheard) (16 ∷ 1 ∷ 0 ∷ 1 ∷ 7 ∷ 3 ∷ 0 ∷ 2 ∷ 1 ∷ 2 ∷ 4 ∷ 0 ∷ 2 ∷ 0 ∷ 171 ∷ statuses 0 (windows 0 0 4 180 (zeros 18))) }
+    ∷ record { comes = context_told three Context.Absent (zeros 60); is = unasked 37 (standing link Context.Absent 40 0 0 (at 4294967000) 2000 Highest.Unheard) (16 ∷ 1 ∷ 0 ∷ 1 ∷ 7 ∷ 3 ∷ 0 ∷ 2 ∷ 1 ∷ 2 ∷ statuses 0 (windows 0 0 4 180 (zeros 23))) }
+    ∷ record { comes = context_told three (Context.Given (record { 0 = 256 }) 1) (zeros 40); is = refused 20 0 40 }
     -- the Link Instance is kept without a message; 20
-    ∷ record { comes = linkTold three (Instance.Given (record { 0 = 9 }) 1) []; is = quiet (standing (Instance.Given (record { 0 = 9 }) 1) ab 40 0 0 (at 4294967000) 2000 Highest.Unheard) 0 }
-    ∷ record { comes = linkTold three (Instance.Given (record { 0 = 9 }) 9) []; is = refused 20 0 0 }
+    ∷ record { comes = link_told three (Instance.Given (record { 0 = 9 }) 1) []; is = quiet (standing (Instance.Given (record { 0 = 9 }) 1) ab 40 0 0 (at 4294967000) 2000 Highest.Unheard) 0 }
+    ∷ record { comes = link_told three (Instance.Given (record { 0 = 9 }) 9) []; is = refused 20 0 0 }
     -- the message as it stands
     ∷ record { comes = told three (zeros 60); is = answers 41 three (message 0 0 0 4 180 (zeros 19)) }
     ∷ record { comes = told three (zeros 41); is = answers 41 three (message 0 0 0 4 180 []) }

@@ -4,7 +4,7 @@ use Rattle.meaning.specs.declared.message.Instance.{Instance}
 use Rattle.meaning.specs.declared.message.Context.{Context}
 use Rattle.radio_flow.specs.declared.Highest.{Highest}
 use Rattle.radio_end_state.specs.declared.channel.Channel.{Channel}
-use Rattle.radio_end_state.specs.State.{State, channelAt}
+use Rattle.radio_end_state.specs.State.{State, channel_at}
 use Rattle.radio_end_laws.specs.Plain.{Spelled}
 
 -- ---- words that stand for a state within the limits
@@ -55,8 +55,8 @@ pub record ChannelSaid (words : List ℕ) (b : ℕ) (c : Channel) : Type 0 where
 pub record StateSaid (words : List ℕ) (s : State) : Type 0 where
   pub datalink : s.datalink.0 ≡ get_or words 0 0
   pub many : length s.channels ≡ get_or words 1 0
-  pub no-instance : get_or words 2 0 ≡ 0 → s.instance ≡ Instance.Absent
+  pub no_instance_lem : get_or words 2 0 ≡ 0 → s.instance ≡ Instance.Absent
   pub instance : get_or words 2 0 ≡ 1 → s.instance ≡ Instance.Given (record { 0 = get_or words 3 0 }) (get_or words 4 0)
-  pub no-context : get_or words 5 0 ≡ 0 → s.context ≡ Context.Absent
+  pub no_context_lem : get_or words 5 0 ≡ 0 → s.context ≡ Context.Absent
   pub context : get_or words 5 0 ≡ 1 → s.context ≡ Context.Given (record { 0 = get_or words 6 0 }) (get_or words 7 0)
-  pub channel : (i : ℕ) → i < get_or words 1 0 → ChannelSaid words (8 + 8 * i) (channelAt s i)
+  pub channel : (i : ℕ) → i < get_or words 1 0 → ChannelSaid words (8 + 8 * i) (channel_at s i)

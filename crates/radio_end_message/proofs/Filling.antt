@@ -10,24 +10,24 @@ use lib.Dec.{eqb}
 use lib.ListN.{length, drop, get_or, set, replicate, length-set, length-map, drop_of_length-le}
 use lib.Seq.{drop-cons, get_or-set_same, get_or-set_other}
 use Rattle.facts.specs.Tables.{tabulate}
-use Rattle.facts.proofs.Tables.{tabulate-same, set-tabulate}
+use Rattle.facts.proofs.Tables.{tabulate_same, set_tabulate}
 use Rattle.quantity.specs.Limits.{CHANNEL-IDS}
 use Rattle.meaning.specs.declared.message.Status.{Status}
 use Rattle.meaning.specs.declared.message.Window.{Window}
 use Rattle.meaning.specs.declared.message.SequenceCell.{SequenceCell}
 use Rattle.meaning.specs.declared.message.StatusCell.{StatusCell}
 use Rattle.meaning.specs.declared.message.WindowCell.{WindowCell}
-use Rattle.meaning.specs.Cells.{noSequence, noStatus, noWindow}
+use Rattle.meaning.specs.Cells.{no_sequence, no_status, no_window}
 use Rattle.radio_end_state.specs.declared.channel.Channel.{Channel}
-use Rattle.radio_end_state.specs.Channel.{windowNow, hearingOn}
-use Rattle.radio_end_state.specs.State.{State, noChannel, channelAt}
-use Rattle.radio_end_state.specs.Message.{statusFor, windowFor}
-use Rattle.radio_end_state.proofs.Fit.{ChannelFit, channel-fit, fit-facts}
+use Rattle.radio_end_state.specs.Channel.{window_now, hearing_on}
+use Rattle.radio_end_state.specs.State.{State, no_channel, channel_at}
+use Rattle.radio_end_state.specs.Message.{status_for, window_for}
+use Rattle.radio_end_state.proofs.Fit.{ChannelFit, channel_fit, fit_facts}
 use Rattle.radio_end_message.specs.declared.tables.Tables.{Tables}
-use Rattle.radio_end_message.specs.Changed.{hears, changedChannels, tables_of, Replaces}
+use Rattle.radio_end_message.specs.Changed.{hears, changed_channels, tables_of, Replaces}
 
-eqb-sym : (a b : ℕ) → eqb a b ≡ eqb b a
-eqb-sym a b = go (eqb a b) refl
+eqb_sym : (a b : ℕ) → eqb a b ≡ eqb b a
+eqb_sym a b = go (eqb a b) refl
   where
     go : (t : Bool) → eqb a b ≡ t → t ≡ eqb b a
     go true e = sym (eq-eqb b a (sym (eqb-true a b e)))
@@ -42,97 +42,97 @@ same_or_not a b = go (eqb a b) refl
 
 pub record Filling (cs : List Channel) (statuses : List StatusCell) (windows : List WindowCell) (at : ℕ) : Type 0 where
   pub inside : at ≤ length cs
-  pub statuses-are : statuses ≡ tabulate CHANNEL-IDS (statusFor (drop at cs))
-  pub windows-are : windows ≡ tabulate CHANNEL-IDS (windowFor (drop at cs))
+  pub statuses_are : statuses ≡ tabulate CHANNEL-IDS (status_for (drop at cs))
+  pub windows_are : windows ≡ tabulate CHANNEL-IDS (window_for (drop at cs))
 
 -- a table that says nothing; the number of places stays a variable
-none-stated : (n k : ℕ) → n ≡ k → replicate n noStatus ≡ tabulate k (statusFor [])
-unfolding statusFor
-none-stated n k e = sym (tabulate-same noStatus e)
+none_stated : (n k : ℕ) → n ≡ k → replicate n no_status ≡ tabulate k (status_for [])
+unfolding status_for
+none_stated n k e = sym (tabulate_same no_status e)
 
-none-granted : (n k : ℕ) → n ≡ k → replicate n noWindow ≡ tabulate k (windowFor [])
-unfolding windowFor
-none-granted n k e = sym (tabulate-same noWindow e)
+none_granted : (n k : ℕ) → n ≡ k → replicate n no_window ≡ tabulate k (window_for [])
+unfolding window_for
+none_granted n k e = sym (tabulate_same no_window e)
 
-pub fill_start : (cs : List Channel) (n : ℕ) → n ≡ length cs → Filling cs (replicate CHANNEL-IDS noStatus) (replicate CHANNEL-IDS noWindow) n
+pub fill_start : (cs : List Channel) (n : ℕ) → n ≡ length cs → Filling cs (replicate CHANNEL-IDS no_status) (replicate CHANNEL-IDS no_window) n
 fill_start cs n e =
     let past : drop n cs ≡ [] = drop_of_length-le cs {i = n} (omega arith) in
-    record { inside = omega arith; statuses-are = rw past (none-stated CHANNEL-IDS CHANNEL-IDS refl); windows-are = rw past (none-granted CHANNEL-IDS CHANNEL-IDS refl) }
+    record { inside = omega arith; statuses_are = rw past (none_stated CHANNEL-IDS CHANNEL-IDS refl); windows_are = rw past (none_granted CHANNEL-IDS CHANNEL-IDS refl) }
 
-status-more : (d : Channel) (cs : List Channel) → set (tabulate CHANNEL-IDS (statusFor cs)) d.setting.id (record { status = Status.Given d.status }) ≡ tabulate CHANNEL-IDS (statusFor (d ∷ cs))
-unfolding statusFor
-status-more d cs = set-tabulate CHANNEL-IDS (statusFor cs) (statusFor (d ∷ cs)) d.setting.id (record { status = Status.Given d.status }) (λ k. rw (eqb-sym k d.setting.id))
+status_more : (d : Channel) (cs : List Channel) → set (tabulate CHANNEL-IDS (status_for cs)) d.setting.id (record { status = Status.Given d.status }) ≡ tabulate CHANNEL-IDS (status_for (d ∷ cs))
+unfolding status_for
+status_more d cs = set_tabulate CHANNEL-IDS (status_for cs) (status_for (d ∷ cs)) d.setting.id (record { status = Status.Given d.status }) (λ k. rw (eqb_sym k d.setting.id))
 
-window_more : (d : Channel) (cs : List Channel) → set (tabulate CHANNEL-IDS (windowFor cs)) d.setting.id (record { window = windowNow d }) ≡ tabulate CHANNEL-IDS (windowFor (d ∷ cs))
-unfolding windowFor
-window_more d cs = set-tabulate CHANNEL-IDS (windowFor cs) (windowFor (d ∷ cs)) d.setting.id (record { window = windowNow d }) (λ k. rw (eqb-sym k d.setting.id))
+window_more : (d : Channel) (cs : List Channel) → set (tabulate CHANNEL-IDS (window_for cs)) d.setting.id (record { window = window_now d }) ≡ tabulate CHANNEL-IDS (window_for (d ∷ cs))
+unfolding window_for
+window_more d cs = set_tabulate CHANNEL-IDS (window_for cs) (window_for (d ∷ cs)) d.setting.id (record { window = window_now d }) (λ k. rw (eqb_sym k d.setting.id))
 
 pub fill_on : (cs : List Channel) (statuses : List StatusCell) (windows : List WindowCell) (at at' id : ℕ) (d : Channel) (window : Window) → Filling cs statuses windows at → 0 < at → at' ≡ at - 1
-    → d ≡ get_or cs at' noChannel → id ≡ d.setting.id → window ≡ windowNow d
+    → d ≡ get_or cs at' no_channel → id ≡ d.setting.id → window ≡ window_now d
     → Filling cs (set statuses id (record { status = Status.Given d.status })) (set windows id (record { window = window })) at'
 fill_on cs statuses windows at at' id d window f h e is named w =
     let next : at ≡ suc at' = omega arith in
-    let here : drop at' cs ≡ d ∷ drop at cs = drop-cons cs at' noChannel (omega (arith, f.inside)) ∙ rw (← is, ← next) in
+    let here : drop at' cs ≡ d ∷ drop at cs = drop-cons cs at' no_channel (omega (arith, f.inside)) ∙ rw (← is, ← next) in
     record {
       inside = omega (arith, f.inside);
-      statuses-are = rw (named, here, f.statuses-are) (status-more d (drop at cs));
-      windows-are = rw (named, w, here, f.windows-are) (window_more d (drop at cs));
+      statuses_are = rw (named, here, f.statuses_are) (status_more d (drop at cs));
+      windows_are = rw (named, w, here, f.windows_are) (window_more d (drop at cs));
     }
 
 pub fill_end : (cs : List Channel) (statuses : List StatusCell) (windows : List WindowCell) (at : ℕ) → Filling cs statuses windows at → at ≤ 0 → record { statuses = statuses; windows = windows } ≡ tables_of cs
 unfolding tables_of
 fill_end cs statuses windows at f h =
     let first : at ≡ 0 = omega arith in
-    rw (f.statuses-are, f.windows-are, first)
+    rw (f.statuses_are, f.windows_are, first)
 
 -- ---- the channel at a place, or the one that takes its place
-pub taken-place : (cs : List Channel) (at index : ℕ) (c : Channel) → at < length cs → at ≡ index → c ≡ get_or (set cs index c) at noChannel
-taken-place cs at index c h e = rw e (sym (get_or-set_same cs index c noChannel (omega arith)))
+pub taken_place : (cs : List Channel) (at index : ℕ) (c : Channel) → at < length cs → at ≡ index → c ≡ get_or (set cs index c) at no_channel
+taken_place cs at index c h e = rw e (sym (get_or-set_same cs index c no_channel (omega arith)))
 
-pub kept-place : (cs : List Channel) (at index : ℕ) (c : Channel) → (at ≡ index → ⊥) → get_or cs at noChannel ≡ get_or (set cs index c) at noChannel
-kept-place cs at index c f = sym (get_or-set_other cs index at c noChannel f)
+pub kept_place : (cs : List Channel) (at index : ℕ) (c : Channel) → (at ≡ index → ⊥) → get_or cs at no_channel ≡ get_or (set cs index c) at no_channel
+kept_place cs at index c f = sym (get_or-set_other cs index at c no_channel f)
 
 -- ---- the channels after the change
-get_d_map : (f : Channel → Channel) (cs : List Channel) (at : ℕ) → at < length cs → get_or (map f cs) at noChannel ≡ f (get_or cs at noChannel)
+get_d_map : (f : Channel → Channel) (cs : List Channel) (at : ℕ) → at < length cs → get_or (map f cs) at no_channel ≡ f (get_or cs at no_channel)
 get_d_map f [] at h = absurd (omega arith)
 get_d_map f (c ∷ cs) zero h = refl
 get_d_map f (c ∷ cs) (suc at) h = get_d_map f cs at (omega arith)
 
 module _ (s : State) (index : ℕ) (c : Channel) (cells : List SequenceCell) where
-  pub changed-length : length (changedChannels s index c cells) ≡ length s.channels
-  unfolding changedChannels
-  changed-length = simp (length-map, length-set)
+  pub changed_length : length (changed_channels s index c cells) ≡ length s.channels
+  unfolding changed_channels
+  changed_length = simp (length-map, length-set)
 
-  pub changed-at : (at : ℕ) → at < length s.channels → get_or (changedChannels s index c cells) at noChannel ≡ hears cells (get_or (set s.channels index c) at noChannel)
-  unfolding changedChannels
-  changed-at at h = get_d_map (hears cells) (set s.channels index c) at (simp length-set h)
+  pub changed_at : (at : ℕ) → at < length s.channels → get_or (changed_channels s index c cells) at no_channel ≡ hears cells (get_or (set s.channels index c) at no_channel)
+  unfolding changed_channels
+  changed_at at h = get_d_map (hears cells) (set s.channels index c) at (simp length-set h)
 
 -- one that takes a place has its ID
-pub replaced-id : (s : State) (index : ℕ) (c : Channel) → c.setting.id ≡ (channelAt s index).setting.id → (at : ℕ) → at < length s.channels
-    → (get_or (set s.channels index c) at noChannel).setting.id ≡ (channelAt s at).setting.id
-unfolding channelAt
-replaced-id s index c e at h =
-    ⊎_elim (λ (p : at ≡ index). ap (λ (d : Channel). d.setting.id) (sym (taken-place s.channels at index c h p)) ∙ e ∙ rw p)
-    (λ (f : at ≡ index → ⊥). ap (λ (d : Channel). d.setting.id) (sym (kept-place s.channels at index c f))) (same_or_not at index)
+pub replaced_id : (s : State) (index : ℕ) (c : Channel) → c.setting.id ≡ (channel_at s index).setting.id → (at : ℕ) → at < length s.channels
+    → (get_or (set s.channels index c) at no_channel).setting.id ≡ (channel_at s at).setting.id
+unfolding channel_at
+replaced_id s index c e at h =
+    ⊎_elim (λ (p : at ≡ index). ap (λ (d : Channel). d.setting.id) (sym (taken_place s.channels at index c h p)) ∙ e ∙ rw p)
+    (λ (f : at ≡ index → ⊥). ap (λ (d : Channel). d.setting.id) (sym (kept_place s.channels at index c f))) (same_or_not at index)
 
-pub replaced-small : (s : State) (index : ℕ) (c : Channel) → Replaces s index c → (at : ℕ) → at < length s.channels
-    → (get_or (set s.channels index c) at noChannel).setting.id < 255
-replaced-small s index c r at h = rw (replaced-id s index c r.same_id at h) (channel-fit (channelAt s at) ((fit-facts s r.fits).each at h)).unreserved
+pub replaced_small : (s : State) (index : ℕ) (c : Channel) → Replaces s index c → (at : ℕ) → at < length s.channels
+    → (get_or (set s.channels index c) at no_channel).setting.id < 255
+replaced_small s index c r at h = rw (replaced_id s index c r.same_id at h) (channel_fit (channel_at s at) ((fit_facts s r.fits).each at h)).unreserved
 
 -- one turn of the loop
 module _ (s : State) (index : ℕ) (c : Channel) (cells : List SequenceCell) where
   abbrev after : List Channel
-  after = changedChannels s index c cells
+  after = changed_channels s index c cells
 
-  module _ (statuses : List StatusCell) (windows : List WindowCell) (at : ℕ) (f : Filling after statuses windows at) (h : 0 < at) (cur : Channel) (is : cur ≡ get_or (set s.channels index c) (at - 1) noChannel) where
+  module _ (statuses : List StatusCell) (windows : List WindowCell) (at : ℕ) (f : Filling after statuses windows at) (h : 0 < at) (cur : Channel) (is : cur ≡ get_or (set s.channels index c) (at - 1) no_channel) where
     pub turn_inside : at - 1 < length s.channels
-    turn_inside = omega (arith, f.inside, changed-length s index c cells)
+    turn_inside = omega (arith, f.inside, changed_length s index c cells)
 
     pub turn_small : Replaces s index c → cur.setting.id < 255
-    turn_small r = rw is (replaced-small s index c r (at - 1) turn_inside)
+    turn_small r = rw is (replaced_small s index c r (at - 1) turn_inside)
 
-    pub fill-turn : (d : Channel) (window : Window) → d ≡ hearingOn cur (get_or cells cur.setting.id noSequence).sequence → window ≡ windowNow d
+    pub fill_turn : (d : Channel) (window : Window) → d ≡ hearing_on cur (get_or cells cur.setting.id no_sequence).sequence → window ≡ window_now d
         → Filling after (set statuses cur.setting.id (record { status = Status.Given d.status })) (set windows cur.setting.id (record { window = window })) (at - 1)
-    unfolding hearingOn
-    fill-turn d window e w =
-        fill_on after statuses windows at (at - 1) cur.setting.id d window f h refl (e ∙ ap (hears cells) is ∙ sym (changed-at s index c cells (at - 1) turn_inside)) (sym (ap (λ (x : Channel). x.setting.id) e)) w
+    unfolding hearing_on
+    fill_turn d window e w =
+        fill_on after statuses windows at (at - 1) cur.setting.id d window f h refl (e ∙ ap (hears cells) is ∙ sym (changed_at s index c cells (at - 1) turn_inside)) (sym (ap (λ (x : Channel). x.setting.id) e)) w

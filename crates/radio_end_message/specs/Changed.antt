@@ -7,35 +7,35 @@ use Rattle.meaning.specs.declared.message.End.TheVariants as ends
 use Rattle.meaning.specs.declared.message.Context.{Context}
 use Rattle.meaning.specs.declared.message.Sequence.{Sequence}
 use Rattle.meaning.specs.declared.message.SequenceCell.{SequenceCell}
-use Rattle.meaning.specs.Cells.{noSequence}
-use Rattle.writable.specs.Allowed.{contextAllowed}
+use Rattle.meaning.specs.Cells.{no_sequence}
+use Rattle.writable.specs.Allowed.{context_allowed}
 use Rattle.radio_end_state.specs.declared.channel.Channel.{Channel}
-use Rattle.radio_end_state.specs.Channel.{hearingOn}
-use Rattle.radio_end_state.specs.State.{State, channelAt}
-use Rattle.radio_end_state.specs.Limits.{stateFits}
-use Rattle.radio_end_state.specs.Message.{statusFor, windowFor}
+use Rattle.radio_end_state.specs.Channel.{hearing_on}
+use Rattle.radio_end_state.specs.State.{State, channel_at}
+use Rattle.radio_end_state.specs.Limits.{state_fits}
+use Rattle.radio_end_state.specs.Message.{status_for, window_for}
 use Rattle.radio_end_message.specs.declared.tables.Tables.{Tables}
 
 abbrev pub hears : List SequenceCell → Channel → Channel
-hears cells c = hearingOn c (get_or cells c.setting.id noSequence).sequence
+hears cells c = hearing_on c (get_or cells c.setting.id no_sequence).sequence
 
-unfoldable pub changedChannels : State → ℕ → Channel → List SequenceCell → List Channel
-changedChannels s index c cells = map (hears cells) (set s.channels index c)
+unfoldable pub changed_channels : State → ℕ → Channel → List SequenceCell → List Channel
+changed_channels s index c cells = map (hears cells) (set s.channels index c)
 
 -- THE STATE AFTER THE CHANGE
 unfoldable pub changed : State → Context → ℕ → Channel → List SequenceCell → State
-changed s context index c cells = record { datalink = s.datalink; channels = changedChannels s index c cells; instance = s.instance; context = context }
+changed s context index c cells = record { datalink = s.datalink; channels = changed_channels s index c cells; instance = s.instance; context = context }
 
 unfoldable pub tables_of : List Channel → Tables
-tables_of cs = record { statuses = tabulate CHANNEL-IDS (statusFor cs); windows = tabulate CHANNEL-IDS (windowFor cs) }
+tables_of cs = record { statuses = tabulate CHANNEL-IDS (status_for cs); windows = tabulate CHANNEL-IDS (window_for cs) }
 
 -- what may be changed so: one channel by another of its ID
 pub record Replaces (s : State) (index : ℕ) (c : Channel) : Type 0 where
-  pub fits : stateFits s ≡ true
-  pub same_id : c.setting.id ≡ (channelAt s index).setting.id
+  pub fits : state_fits s ≡ true
+  pub same_id : c.setting.id ≡ (channel_at s index).setting.id
 
 -- with a status of 4 bits, and a Context that can be written
 pub record Change (s : State) (context : Context) (index : ℕ) (c : Channel) : Type 0 where
   pub replaces : Replaces s index c
   pub low : c.status ≤ 15
-  pub context-allowed : contextAllowed ends.Radio context ≡ true
+  pub context_allowed_lem : context_allowed ends.Radio context ≡ true

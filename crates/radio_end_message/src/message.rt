@@ -1,8 +1,8 @@
 // The message built, and written.
 ghost use Rattle.std.specs.Prelude.{◌≡◌, true};
 ghost use Rattle.writer.specs.Written.{Outcome};
-ghost use Rattle.radio_end_state.specs.Message.{messageOf, messageBytes};
-ghost use Rattle.radio_end_words.specs.Words.{stateIn};
+ghost use Rattle.radio_end_state.specs.Message.{message_of, message_bytes};
+ghost use Rattle.radio_end_words.specs.Words.{state_in};
 ghost use Rattle.radio_end_message.specs.Changed.{changed, Change};
 
 use crate::tables;
@@ -19,8 +19,8 @@ fn build(
     channel: Channel,
     sequences: [SequenceCell; CHANNEL_IDS],
 ) -> Control
-    requires { Change (stateIn words.now) context index channel }
-    ensures { result ≡ messageOf (changed (stateIn words.now) context index channel sequences) }
+    requires { Change (state_in words.now) context index channel }
+    ensures { result ≡ message_of (changed (state_in words.now) context index channel sequences) }
 {
     let filled = tables::fill(words, index, channel, sequences);
     let statuses = filled.statuses;
@@ -48,8 +48,8 @@ pub fn write(
     sequences: [SequenceCell; CHANNEL_IDS],
     out: &mut [u8],
 ) -> WriteAnswer
-    requires { Change (stateIn words.now) context index channel }
-    ensures { Outcome true (messageBytes (changed (stateIn words.now) context index channel sequences)) out.old result out.new }
+    requires { Change (state_in words.now) context index channel }
+    ensures { Outcome true (message_bytes (changed (state_in words.now) context index channel sequences)) out.old result out.new }
 {
     let message = build(words, context, index, channel, sequences);
     writer::control::write(End::Radio, message, out)

@@ -1,8 +1,8 @@
 // The tables of statuses and windows over the Channel IDs.
 ghost use Rattle.std.specs.Prelude.{◌≡◌, get_or, set};
-ghost use Rattle.radio_end_state.specs.State.{noChannel};
-ghost use Rattle.radio_end_words.specs.Words.{stateIn, Placed};
-ghost use Rattle.radio_end_message.specs.Changed.{changedChannels, tables_of, Replaces};
+ghost use Rattle.radio_end_state.specs.State.{no_channel};
+ghost use Rattle.radio_end_words.specs.Words.{state_in, Placed};
+ghost use Rattle.radio_end_message.specs.Changed.{changed_channels, tables_of, Replaces};
 
 use meaning::message::{SequenceCell, Status, StatusCell, Window, WindowCell};
 use quantity::limit::CHANNEL_IDS;
@@ -19,7 +19,7 @@ pub struct Tables {
 // The channel at a place, or the one that takes its place.
 fn current(words: &[u64], at: usize, index: usize, channel: Channel) -> Channel
     requires { Placed words.now at }
-    ensures { result ≡ get_or (set (stateIn words.now).channels index channel) at noChannel }
+    ensures { result ≡ get_or (set (state_in words.now).channels index channel) at no_channel }
 {
     if at == index {
         return channel;
@@ -34,8 +34,8 @@ pub(crate) fn fill(
     channel: Channel,
     sequences: [SequenceCell; CHANNEL_IDS],
 ) -> Tables
-    requires { Replaces (stateIn words.now) index channel }
-    ensures { result ≡ tables_of (changedChannels (stateIn words.now) index channel sequences) }
+    requires { Replaces (state_in words.now) index channel }
+    ensures { result ≡ tables_of (changed_channels (state_in words.now) index channel sequences) }
 {
     let mut statuses = [StatusCell {
         status: Status::Absent,

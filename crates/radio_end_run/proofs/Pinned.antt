@@ -11,66 +11,66 @@ use Rattle.meaning.specs.declared.message.End.TheVariants as ends
 use Rattle.meaning.specs.declared.message.Sequence.{Sequence}
 use Rattle.meaning.specs.declared.message.Counted.{Counted}
 use Rattle.meaning.specs.declared.message.Channel as named
-use Rattle.meaning.specs.Cells.{noSequence}
-use Rattle.reader.specs.Readings.{Verdict, readControl, readData, planeOf, packetOf}
+use Rattle.meaning.specs.Cells.{no_sequence}
+use Rattle.reader.specs.Readings.{Verdict, read_control, read_data, plane_of, packet_of}
 use Rattle.reader.specs.declared.answer.PlaneAnswer.{PlaneAnswer}
-use Rattle.radio_flow.specs.Granting.{queuedOn}
+use Rattle.radio_flow.specs.Granting.{queued_on}
 use Rattle.radio_end_state.specs.State.{State}
-use Rattle.radio_end_state.specs.Calls.{sequenceIn, channelNamed}
-use Rattle.radio_end_run.specs.Run.{hear, status, queued, acceptedBy, receivedIn, heardBy, queuedBy, statusBy}
+use Rattle.radio_end_state.specs.Calls.{sequence_in, channel_named}
+use Rattle.radio_end_run.specs.Run.{hear, status, queued, accepted_by, received_in, heard_by, queued_by, status_by}
 
 -- ---- a control message that is not refused
-module _ (s : State) (datagram out : List ℕ) (accepted : acceptedBy (hear datagram out) s ≡ true) where
-  module _ (plane : planeOf datagram ≡ PlaneAnswer.Control) (read : (readControl ends.Ips s.datalink datagram).verdict ≡ Verdict.Accepted) where
-    pub control-states : (id : ℕ) (sequence : FlowSequence) → (get_or (readControl ends.Ips s.datalink datagram).message.sequences id noSequence).sequence ≡ Sequence.Given sequence
-        → heardBy (hear datagram out) s id ≡ sequence ∷ []
-    unfolding heardBy receivedIn sequenceIn
-    control-states id sequence e = rw (accepted, plane, read, e)
+module _ (s : State) (datagram out : List ℕ) (accepted : accepted_by (hear datagram out) s ≡ true) where
+  module _ (plane : plane_of datagram ≡ PlaneAnswer.Control) (read : (read_control ends.Ips s.datalink datagram).verdict ≡ Verdict.Accepted) where
+    pub control_states : (id : ℕ) (sequence : FlowSequence) → (get_or (read_control ends.Ips s.datalink datagram).message.sequences id no_sequence).sequence ≡ Sequence.Given sequence
+        → heard_by (hear datagram out) s id ≡ sequence ∷ []
+    unfolding heard_by received_in sequence_in
+    control_states id sequence e = rw (accepted, plane, read, e)
 
-    pub control-omits : (id : ℕ) → (get_or (readControl ends.Ips s.datalink datagram).message.sequences id noSequence).sequence ≡ Sequence.Absent → heardBy (hear datagram out) s id ≡ []
-    unfolding heardBy receivedIn sequenceIn
-    control-omits id e = rw (accepted, plane, read, e)
+    pub control_omits : (id : ℕ) → (get_or (read_control ends.Ips s.datalink datagram).message.sequences id no_sequence).sequence ≡ Sequence.Absent → heard_by (hear datagram out) s id ≡ []
+    unfolding heard_by received_in sequence_in
+    control_omits id e = rw (accepted, plane, read, e)
 
-    pub control-queues : (id : ℕ) (bytes : ByteCount) → queuedBy (hear datagram out) s id bytes ≡ bytes
-    unfolding queuedBy receivedIn
-    control-queues id bytes = rw (accepted, plane, read)
+    pub control_queues : (id : ℕ) (bytes : ByteCount) → queued_by (hear datagram out) s id bytes ≡ bytes
+    unfolding queued_by received_in
+    control_queues id bytes = rw (accepted, plane, read)
 
   -- ---- a data message that is not refused: "a data message without one names channel 0"
-  module _ (plane : planeOf datagram ≡ PlaneAnswer.Data) (read : (readData ends.Ips s.datalink datagram).verdict ≡ Verdict.Accepted) where
-    of-channel : (id : ℕ) → channelNamed (readData ends.Ips s.datalink datagram).message.channel ≡ id → (own : ℕ) (sequence : FlowSequence)
-        → (readData ends.Ips s.datalink datagram).message.sequence ≡ Counted.Given own sequence → heardBy (hear datagram out) s id ≡ sequence ∷ []
-    unfolding heardBy receivedIn
-    of-channel id e own sequence f = rw (accepted, plane, read, eq-eqb _ _ e, f)
+  module _ (plane : plane_of datagram ≡ PlaneAnswer.Data) (read : (read_data ends.Ips s.datalink datagram).verdict ≡ Verdict.Accepted) where
+    of_channel_lem : (id : ℕ) → channel_named (read_data ends.Ips s.datalink datagram).message.channel ≡ id → (own : ℕ) (sequence : FlowSequence)
+        → (read_data ends.Ips s.datalink datagram).message.sequence ≡ Counted.Given own sequence → heard_by (hear datagram out) s id ≡ sequence ∷ []
+    unfolding heard_by received_in
+    of_channel_lem id e own sequence f = rw (accepted, plane, read, eq-eqb _ _ e, f)
 
-    pub data-states : (id own : ℕ) (sequence : FlowSequence) → (readData ends.Ips s.datalink datagram).message.channel ≡ named.Channel.Given id
-        → (readData ends.Ips s.datalink datagram).message.sequence ≡ Counted.Given own sequence → heardBy (hear datagram out) s id ≡ sequence ∷ []
-    data-states id own sequence e f = of-channel id (ap channelNamed e) own sequence f
+    pub data_states : (id own : ℕ) (sequence : FlowSequence) → (read_data ends.Ips s.datalink datagram).message.channel ≡ named.Channel.Given id
+        → (read_data ends.Ips s.datalink datagram).message.sequence ≡ Counted.Given own sequence → heard_by (hear datagram out) s id ≡ sequence ∷ []
+    data_states id own sequence e f = of_channel_lem id (ap channel_named e) own sequence f
 
-    packet-on : (id : ℕ) → channelNamed (readData ends.Ips s.datalink datagram).message.channel ≡ id → (bytes : ByteCount)
-        → (queuedBy (hear datagram out) s id bytes).0 ≡ min 18446744073709551615 (bytes.0 + length (packetOf datagram))
-    unfolding queuedBy receivedIn queuedOn
-    packet-on id e bytes = rw (accepted, plane, read, eq-eqb _ _ e)
+    packet_on_lem : (id : ℕ) → channel_named (read_data ends.Ips s.datalink datagram).message.channel ≡ id → (bytes : ByteCount)
+        → (queued_by (hear datagram out) s id bytes).0 ≡ min 18446744073709551615 (bytes.0 + length (packet_of datagram))
+    unfolding queued_by received_in queued_on
+    packet_on_lem id e bytes = rw (accepted, plane, read, eq-eqb _ _ e)
 
-    pub data-queues : (id : ℕ) → (readData ends.Ips s.datalink datagram).message.channel ≡ named.Channel.Given id → (bytes : ByteCount)
-        → (queuedBy (hear datagram out) s id bytes).0 ≡ min 18446744073709551615 (bytes.0 + length (packetOf datagram))
-    data-queues id e = packet-on id (ap channelNamed e)
+    pub data_queues : (id : ℕ) → (read_data ends.Ips s.datalink datagram).message.channel ≡ named.Channel.Given id → (bytes : ByteCount)
+        → (queued_by (hear datagram out) s id bytes).0 ≡ min 18446744073709551615 (bytes.0 + length (packet_of datagram))
+    data_queues id e = packet_on_lem id (ap channel_named e)
 
-    pub data-queues-primary : (readData ends.Ips s.datalink datagram).message.channel ≡ named.Channel.Absent → (bytes : ByteCount)
-        → (queuedBy (hear datagram out) s 0 bytes).0 ≡ min 18446744073709551615 (bytes.0 + length (packetOf datagram))
-    data-queues-primary e = packet-on 0 (ap channelNamed e)
+    pub data_queues_primary : (read_data ends.Ips s.datalink datagram).message.channel ≡ named.Channel.Absent → (bytes : ByteCount)
+        → (queued_by (hear datagram out) s 0 bytes).0 ≡ min 18446744073709551615 (bytes.0 + length (packet_of datagram))
+    data_queues_primary e = packet_on_lem 0 (ap channel_named e)
 
     -- every other channel hears nothing of it and queues nothing
-    pub data-elsewhere : (id : ℕ) → (channelNamed (readData ends.Ips s.datalink datagram).message.channel ≡ id → ⊥) → (bytes : ByteCount)
-        → (heardBy (hear datagram out) s id ≡ []) × (queuedBy (hear datagram out) s id bytes ≡ bytes)
-    unfolding heardBy queuedBy receivedIn
-    data-elsewhere id apart bytes = (rw (accepted, plane, read, ne_eqb _ _ apart), rw (accepted, plane, read, ne_eqb _ _ apart))
+    pub data_elsewhere : (id : ℕ) → (channel_named (read_data ends.Ips s.datalink datagram).message.channel ≡ id → ⊥) → (bytes : ByteCount)
+        → (heard_by (hear datagram out) s id ≡ []) × (queued_by (hear datagram out) s id bytes ≡ bytes)
+    unfolding heard_by queued_by received_in
+    data_elsewhere id apart bytes = (rw (accepted, plane, read, ne_eqb _ _ apart), rw (accepted, plane, read, ne_eqb _ _ apart))
 
 -- ---- the radio's own side
 module _ (s : State) (id : ℕ) (out : List ℕ) where
-  pub queued-sets : (number bytes : ByteCount) → acceptedBy (queued id number out) s ≡ true → queuedBy (queued id number out) s id bytes ≡ number
-  unfolding queuedBy
-  queued-sets number bytes e = rw (e, eq-eqb id id refl)
+  pub queued_sets : (number bytes : ByteCount) → accepted_by (queued id number out) s ≡ true → queued_by (queued id number out) s id bytes ≡ number
+  unfolding queued_by
+  queued_sets number bytes e = rw (e, eq-eqb id id refl)
 
-  pub status-sets : (value before : ℕ) → acceptedBy (status id value out) s ≡ true → statusBy (status id value out) s id before ≡ value
-  unfolding statusBy
-  status-sets value before e = rw (e, eq-eqb id id refl)
+  pub status_sets : (value before : ℕ) → accepted_by (status id value out) s ≡ true → status_by (status id value out) s id before ≡ value
+  unfolding status_by
+  status_sets value before e = rw (e, eq-eqb id id refl)

@@ -9,46 +9,46 @@ use native.Mathlib.Omega.{arith}
 use lib.Dec.{leb}
 use lib.ListN.{length, get_or}
 use Rattle.quantity.specs.Limits.{MOST-ALLOWANCE}
-use Rattle.radio_end_state.specs.State.{noSetting}
-use Rattle.radio_end_state.specs.Limits.{allowanceFits, allowancesFit}
-use Rattle.radio_end_state.proofs.UpTo.{up-to-by, up-to-out}
+use Rattle.radio_end_state.specs.State.{no_setting}
+use Rattle.radio_end_state.specs.Limits.{allowance_fits, allowances_fit}
+use Rattle.radio_end_state.proofs.UpTo.{up_to_by, up_to_out}
 use Rattle.radio_end_words.specs.Words.{word}
-use Rattle.radio_end_start.specs.Start.{CONFIGURATION-HEAD, CONFIGURATION-SLOT, START-WATERMARK, START-THROUGHPUT, configurationLength, startWord, settingIn, settingsOf}
-use Rattle.radio_end_start.proofs.Settings.{settings-length, settings-at}
+use Rattle.radio_end_start.specs.Start.{CONFIGURATION-HEAD, CONFIGURATION-SLOT, START-WATERMARK, START-THROUGHPUT, configuration_length, start_word, setting_in, settings_of}
+use Rattle.radio_end_start.proofs.Settings.{settings_length, settings_at}
 
 -- a channel's two numbers, as its words say
-abbrev pub allowedIn : List ℕ → ℕ → Bool
-allowedIn w i = leb (startWord w i START-WATERMARK) MOST-ALLOWANCE && leb (startWord w i START-THROUGHPUT) MOST-ALLOWANCE
+abbrev pub allowed_in : List ℕ → ℕ → Bool
+allowed_in w i = leb (start_word w i START-WATERMARK) MOST-ALLOWANCE && leb (start_word w i START-THROUGHPUT) MOST-ALLOWANCE
 
 pub record Allowing (w : List ℕ) (count at from : ℕ) : Type 0 where
   pub inside : at ≤ count
-  pub from_is : from ≡ configurationLength at
-  pub passed : (i : ℕ) → i < at → allowedIn w i ≡ true
+  pub from_is : from ≡ configuration_length at
+  pub passed : (i : ℕ) → i < at → allowed_in w i ≡ true
 
 module _ (w : List ℕ) (count : ℕ) where
-  pub allowed_at : (i : ℕ) → i < count → allowanceFits (get_or (settingsOf w count) i noSetting) ≡ allowedIn w i
-  unfolding settingIn
-  allowed_at i h = rw (settings-at w count i h)
+  pub allowed_at_lem : (i : ℕ) → i < count → allowance_fits (get_or (settings_of w count) i no_setting) ≡ allowed_in w i
+  unfolding setting_in
+  allowed_at_lem i h = rw (settings_at w count i h)
 
-  pub allow-start : Allowing w count 0 CONFIGURATION-HEAD
-  allow-start = record { inside = omega arith; from_is = omega arith; passed = λ i h. absurd (omega arith) }
+  pub allow_start : Allowing w count 0 CONFIGURATION-HEAD
+  allow_start = record { inside = omega arith; from_is = omega arith; passed = λ i h. absurd (omega arith) }
 
   module _ (at from : ℕ) (v : Allowing w count at from) where
     module _ (h : at < count) (r : Bool) (is : r ≡ (leb (word w (from + START-WATERMARK)) MOST-ALLOWANCE && leb (word w (from + START-THROUGHPUT)) MOST-ALLOWANCE)) where
-      judged : r ≡ allowedIn w at
+      judged : r ≡ allowed_in w at
       judged = rw v.from_is at is
 
-      pub out-large : r ≡ false → false ≡ allowancesFit (settingsOf w count)
-      unfolding allowancesFit
-      out-large e = sym (up-to-out (λ i. allowanceFits (get_or (settingsOf w count) i noSetting)) (length (settingsOf w count)) at (omega (arith, settings-length w count)) (allowed_at at h ∙ sym judged ∙ e))
+      pub out_large : r ≡ false → false ≡ allowances_fit (settings_of w count)
+      unfolding allowances_fit
+      out_large e = sym (up_to_out (λ i. allowance_fits (get_or (settings_of w count) i no_setting)) (length (settings_of w count)) at (omega (arith, settings_length w count)) (allowed_at_lem at h ∙ sym judged ∙ e))
 
-      pub allow-on : r ≡ true → Allowing w count (at + 1) (from + CONFIGURATION-SLOT)
-      allow-on e = record { inside = omega arith; from_is = omega (arith, v.from_is); passed = each }
+      pub allow_on : r ≡ true → Allowing w count (at + 1) (from + CONFIGURATION-SLOT)
+      allow_on e = record { inside = omega arith; from_is = omega (arith, v.from_is); passed = each }
         where
-          each : (i : ℕ) → i < at + 1 → allowedIn w i ≡ true
+          each : (i : ℕ) → i < at + 1 → allowed_in w i ≡ true
           each i l = ⊎_elim (λ (p : i ≡ at). rw p (sym judged ∙ e)) (λ (o : i < at). v.passed i o) (eq-or-lt_of_le (omega arith))
 
-    pub allow-end : count ≤ at → true ≡ allowancesFit (settingsOf w count)
-    unfolding allowancesFit
-    allow-end h =
-        sym (up-to-by (λ i. allowanceFits (get_or (settingsOf w count) i noSetting)) (length (settingsOf w count)) (λ i l. allowed_at i (omega (arith, settings-length w count)) ∙ v.passed i (omega (arith, settings-length w count, v.inside))))
+    pub allow_end : count ≤ at → true ≡ allowances_fit (settings_of w count)
+    unfolding allowances_fit
+    allow_end h =
+        sym (up_to_by (λ i. allowance_fits (get_or (settings_of w count) i no_setting)) (length (settings_of w count)) (λ i l. allowed_at_lem i (omega (arith, settings_length w count)) ∙ v.passed i (omega (arith, settings_length w count, v.inside))))

@@ -13,19 +13,19 @@ use Rattle.quantity.specs.Limits.{MOST-ALLOWANCE, RESERVED-CHANNEL}
 use Rattle.quantity.specs.Refusals.{OUTSIDE-LIMITS, LARGE-ALLOWANCE}
 use Rattle.quantity.specs.declared.refusal.Refusal.{Refusal}
 use Rattle.radio_end_state.specs.declared.channel.Setting.{Setting}
-use Rattle.radio_end_state.specs.State.{noSetting, freshState}
-use Rattle.radio_end_state.specs.Limits.{up_to, indexOf, hasId, standsFirst, idsFit, settingFits, allowanceFits, settingsFit, settingIds, allowancesFit, configurationFits, stateFits}
-use Rattle.radio_end_state.proofs.UpTo.{up-to-at, up-to-by}
-use Rattle.radio_end_words.specs.Words.{CONTROLLED, word, wordsFor, stateWords, stateIn}
+use Rattle.radio_end_state.specs.State.{no_setting, fresh_state}
+use Rattle.radio_end_state.specs.Limits.{up_to, indexOf, has_id, stands_first, ids_fit, setting_fits, allowance_fits, settings_fit, setting_ids, allowances_fit, configuration_fits, state_fits}
+use Rattle.radio_end_state.proofs.UpTo.{up_to_at, up_to_by}
+use Rattle.radio_end_words.specs.Words.{CONTROLLED, word, words_for, state_words, state_in}
 use Rattle.radio_end_start.specs.declared.StartAnswer.{StartAnswer}
-use Rattle.radio_end_start.specs.Start.{CONFIGURED-COUNT, START-KIND, startWord, settingIn, settingsOf, configurationOf, kindsSpelled, configurationIn, walked, startsIn, notStarted, StartedIn}
+use Rattle.radio_end_start.specs.Start.{CONFIGURED-COUNT, START-KIND, start_word, setting_in, settings_of, configuration_of, kinds_spelled, configuration_in, walked, starts_in, not_started, StartedIn}
 use Rattle.radio_end_start.specs.Exactly.{StartsExactly, AllowancesExactly, LargeExactly, AnswersExactly, ConfigurationSays}
-use Rattle.radio_end_start.proofs.Settings.{settings-length, settings-at, numbers-length, number_at}
-use Rattle.radio_end_start.proofs.Walking.{fits-at}
-use Rattle.radio_end_start.proofs.Looking.{says, in-walk}
-use Rattle.radio_end_start.proofs.Allowing.{allowedIn, allowed_at}
-use Rattle.radio_end_start.proofs.Beginning.{Fitting, fitting, readable-parts, fits-readable, settings-are, count-is, few-are, configuration-long, id_below}
-use Rattle.radio_end_start.proofs.Standing.{fresh-fits, fresh-said}
+use Rattle.radio_end_start.proofs.Settings.{settings_length, settings_at, numbers_length, number_at}
+use Rattle.radio_end_start.proofs.Walking.{fits_at}
+use Rattle.radio_end_start.proofs.Looking.{says, in_walk}
+use Rattle.radio_end_start.proofs.Allowing.{allowed_in, allowed_at_lem}
+use Rattle.radio_end_start.proofs.Beginning.{Fitting, fitting, readable_parts, fits_readable, settings_are, count_is, few_are, configuration_long, id_below}
+use Rattle.radio_end_start.proofs.Standing.{fresh_fits, fresh_said}
 
 -- ---- the first place of a number in a list
 found : (id : ℕ) (ns : List ℕ) → indexOf id ns < length ns → get_or ns (indexOf id ns) 0 ≡ id
@@ -55,10 +55,10 @@ record Failing (test : ℕ → Bool) (n : ℕ) : Type 0 where
   inside : place < n
   fails : test place ≡ false
 
-up-to-fails : (test : ℕ → Bool) (n : ℕ) → up_to test n ≡ false → Failing test n
+up_to_fails : (test : ℕ → Bool) (n : ℕ) → up_to test n ≡ false → Failing test n
 unfolding up_to
-up-to-fails test zero e = clash (sym e)
-up-to-fails test (suc n) e = go (test n) (up_to test n) refl refl (λ g. up-to-fails test n g)
+up_to_fails test zero e = clash (sym e)
+up_to_fails test (suc n) e = go (test n) (up_to test n) refl refl (λ g. up_to_fails test n g)
   where
     go : (a b : Bool) → test n ≡ a → up_to test n ≡ b → (up_to test n ≡ false → Failing test n) → Failing test (suc n)
     go false b f g earlier = record { place = n; inside = omega arith; fails = f }
@@ -71,209 +71,209 @@ numbered (StartAnswer.Refused refusal) = refusal.number
 
 -- what a start that is not refused leaves
 pub record StartLeaves (w words' : List ℕ) : Type 0 where
-  pub words_are : words' ≡ stateWords (freshState (configurationIn w))
-  pub state-is : stateIn words' ≡ freshState (configurationIn w)
-  pub state-fits : stateFits (stateIn words') ≡ true
+  pub words_are : words' ≡ state_words (fresh_state (configuration_in w))
+  pub state_is : state_in words' ≡ fresh_state (configuration_in w)
+  pub state_fits_lem : state_fits (state_in words') ≡ true
 
 module _ (w words : List ℕ) where
   abbrev number : ℕ
   number = word w CONFIGURED-COUNT
 
   abbrev numbers : List ℕ
-  numbers = settingIds (settingsOf w number)
+  numbers = setting_ids (settings_of w number)
 
-  id-here : (i : ℕ) → i < number → get_or numbers i 0 ≡ get_or w (2 + 4 * i) 0
-  id-here i h =
+  id_here : (i : ℕ) → i < number → get_or numbers i 0 ≡ get_or w (2 + 4 * i) 0
+  id_here i h =
       let none : 2 + 4 * i + 0 ≡ 2 + 4 * i = omega arith in
       rw none at (number_at w number i h)
 
   -- ---- 19: facts from the tests
-  starts-parts : startsIn w words ≡ true → (configurationFits (configurationIn w) ≡ true) × (length words ≡ wordsFor (length (configurationIn w).settings))
-  unfolding startsIn
-  starts-parts e = let a = (and-eq-true_iff (configurationFits (configurationIn w)) _).0 e in (a.0, eqb-true _ _ a.1)
+  starts_parts : starts_in w words ≡ true → (configuration_fits (configuration_in w) ≡ true) × (length words ≡ words_for (length (configuration_in w).settings))
+  unfolding starts_in
+  starts_parts e = let a = (and-eq-true_iff (configuration_fits (configuration_in w)) _).0 e in (a.0, eqb-true _ _ a.1)
 
-  module _ (fits : configurationFits (configurationIn w) ≡ true) where
-    facts : Fitting (configurationIn w)
-    facts = fitting (configurationIn w) fits
+  module _ (fits : configuration_fits (configuration_in w) ≡ true) where
+    facts : Fitting (configuration_in w)
+    facts = fitting (configuration_in w) fits
 
-    first-stands : (i : ℕ) → i < number → indexOf (get_or numbers i 0) numbers ≡ i
-    first-stands i h = eqb-true _ i (up-to-at (standsFirst numbers) (length numbers) (rw (settings-are w fits) at facts.apart) i (omega (arith, numbers-length w number)))
+    first_stands : (i : ℕ) → i < number → indexOf (get_or numbers i 0) numbers ≡ i
+    first_stands i h = eqb-true _ i (up_to_at (stands_first numbers) (length numbers) (rw (settings_are w fits) at facts.apart) i (omega (arith, numbers_length w number)))
 
-    ids-apart : (i j : ℕ) → i < number → j < number → get_or w (2 + 4 * i) 0 ≡ get_or w (2 + 4 * j) 0 → i ≡ j
-    ids-apart i j h l e = sym (first-stands i h) ∙ ap (λ (n : ℕ). indexOf n numbers) (id-here i h ∙ e ∙ sym (id-here j l)) ∙ first-stands j l
+    ids_apart : (i j : ℕ) → i < number → j < number → get_or w (2 + 4 * i) 0 ≡ get_or w (2 + 4 * j) 0 → i ≡ j
+    ids_apart i j h l e = sym (first_stands i h) ∙ ap (λ (n : ℕ). indexOf n numbers) (id_here i h ∙ e ∙ sym (id_here j l)) ∙ first_stands j l
 
-    zero-inside : indexOf 0 numbers < length numbers
-    unfolding hasId
-    zero-inside = ltb-true _ _ (rw (settings-are w fits) at facts.primary)
+    zero_inside : indexOf 0 numbers < length numbers
+    unfolding has_id
+    zero_inside = ltb-true _ _ (rw (settings_are w fits) at facts.primary)
 
-    kind_at : (i : ℕ) → i < number → startWord w i START-KIND ≤ 1
-    unfolding kindsSpelled
-    kind_at i h = leb-true _ CONTROLLED (up-to-at (λ index. leb (startWord w index START-KIND) CONTROLLED) number (readable-parts w (fits-readable w fits)).1 i h)
+    kind_at : (i : ℕ) → i < number → start_word w i START-KIND ≤ 1
+    unfolding kinds_spelled
+    kind_at i h = leb-true _ CONTROLLED (up_to_at (λ index. leb (start_word w index START-KIND) CONTROLLED) number (readable_parts w (fits_readable w fits)).1 i h)
 
-    datalink-below : get_or w 0 0 < 256
-    unfolding configurationOf
-    datalink-below = rw (says w (fits-readable w fits)) at facts.datalink
+    datalink_below : get_or w 0 0 < 256
+    unfolding configuration_of
+    datalink_below = rw (says w (fits_readable w fits)) at facts.datalink
 
-    id-low : (i : ℕ) → i < number → get_or w (2 + 4 * i) 0 < 255
-    id-low i h = let none : 2 + 4 * i + 0 ≡ 2 + 4 * i = omega arith in rw none at (id_below w fits i h)
+    id_low : (i : ℕ) → i < number → get_or w (2 + 4 * i) 0 < 255
+    id_low i h = let none : 2 + 4 * i + 0 ≡ 2 + 4 * i = omega arith in rw none at (id_below w fits i h)
 
-  starts-exactly : startsIn w words ≡ true → StartsExactly w words
-  starts-exactly e =
-      let fits = (starts-parts e).0 in
-      let there : indexOf 0 numbers < number = omega (arith, zero-inside fits, numbers-length w number) in
+  starts_exactly : starts_in w words ≡ true → StartsExactly w words
+  starts_exactly e =
+      let fits = (starts_parts e).0 in
+      let there : indexOf 0 numbers < number = omega (arith, zero_inside fits, numbers_length w number) in
       record {
-        long = configuration-long w fits;
-        datalink = datalink-below fits;
-        some = rw (count-is w fits) at (facts fits).some;
-        few = few-are w fits;
-        ids = id-low fits;
+        long = configuration_long w fits;
+        datalink = datalink_below fits;
+        some = rw (count_is w fits) at (facts fits).some;
+        few = few_are w fits;
+        ids = id_low fits;
         kinds = kind_at fits;
-        apart = ids-apart fits;
+        apart = ids_apart fits;
         primary = indexOf 0 numbers;
-        primary-inside = there;
-        primary-is = sym (id-here (indexOf 0 numbers) there) ∙ found 0 numbers (zero-inside fits);
-        room = (starts-parts e).1 ∙ ap wordsFor (count-is w fits);
+        primary_inside = there;
+        primary_is = sym (id_here (indexOf 0 numbers) there) ∙ found 0 numbers (zero_inside fits);
+        room = (starts_parts e).1 ∙ ap words_for (count_is w fits);
       }
 
   -- ---- what the words of a configuration within the limits say
-  module _ (fits : configurationFits (configurationIn w) ≡ true) where
-    said_at : (i : ℕ) → i < number → get_or (configurationIn w).settings i noSetting ≡ settingIn w i
-    said_at i h = ap (λ (ks : List Setting). get_or ks i noSetting) (settings-are w fits) ∙ settings-at w number i h
+  module _ (fits : configuration_fits (configuration_in w) ≡ true) where
+    said_at_lem : (i : ℕ) → i < number → get_or (configuration_in w).settings i no_setting ≡ setting_in w i
+    said_at_lem i h = ap (λ (ks : List Setting). get_or ks i no_setting) (settings_are w fits) ∙ settings_at w number i h
 
-    words-say : ConfigurationSays w (configurationIn w)
-    unfolding settingIn configurationOf
-    words-say = record {
-      datalink = rw (says w (fits-readable w fits));
-      many = count-is w fits;
-      ids = λ i h. let none : 2 + 4 * i + 0 ≡ 2 + 4 * i = omega arith in rw (said_at i h, none);
-      plain = λ i h t. rw (said_at i h, t);
-      controlled = λ i h t. rw (said_at i h, t);
-      watermarks = λ i h. rw (said_at i h);
-      throughputs = λ i h. rw (said_at i h);
+    words_say_lem : ConfigurationSays w (configuration_in w)
+    unfolding setting_in configuration_of
+    words_say_lem = record {
+      datalink = rw (says w (fits_readable w fits));
+      many = count_is w fits;
+      ids = λ i h. let none : 2 + 4 * i + 0 ≡ 2 + 4 * i = omega arith in rw (said_at_lem i h, none);
+      plain = λ i h t. rw (said_at_lem i h, t);
+      controlled = λ i h t. rw (said_at_lem i h, t);
+      watermarks = λ i h. rw (said_at_lem i h);
+      throughputs = λ i h. rw (said_at_lem i h);
     }
 
   -- ---- and the tests from facts
   module _ (x : StartsExactly w words) where
-    setting-by : (i : ℕ) → i < length (settingsOf w number) → settingFits (get_or (settingsOf w number) i noSetting) ≡ true
-    setting-by i h =
-        let inside : i < number = omega (arith, settings-length w number) in
+    setting_by : (i : ℕ) → i < length (settings_of w number) → setting_fits (get_or (settings_of w number) i no_setting) ≡ true
+    setting_by i h =
+        let inside : i < number = omega (arith, settings_length w number) in
         let none : 2 + 4 * i + 0 ≡ 2 + 4 * i = omega arith in
-        fits-at w number i inside ∙ rw none (lt-ltb _ RESERVED-CHANNEL (x.ids i inside))
+        fits_at w number i inside ∙ rw none (lt-ltb _ RESERVED-CHANNEL (x.ids i inside))
 
-    first_by : (i : ℕ) → i < length numbers → standsFirst numbers i ≡ true
+    first_by : (i : ℕ) → i < length numbers → stands_first numbers i ≡ true
     first_by i h =
-        let inside : i < number = omega (arith, numbers-length w number) in
+        let inside : i < number = omega (arith, numbers_length w number) in
         let low : indexOf (get_or numbers i 0) numbers ≤ i = first_below numbers i h in
         let there : indexOf (get_or numbers i 0) numbers < number = omega arith in
-        eq-eqb _ i (x.apart (indexOf (get_or numbers i 0) numbers) i there inside (sym (id-here (indexOf (get_or numbers i 0) numbers) there) ∙ found (get_or numbers i 0) numbers (omega (arith, numbers-length w number)) ∙ id-here i inside))
+        eq-eqb _ i (x.apart (indexOf (get_or numbers i 0) numbers) i there inside (sym (id_here (indexOf (get_or numbers i 0) numbers) there) ∙ found (get_or numbers i 0) numbers (omega (arith, numbers_length w number)) ∙ id_here i inside))
 
-    zero-by : hasId 0 numbers ≡ true
-    unfolding hasId
-    zero-by =
-        let is : get_or numbers x.primary 0 ≡ 0 = id-here x.primary x.primary-inside ∙ x.primary-is in
-        let low : indexOf 0 numbers ≤ x.primary = rw is at (first_below numbers x.primary (omega (arith, numbers-length w number, x.primary-inside))) in
-        lt-ltb (indexOf 0 numbers) (length numbers) (omega (arith, numbers-length w number, x.primary-inside))
+    zero_by : has_id 0 numbers ≡ true
+    unfolding has_id
+    zero_by =
+        let is : get_or numbers x.primary 0 ≡ 0 = id_here x.primary x.primary_inside ∙ x.primary_is in
+        let low : indexOf 0 numbers ≤ x.primary = rw is at (first_below numbers x.primary (omega (arith, numbers_length w number, x.primary_inside))) in
+        lt-ltb (indexOf 0 numbers) (length numbers) (omega (arith, numbers_length w number, x.primary_inside))
 
     walked_by : walked w number ≡ true
-    unfolding walked kindsSpelled settingsFit idsFit
+    unfolding walked kinds_spelled settings_fit ids_fit
     walked_by =
-        rw (up-to-by (λ index. leb (startWord w index START-KIND) CONTROLLED) number (λ i h. le-leb _ CONTROLLED (x.kinds i h)), up-to-by (λ index. settingFits (get_or (settingsOf w number) index noSetting)) (length (settingsOf w number)) setting-by, up-to-by (standsFirst numbers) (length numbers) first_by, zero-by)
+        rw (up_to_by (λ index. leb (start_word w index START-KIND) CONTROLLED) number (λ i h. le-leb _ CONTROLLED (x.kinds i h)), up_to_by (λ index. setting_fits (get_or (settings_of w number) index no_setting)) (length (settings_of w number)) setting_by, up_to_by (stands_first numbers) (length numbers) first_by, zero_by)
 
-    fits_by : configurationFits (configurationIn w) ≡ true
-    fits_by = sym (in-walk w number refl x.long x.some x.few x.datalink) ∙ walked_by
+    fits_by : configuration_fits (configuration_in w) ≡ true
+    fits_by = sym (in_walk w number refl x.long x.some x.few x.datalink) ∙ walked_by
 
-    exactly-starts : startsIn w words ≡ true
-    unfolding startsIn
-    exactly-starts = rw (fits_by, count-is w fits_by, eq-eqb (length words) (wordsFor number) x.room)
+    exactly_starts : starts_in w words ≡ true
+    unfolding starts_in
+    exactly_starts = rw (fits_by, count_is w fits_by, eq-eqb (length words) (words_for number) x.room)
 
   -- ---- 23, of words that say a configuration
-  module _ (starts : startsIn w words ≡ true) where
-    allowances-are : allowancesFit (configurationIn w).settings ≡ allowancesFit (settingsOf w number)
-    allowances-are = ap allowancesFit (settings-are w (starts-parts starts).0)
+  module _ (starts : starts_in w words ≡ true) where
+    allowances_are : allowances_fit (configuration_in w).settings ≡ allowances_fit (settings_of w number)
+    allowances_are = ap allowances_fit (settings_are w (starts_parts starts).0)
 
-    allowances-exactly : allowancesFit (configurationIn w).settings ≡ true → AllowancesExactly w
-    unfolding allowancesFit
-    allowances-exactly e = record { watermarks = λ i h. leb-true _ MOST-ALLOWANCE (both i h).0; throughputs = λ i h. leb-true _ MOST-ALLOWANCE (both i h).1 }
+    allowances_exactly : allowances_fit (configuration_in w).settings ≡ true → AllowancesExactly w
+    unfolding allowances_fit
+    allowances_exactly e = record { watermarks = λ i h. leb-true _ MOST-ALLOWANCE (both i h).0; throughputs = λ i h. leb-true _ MOST-ALLOWANCE (both i h).1 }
       where
         both : (i : ℕ) → i < number → (leb (get_or w (2 + 4 * i + 2) 0) MOST-ALLOWANCE ≡ true) × (leb (get_or w (2 + 4 * i + 3) 0) MOST-ALLOWANCE ≡ true)
         both i h =
             (and-eq-true_iff (leb (get_or w (2 + 4 * i + 2) 0) MOST-ALLOWANCE) (leb (get_or w (2 + 4 * i + 3) 0) MOST-ALLOWANCE)).0
-            (sym (allowed_at w number i h) ∙ up-to-at (λ index. allowanceFits (get_or (settingsOf w number) index noSetting)) (length (settingsOf w number)) (sym allowances-are ∙ e) i (omega (arith, settings-length w number)))
+            (sym (allowed_at_lem w number i h) ∙ up_to_at (λ index. allowance_fits (get_or (settings_of w number) index no_setting)) (length (settings_of w number)) (sym allowances_are ∙ e) i (omega (arith, settings_length w number)))
 
-    exactly-allowances : AllowancesExactly w → allowancesFit (configurationIn w).settings ≡ true
-    unfolding allowancesFit
-    exactly-allowances x = allowances-are ∙ up-to-by (λ index. allowanceFits (get_or (settingsOf w number) index noSetting)) (length (settingsOf w number)) each
+    exactly_allowances : AllowancesExactly w → allowances_fit (configuration_in w).settings ≡ true
+    unfolding allowances_fit
+    exactly_allowances x = allowances_are ∙ up_to_by (λ index. allowance_fits (get_or (settings_of w number) index no_setting)) (length (settings_of w number)) each
       where
-        each : (i : ℕ) → i < length (settingsOf w number) → allowanceFits (get_or (settingsOf w number) i noSetting) ≡ true
+        each : (i : ℕ) → i < length (settings_of w number) → allowance_fits (get_or (settings_of w number) i no_setting) ≡ true
         each i h =
-            let inside : i < number = omega (arith, settings-length w number) in
-            allowed_at w number i inside ∙ rw (le-leb (get_or w (2 + 4 * i + 2) 0) MOST-ALLOWANCE (x.watermarks i inside), le-leb (get_or w (2 + 4 * i + 3) 0) MOST-ALLOWANCE (x.throughputs i inside))
+            let inside : i < number = omega (arith, settings_length w number) in
+            allowed_at_lem w number i inside ∙ rw (le-leb (get_or w (2 + 4 * i + 2) 0) MOST-ALLOWANCE (x.watermarks i inside), le-leb (get_or w (2 + 4 * i + 3) 0) MOST-ALLOWANCE (x.throughputs i inside))
 
-    large-exactly : allowancesFit (configurationIn w).settings ≡ false → LargeExactly w
-    unfolding allowancesFit
-    large-exactly e =
-        let f = up-to-fails (λ index. allowanceFits (get_or (settingsOf w number) index noSetting)) (length (settingsOf w number)) (sym allowances-are ∙ e) in
-        let inside : f.place < number = omega (arith, f.inside, settings-length w number) in
-        record { channel = f.place; inside = inside; large = either f.place (sym (allowed_at w number f.place inside) ∙ f.fails) }
+    large_exactly : allowances_fit (configuration_in w).settings ≡ false → LargeExactly w
+    unfolding allowances_fit
+    large_exactly e =
+        let f = up_to_fails (λ index. allowance_fits (get_or (settings_of w number) index no_setting)) (length (settings_of w number)) (sym allowances_are ∙ e) in
+        let inside : f.place < number = omega (arith, f.inside, settings_length w number) in
+        record { channel = f.place; inside = inside; large = either f.place (sym (allowed_at_lem w number f.place inside) ∙ f.fails) }
       where
-        either : (i : ℕ) → allowedIn w i ≡ false → (2147483647 < get_or w (2 + 4 * i + 2) 0) ⊎ (2147483647 < get_or w (2 + 4 * i + 3) 0)
+        either : (i : ℕ) → allowed_in w i ≡ false → (2147483647 < get_or w (2 + 4 * i + 2) 0) ⊎ (2147483647 < get_or w (2 + 4 * i + 3) 0)
         either i g = by_le (get_or w (2 + 4 * i + 2) 0) 2147483647 (λ (h : get_or w (2 + 4 * i + 2) 0 ≤ 2147483647).
             by_le (get_or w (2 + 4 * i + 3) 0) 2147483647 (λ (l : get_or w (2 + 4 * i + 3) 0 ≤ 2147483647). clash (sym g ∙ rw (le-leb (get_or w (2 + 4 * i + 2) 0) MOST-ALLOWANCE h, le-leb (get_or w (2 + 4 * i + 3) 0) MOST-ALLOWANCE l))) inr) inl
 
-    exactly-large : LargeExactly w → allowancesFit (configurationIn w).settings ≡ false
-    exactly-large x = go (allowancesFit (configurationIn w).settings) refl
+    exactly_large : LargeExactly w → allowances_fit (configuration_in w).settings ≡ false
+    exactly_large x = go (allowances_fit (configuration_in w).settings) refl
       where
-        go : (b : Bool) → allowancesFit (configurationIn w).settings ≡ b → b ≡ false
+        go : (b : Bool) → allowances_fit (configuration_in w).settings ≡ b → b ≡ false
         go false e = refl
         go true e =
-            let all = allowances-exactly e in
+            let all = allowances_exactly e in
             absurd (⊎_elim (λ (h : 2147483647 < get_or w (2 + 4 * x.channel + 2) 0). omega (arith, all.watermarks x.channel x.inside)) (λ (h : 2147483647 < get_or w (2 + 4 * x.channel + 3) 0). omega (arith, all.throughputs x.channel x.inside)) x.large)
 
   -- ---- of the call: started, 23 and 19, each exactly when
   module _ {answer : StartAnswer} {words' : List ℕ} (started : StartedIn w words answer words') where
-    by_way : {X : Type 0} → (startsIn w words ≡ true → allowancesFit (configurationIn w).settings ≡ true → answer ≡ StartAnswer.Started → X)
-        → (startsIn w words ≡ true → allowancesFit (configurationIn w).settings ≡ false → answer ≡ notStarted LARGE-ALLOWANCE → X)
-        → (startsIn w words ≡ false → answer ≡ notStarted OUTSIDE-LIMITS → X) → X
-    by_way {X = X} begins large outside = go (startsIn w words) (allowancesFit (configurationIn w).settings) refl refl
+    by_way : {X : Type 0} → (starts_in w words ≡ true → allowances_fit (configuration_in w).settings ≡ true → answer ≡ StartAnswer.Started → X)
+        → (starts_in w words ≡ true → allowances_fit (configuration_in w).settings ≡ false → answer ≡ not_started LARGE-ALLOWANCE → X)
+        → (starts_in w words ≡ false → answer ≡ not_started OUTSIDE-LIMITS → X) → X
+    by_way {X = X} begins large outside = go (starts_in w words) (allowances_fit (configuration_in w).settings) refl refl
       where
-        go : (a b : Bool) → startsIn w words ≡ a → allowancesFit (configurationIn w).settings ≡ b → X
-        go true true e f = begins e f (started.answer-is ∙ rw (e, f))
-        go true false e f = large e f (started.answer-is ∙ rw (e, f))
-        go false b e f = outside e (started.answer-is ∙ rw e)
+        go : (a b : Bool) → starts_in w words ≡ a → allowances_fit (configuration_in w).settings ≡ b → X
+        go true true e f = begins e f (started.answer_is ∙ rw (e, f))
+        go true false e f = large e f (started.answer_is ∙ rw (e, f))
+        go false b e f = outside e (started.answer_is ∙ rw e)
 
     -- two answers with other numbers
-    apart-answers : {X : Type 0} (a b : StartAnswer) → answer ≡ a → answer ≡ b → (numbered a ≡ numbered b → ⊥) → X
-    apart-answers a b e f g = absurd (g (ap numbered (sym e ∙ f)))
+    apart_answers : {X : Type 0} (a b : StartAnswer) → answer ≡ a → answer ≡ b → (numbered a ≡ numbered b → ⊥) → X
+    apart_answers a b e f g = absurd (g (ap numbered (sym e ∙ f)))
 
-    pub start-exactly : AnswersExactly w words answer
-    start-exactly = record {
-      started = λ e. by_way (λ s t a. (starts-exactly s, allowances-exactly s t)) (λ s t a. apart-answers _ _ e a (λ n. omega arith)) (λ s a. apart-answers _ _ e a (λ n. omega arith));
-      starts = λ x y. started.answer-is ∙ rw (exactly-starts x, exactly-allowances (exactly-starts x) y);
-      large = λ e. by_way (λ s t a. apart-answers _ _ e a (λ n. omega arith)) (λ s t a. (starts-exactly s, large-exactly s t)) (λ s a. apart-answers _ _ e a (λ n. omega arith));
-      larges = λ x y. started.answer-is ∙ rw (exactly-starts x, exactly-large (exactly-starts x) y);
-      outside = λ e x. by_way (λ s t a. apart-answers _ _ e a (λ n. omega arith)) (λ s t a. apart-answers _ _ e a (λ n. omega arith)) (λ s a. clash (sym s ∙ exactly-starts x));
-      outsides = λ f. by_way (λ s t a. absurd (f (starts-exactly s))) (λ s t a. absurd (f (starts-exactly s))) (λ s a. a);
+    pub start_exactly : AnswersExactly w words answer
+    start_exactly = record {
+      started = λ e. by_way (λ s t a. (starts_exactly s, allowances_exactly s t)) (λ s t a. apart_answers _ _ e a (λ n. omega arith)) (λ s a. apart_answers _ _ e a (λ n. omega arith));
+      starts = λ x y. started.answer_is ∙ rw (exactly_starts x, exactly_allowances (exactly_starts x) y);
+      large = λ e. by_way (λ s t a. apart_answers _ _ e a (λ n. omega arith)) (λ s t a. (starts_exactly s, large_exactly s t)) (λ s a. apart_answers _ _ e a (λ n. omega arith));
+      larges = λ x y. started.answer_is ∙ rw (exactly_starts x, exactly_large (exactly_starts x) y);
+      outside = λ e x. by_way (λ s t a. apart_answers _ _ e a (λ n. omega arith)) (λ s t a. apart_answers _ _ e a (λ n. omega arith)) (λ s a. clash (sym s ∙ exactly_starts x));
+      outsides = λ f. by_way (λ s t a. absurd (f (starts_exactly s))) (λ s t a. absurd (f (starts_exactly s))) (λ s a. a);
     }
 
     -- what a start leaves, and that a refusal is 19 or 23 and leaves every word
-    pub started-leaves : answer ≡ StartAnswer.Started → StartLeaves w words'
-    started-leaves e = by_way left (λ s t a. apart-answers _ _ e a (λ n. omega arith)) (λ s a. apart-answers _ _ e a (λ n. omega arith))
+    pub started_leaves : answer ≡ StartAnswer.Started → StartLeaves w words'
+    started_leaves e = by_way left (λ s t a. apart_answers _ _ e a (λ n. omega arith)) (λ s a. apart_answers _ _ e a (λ n. omega arith))
       where
-        left : startsIn w words ≡ true → allowancesFit (configurationIn w).settings ≡ true → answer ≡ StartAnswer.Started → StartLeaves w words'
+        left : starts_in w words ≡ true → allowances_fit (configuration_in w).settings ≡ true → answer ≡ StartAnswer.Started → StartLeaves w words'
         left s t a =
-            let words_are : words' ≡ stateWords (freshState (configurationIn w)) = rw (s, t) at started.words_are in
-            let state-is : stateIn words' ≡ freshState (configurationIn w) = rw words_are (fresh-said (configurationIn w)) in
-            record { words_are = words_are; state-is = state-is; state-fits = rw state-is (fresh-fits (configurationIn w) (starts-parts s).0 t) }
+            let words_are : words' ≡ state_words (fresh_state (configuration_in w)) = rw (s, t) at started.words_are in
+            let state_is : state_in words' ≡ fresh_state (configuration_in w) = rw words_are (fresh_said (configuration_in w)) in
+            record { words_are = words_are; state_is = state_is; state_fits_lem = rw state_is (fresh_fits (configuration_in w) (starts_parts s).0 t) }
 
     -- and the configuration that it is made of
-    pub start-says : answer ≡ StartAnswer.Started → ConfigurationSays w (configurationIn w)
-    start-says e = by_way (λ s t a. words-say (starts-parts s).0) (λ s t a. apart-answers _ _ e a (λ n. omega arith)) (λ s a. apart-answers _ _ e a (λ n. omega arith))
+    pub start_says : answer ≡ StartAnswer.Started → ConfigurationSays w (configuration_in w)
+    start_says e = by_way (λ s t a. words_say_lem (starts_parts s).0) (λ s t a. apart_answers _ _ e a (λ n. omega arith)) (λ s a. apart_answers _ _ e a (λ n. omega arith))
 
-    pub refused-leaves : (refusal : Refusal) → answer ≡ StartAnswer.Refused refusal
+    pub refused_leaves : (refusal : Refusal) → answer ≡ StartAnswer.Refused refusal
         → ((refusal ≡ record { number = OUTSIDE-LIMITS; place = 0 }) ⊎ (refusal ≡ record { number = LARGE-ALLOWANCE; place = 0 })) × (words' ≡ words)
-    refused-leaves refusal e =
+    refused_leaves refusal e =
         by_way (λ s t a. let yes : StartAnswer.Started ≡ StartAnswer.Refused refusal = sym a ∙ e in clash (cc)) (λ s t a. (inr (cc), started.words_are ∙ rw (s, t))) (λ s a. (inl (cc), started.words_are ∙ rw s))
 
 -- ANY TWO OUTCOMES THAT THE CONTRACT ALLOWS COINCIDE
-pub starts-coincide : {w words words' words'' : List ℕ} {answer answer' : StartAnswer} → StartedIn w words answer words' → StartedIn w words answer' words'' → (answer ≡ answer') × (words' ≡ words'')
-starts-coincide h k = (h.answer-is ∙ sym k.answer-is, h.words_are ∙ sym k.words_are)
+pub starts_coincide : {w words words' words'' : List ℕ} {answer answer' : StartAnswer} → StartedIn w words answer words' → StartedIn w words answer' words'' → (answer ≡ answer') × (words' ≡ words'')
+starts_coincide h k = (h.answer_is ∙ sym k.answer_is, h.words_are ∙ sym k.words_are)

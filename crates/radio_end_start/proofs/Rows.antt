@@ -4,30 +4,30 @@ use mathlib.Core.List.{List, [], ◌∷◌}
 use mathlib.Core.Path.{◌≡◌}
 use lib.ListN.{replicate}
 use Rattle.facts.specs.Tables.{tabulate}
-use Rattle.radio_end_state.specs.State.{freshState}
-use Rattle.radio_end_state.specs.Limits.{up_to, indexOf, hasId, idsFit, settingsFit, settingIds, allowancesFit, configurationFits}
-use Rattle.radio_end_words.specs.Words.{channelWords, slots_of, headWords, stateWords}
+use Rattle.radio_end_state.specs.State.{fresh_state}
+use Rattle.radio_end_state.specs.Limits.{up_to, indexOf, has_id, ids_fit, settings_fit, setting_ids, allowances_fit, configuration_fits}
+use Rattle.radio_end_words.specs.Words.{channel_words, slots_of, head_words, state_words}
 use Rattle.radio_end_start.specs.declared.StartAnswer.{StartAnswer}
-use Rattle.radio_end_start.specs.Start.{settingIn, settingsOf, configurationOf, kindsSpelled, configurationReadable, blankConfiguration, configurationIn, startsIn, StartedIn}
+use Rattle.radio_end_start.specs.Start.{setting_in, settings_of, configuration_of, kinds_spelled, configuration_readable, blank_configuration, configuration_in, starts_in, StartedIn}
 
 -- Datalink ID 7, two channels: 0 is plain, 3 is flow-controlled with the largest watermark
 abbrev two : List ℕ
 two = 7 ∷ 2 ∷ 0 ∷ 0 ∷ 1000 ∷ 500 ∷ 3 ∷ 1 ∷ 2147483647 ∷ 0 ∷ []
 
-pub two-channels : {answer : StartAnswer} {words' : List ℕ} → StartedIn two (replicate 24 9) answer words'
+pub two_channels : {answer : StartAnswer} {words' : List ℕ} → StartedIn two (replicate 24 9) answer words'
     → (answer ≡ StartAnswer.Started)
     × (words' ≡ 7 ∷ 2 ∷ 0 ∷ 0 ∷ 0 ∷ 0 ∷ 0 ∷ 0 ∷ 0 ∷ 0 ∷ 1000 ∷ 500 ∷ 0 ∷ 0 ∷ 0 ∷ 0 ∷ 3 ∷ 1 ∷ 2147483647 ∷ 0 ∷ 0 ∷ 0 ∷ 0 ∷ 0 ∷ [])
-unfolding tabulate freshState up_to indexOf hasId idsFit settingsFit settingIds allowancesFit configurationFits channelWords slots_of headWords stateWords settingIn settingsOf configurationOf kindsSpelled configurationReadable blankConfiguration configurationIn startsIn
-two-channels s = (s.answer-is, s.words_are)
+unfolding tabulate fresh_state up_to indexOf has_id ids_fit settings_fit setting_ids allowances_fit configuration_fits channel_words slots_of head_words state_words setting_in settings_of configuration_of kinds_spelled configuration_readable blank_configuration configuration_in starts_in
+two_channels s = (s.answer_is, s.words_are)
 
 -- 23 for a plain channel's throughput, though 19 would refuse nothing; the words stay
-pub plain-large : {answer : StartAnswer} {words' : List ℕ} → StartedIn (7 ∷ 1 ∷ 0 ∷ 0 ∷ 1000 ∷ 2147483648 ∷ []) (replicate 16 9) answer words'
+pub plain_large : {answer : StartAnswer} {words' : List ℕ} → StartedIn (7 ∷ 1 ∷ 0 ∷ 0 ∷ 1000 ∷ 2147483648 ∷ []) (replicate 16 9) answer words'
     → (answer ≡ StartAnswer.Refused (record { number = 23; place = 0 })) × (words' ≡ replicate 16 9)
-unfolding tabulate freshState up_to indexOf hasId idsFit settingsFit settingIds allowancesFit configurationFits channelWords slots_of headWords stateWords settingIn settingsOf configurationOf kindsSpelled configurationReadable blankConfiguration configurationIn startsIn
-plain-large s = (s.answer-is, s.words_are)
+unfolding tabulate fresh_state up_to indexOf has_id ids_fit settings_fit setting_ids allowances_fit configuration_fits channel_words slots_of head_words state_words setting_in settings_of configuration_of kinds_spelled configuration_readable blank_configuration configuration_in starts_in
+plain_large s = (s.answer_is, s.words_are)
 
 -- 19 before 23: ID 255, and a watermark above the largest
-pub outside-first : {answer : StartAnswer} {words' : List ℕ} → StartedIn (7 ∷ 2 ∷ 0 ∷ 0 ∷ 2147483648 ∷ 0 ∷ 255 ∷ 1 ∷ 0 ∷ 0 ∷ []) (replicate 24 9) answer words'
+pub outside_first : {answer : StartAnswer} {words' : List ℕ} → StartedIn (7 ∷ 2 ∷ 0 ∷ 0 ∷ 2147483648 ∷ 0 ∷ 255 ∷ 1 ∷ 0 ∷ 0 ∷ []) (replicate 24 9) answer words'
     → (answer ≡ StartAnswer.Refused (record { number = 19; place = 0 })) × (words' ≡ replicate 24 9)
-unfolding tabulate freshState up_to indexOf hasId idsFit settingsFit settingIds allowancesFit configurationFits channelWords slots_of headWords stateWords settingIn settingsOf configurationOf kindsSpelled configurationReadable blankConfiguration configurationIn startsIn
-outside-first s = (s.answer-is, s.words_are)
+unfolding tabulate fresh_state up_to indexOf has_id ids_fit settings_fit setting_ids allowances_fit configuration_fits channel_words slots_of head_words state_words setting_in settings_of configuration_of kinds_spelled configuration_readable blank_configuration configuration_in starts_in
+outside_first s = (s.answer_is, s.words_are)

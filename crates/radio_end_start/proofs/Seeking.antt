@@ -7,27 +7,27 @@ use native.Mathlib.Omega.{arith}
 use borrow.Author.Tests.{eq-eqb, ne_eqb}
 use lib.ListN.{drop, drop_of_length-le}
 use lib.Seq.{drop-cons}
-use Rattle.radio_end_state.specs.Limits.{indexOf, settingIds}
+use Rattle.radio_end_state.specs.Limits.{indexOf, setting_ids}
 use Rattle.radio_end_words.specs.Words.{word}
-use Rattle.radio_end_start.specs.Start.{CONFIGURATION-HEAD, CONFIGURATION-SLOT, START-ID, configurationLength, settingsOf}
-use Rattle.radio_end_start.proofs.Settings.{numbers-length, number_at}
+use Rattle.radio_end_start.specs.Start.{CONFIGURATION-HEAD, CONFIGURATION-SLOT, START-ID, configuration_length, settings_of}
+use Rattle.radio_end_start.proofs.Settings.{numbers_length, number_at}
 
 -- what is sought so far
 pub record Seeking (w : List ℕ) (count id at from : ℕ) : Type 0 where
   pub inside : at ≤ count
-  pub from_is : from ≡ configurationLength at
-  pub so_far : indexOf id (settingIds (settingsOf w count)) ≡ at + indexOf id (drop at (settingIds (settingsOf w count)))
+  pub from_is : from ≡ configuration_length at
+  pub so_far : indexOf id (setting_ids (settings_of w count)) ≡ at + indexOf id (drop at (setting_ids (settings_of w count)))
 
 module _ (w : List ℕ) (count id : ℕ) where
   abbrev numbers : List ℕ
-  numbers = settingIds (settingsOf w count)
+  numbers = setting_ids (settings_of w count)
 
-  pub seek-start : Seeking w count id 0 CONFIGURATION-HEAD
-  seek-start = record { inside = omega arith; from_is = omega arith; so_far = omega arith }
+  pub seek_start : Seeking w count id 0 CONFIGURATION-HEAD
+  seek_start = record { inside = omega arith; from_is = omega arith; so_far = omega arith }
 
   module _ (at from : ℕ) (s : Seeking w count id at from) where
     here : at < count → drop at numbers ≡ word w (from + START-ID) ∷ drop (suc at) numbers
-    here h = drop-cons numbers at 0 (omega (arith, numbers-length w count)) ∙ ap (λ (n : ℕ). n ∷ drop (suc at) numbers) (number_at w count at h ∙ ap (λ (k : ℕ). word w (k + START-ID)) (sym s.from_is))
+    here h = drop-cons numbers at 0 (omega (arith, numbers_length w count)) ∙ ap (λ (n : ℕ). n ∷ drop (suc at) numbers) (number_at w count at h ∙ ap (λ (k : ℕ). word w (k + START-ID)) (sym s.from_is))
 
     pub seek_found : at < count → word w (from + START-ID) ≡ id → at ≡ indexOf id numbers
     unfolding indexOf
@@ -35,14 +35,14 @@ module _ (w : List ℕ) (count id : ℕ) where
         let none : indexOf id (drop at numbers) ≡ 0 = rw (here h, eq-eqb _ _ e) in
         omega (arith, s.so_far)
 
-    pub seek-on : at < count → (word w (from + START-ID) ≡ id → ⊥) → Seeking w count id (at + 1) (from + CONFIGURATION-SLOT)
+    pub seek_on : at < count → (word w (from + START-ID) ≡ id → ⊥) → Seeking w count id (at + 1) (from + CONFIGURATION-SLOT)
     unfolding indexOf
-    seek-on h e =
+    seek_on h e =
         let one : indexOf id (drop at numbers) ≡ suc (indexOf id (drop (suc at) numbers)) = rw (here h, ne_eqb _ _ e) in
         record { inside = omega arith; from_is = omega (arith, s.from_is); so_far = rw (add-one at) (omega (arith, s.so_far)) }
 
-    pub seek-end : count ≤ at → at ≡ indexOf id numbers
+    pub seek_end : count ≤ at → at ≡ indexOf id numbers
     unfolding indexOf
-    seek-end h =
-        let none : indexOf id (drop at numbers) ≡ 0 = rw (drop_of_length-le numbers {i = at} (omega (arith, numbers-length w count))) in
+    seek_end h =
+        let none : indexOf id (drop at numbers) ≡ 0 = rw (drop_of_length-le numbers {i = at} (omega (arith, numbers_length w count))) in
         omega (arith, s.so_far)

@@ -1,7 +1,7 @@
 -- Numbers 19 and 23 of a start without an order of tests, and what it starts with, in literal numbers. The configuration has the Datalink ID, the count of channels, and of each channel
 -- its ID, its kind, its watermark and its throughput per period.
 use Rattle.std.specs.Prelude.{ℕ, ◌+◌, ◌*◌, ◌≤◌, ◌<◌, true, false, List, ◌⊎◌, ◌≡◌, length, get_or}
-use Rattle.radio_end_state.specs.State.{Configuration, noSetting}
+use Rattle.radio_end_state.specs.State.{Configuration, no_setting}
 use Rattle.radio_end_start.specs.declared.StartAnswer.{StartAnswer}
 
 -- not "channel count, ID 255, an ID twice, no channel 0"; words as many as the state's
@@ -14,8 +14,8 @@ pub record StartsExactly (w words : List ℕ) : Type 0 where
   pub kinds : (i : ℕ) → i < get_or w 1 0 → get_or w (2 + 4 * i + 1) 0 ≤ 1
   pub apart : (i j : ℕ) → i < get_or w 1 0 → j < get_or w 1 0 → get_or w (2 + 4 * i) 0 ≡ get_or w (2 + 4 * j) 0 → i ≡ j
   pub primary : ℕ
-  pub primary-inside : primary < get_or w 1 0
-  pub primary-is : get_or w (2 + 4 * primary) 0 ≡ 0
+  pub primary_inside : primary < get_or w 1 0
+  pub primary_is : get_or w (2 + 4 * primary) 0 ≡ 0
   pub room : length words ≡ 8 + 8 * get_or w 1 0
 
 -- document 02, §3: not "watermark or throughput above 2^31 - 1", of any channel, plain or flow-controlled
@@ -42,8 +42,8 @@ pub record AnswersExactly (w words : List ℕ) (answer : StartAnswer) : Type 0 w
 pub record ConfigurationSays (w : List ℕ) (k : Configuration) : Type 0 where
   pub datalink : k.datalink.0 ≡ get_or w 0 0
   pub many : length k.settings ≡ get_or w 1 0
-  pub ids : (i : ℕ) → i < get_or w 1 0 → (get_or k.settings i noSetting).id ≡ get_or w (2 + 4 * i) 0
-  pub plain : (i : ℕ) → i < get_or w 1 0 → get_or w (2 + 4 * i + 1) 0 ≡ 0 → (get_or k.settings i noSetting).controlled ≡ false
-  pub controlled : (i : ℕ) → i < get_or w 1 0 → get_or w (2 + 4 * i + 1) 0 ≡ 1 → (get_or k.settings i noSetting).controlled ≡ true
-  pub watermarks : (i : ℕ) → i < get_or w 1 0 → (get_or k.settings i noSetting).watermark.0 ≡ get_or w (2 + 4 * i + 2) 0
-  pub throughputs : (i : ℕ) → i < get_or w 1 0 → (get_or k.settings i noSetting).throughput.0 ≡ get_or w (2 + 4 * i + 3) 0
+  pub ids : (i : ℕ) → i < get_or w 1 0 → (get_or k.settings i no_setting).id ≡ get_or w (2 + 4 * i) 0
+  pub plain : (i : ℕ) → i < get_or w 1 0 → get_or w (2 + 4 * i + 1) 0 ≡ 0 → (get_or k.settings i no_setting).controlled ≡ false
+  pub controlled : (i : ℕ) → i < get_or w 1 0 → get_or w (2 + 4 * i + 1) 0 ≡ 1 → (get_or k.settings i no_setting).controlled ≡ true
+  pub watermarks : (i : ℕ) → i < get_or w 1 0 → (get_or k.settings i no_setting).watermark.0 ≡ get_or w (2 + 4 * i + 2) 0
+  pub throughputs : (i : ℕ) → i < get_or w 1 0 → (get_or k.settings i no_setting).throughput.0 ≡ get_or w (2 + 4 * i + 3) 0

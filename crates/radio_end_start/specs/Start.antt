@@ -6,9 +6,9 @@ use Rattle.quantity.specs.Limits.{MOST-CHANNELS, RESERVED-CHANNEL}
 use Rattle.quantity.specs.Refusals.{OUTSIDE-LIMITS, LARGE-ALLOWANCE}
 use Rattle.lent_messages.specs.Layout.{ABSENT}
 use Rattle.radio_end_state.specs.declared.channel.Setting.{Setting}
-use Rattle.radio_end_state.specs.State.{Configuration, freshState}
-use Rattle.radio_end_state.specs.Limits.{up_to, idsFit, settingsFit, settingIds, allowancesFit, configurationFits}
-use Rattle.radio_end_words.specs.Words.{CONTROLLED, word, wordsFor, stateWords}
+use Rattle.radio_end_state.specs.State.{Configuration, fresh_state}
+use Rattle.radio_end_state.specs.Limits.{up_to, ids_fit, settings_fit, setting_ids, allowances_fit, configuration_fits}
+use Rattle.radio_end_words.specs.Words.{CONTROLLED, word, words_for, state_words}
 use Rattle.radio_end_start.specs.declared.StartAnswer.{StartAnswer}
 
 -- ---- a configuration in words: the Datalink ID, the count of channels, then for each channel its ID, its kind, its watermark and its throughput per period
@@ -37,71 +37,71 @@ abbrev pub START-THROUGHPUT : ℕ
 START-THROUGHPUT = 3
 
 -- how many words, and a word of the channel at an index
-abbrev pub configurationLength : ℕ → ℕ
-configurationLength count = CONFIGURATION-HEAD + CONFIGURATION-SLOT * count
+abbrev pub configuration_length : ℕ → ℕ
+configuration_length count = CONFIGURATION-HEAD + CONFIGURATION-SLOT * count
 
-abbrev pub startWord : List ℕ → (index k : ℕ) → ℕ
-startWord w index k = word w (configurationLength index + k)
+abbrev pub start_word : List ℕ → (index k : ℕ) → ℕ
+start_word w index k = word w (configuration_length index + k)
 
 -- ---- one channel's setting, as its words say
-abbrev pub settingWith : (id kind watermark throughput : ℕ) → Setting
-settingWith id kind watermark throughput = record { id = id; controlled = eqb kind CONTROLLED; watermark = record { 0 = watermark }; throughput = record { 0 = throughput } }
+abbrev pub setting_with : (id kind watermark throughput : ℕ) → Setting
+setting_with id kind watermark throughput = record { id = id; controlled = eqb kind CONTROLLED; watermark = record { 0 = watermark }; throughput = record { 0 = throughput } }
 
-unfoldable pub settingIn : List ℕ → ℕ → Setting
-settingIn w index = settingWith (startWord w index START-ID) (startWord w index START-KIND) (startWord w index START-WATERMARK) (startWord w index START-THROUGHPUT)
+unfoldable pub setting_in : List ℕ → ℕ → Setting
+setting_in w index = setting_with (start_word w index START-ID) (start_word w index START-KIND) (start_word w index START-WATERMARK) (start_word w index START-THROUGHPUT)
 
-unfoldable pub settingsOf : List ℕ → ℕ → List Setting
-settingsOf w count = tabulate count (settingIn w)
+unfoldable pub settings_of : List ℕ → ℕ → List Setting
+settings_of w count = tabulate count (setting_in w)
 
-unfoldable pub configurationOf : List ℕ → Configuration
-configurationOf w = record { datalink = record { 0 = word w CONFIGURED-DATALINK }; settings = settingsOf w (word w CONFIGURED-COUNT) }
+unfoldable pub configuration_of : List ℕ → Configuration
+configuration_of w = record { datalink = record { 0 = word w CONFIGURED-DATALINK }; settings = settings_of w (word w CONFIGURED-COUNT) }
 
 -- ---- words that say something: as many as the count asks, and kinds that there are
-unfoldable pub kindsSpelled : List ℕ → ℕ → Bool
-kindsSpelled w count = up_to (λ index. leb (startWord w index START-KIND) CONTROLLED) count
+unfoldable pub kinds_spelled : List ℕ → ℕ → Bool
+kinds_spelled w count = up_to (λ index. leb (start_word w index START-KIND) CONTROLLED) count
 
-unfoldable pub configurationReadable : List ℕ → Bool
-configurationReadable w = eqb (length w) (configurationLength (word w CONFIGURED-COUNT)) && kindsSpelled w (word w CONFIGURED-COUNT)
+unfoldable pub configuration_readable : List ℕ → Bool
+configuration_readable w = eqb (length w) (configuration_length (word w CONFIGURED-COUNT)) && kinds_spelled w (word w CONFIGURED-COUNT)
 
 -- no channel at all
-unfoldable pub blankConfiguration : Configuration
-blankConfiguration = record { datalink = record { 0 = 0 }; settings = [] }
+unfoldable pub blank_configuration : Configuration
+blank_configuration = record { datalink = record { 0 = 0 }; settings = [] }
 
 -- WHAT THE WORDS OF A CONFIGURATION STAND FOR: those that say nothing stand for one with no channel, which a start refuses by 19
-unfoldable pub configurationIn : List ℕ → Configuration
-configurationIn w = cond (configurationReadable w) (configurationOf w) blankConfiguration
+unfoldable pub configuration_in : List ℕ → Configuration
+configuration_in w = cond (configuration_readable w) (configuration_of w) blank_configuration
 
 -- ---- the call: 19, and for words that are not as many as the state's too
-unfoldable pub startsIn : (configuration words : List ℕ) → Bool
-startsIn configuration words = configurationFits (configurationIn configuration) && eqb (length words) (wordsFor (length (configurationIn configuration).settings))
+unfoldable pub starts_in : (configuration words : List ℕ) → Bool
+starts_in configuration words = configuration_fits (configuration_in configuration) && eqb (length words) (words_for (length (configuration_in configuration).settings))
 
 -- and document 02, §3: "23 for watermark or throughput above 2^31 - 1, tested in configuration after 19"
-abbrev pub beginsIn : (configuration words : List ℕ) → Bool
-beginsIn configuration words = startsIn configuration words && allowancesFit (configurationIn configuration).settings
+abbrev pub begins_in : (configuration words : List ℕ) → Bool
+begins_in configuration words = starts_in configuration words && allowances_fit (configuration_in configuration).settings
 
-abbrev pub notStarted : (number : ℕ) → StartAnswer
-notStarted number = StartAnswer.Refused (record { number = number; place = 0 })
+abbrev pub not_started : (number : ℕ) → StartAnswer
+not_started number = StartAnswer.Refused (record { number = number; place = 0 })
 
 -- THE CONTRACT OF A START ON WORDS: a refusal "changes no state and no lent byte"
 pub record StartedIn (configuration words : List ℕ) (answer : StartAnswer) (words' : List ℕ) : Type 0 where
-  pub answer-is : answer ≡ cond (startsIn configuration words) (cond (allowancesFit (configurationIn configuration).settings) StartAnswer.Started (notStarted LARGE-ALLOWANCE)) (notStarted OUTSIDE-LIMITS)
-  pub words_are : words' ≡ cond (beginsIn configuration words) (stateWords (freshState (configurationIn configuration))) words
+  pub answer_is : answer ≡ cond (starts_in configuration words) (cond (allowances_fit (configuration_in configuration).settings) StartAnswer.Started (not_started LARGE-ALLOWANCE)) (not_started OUTSIDE-LIMITS)
+  pub words_are : words' ≡ cond (begins_in configuration words) (state_words (fresh_state (configuration_in configuration))) words
 
 -- ---- what the pass over the channels of a configuration gives
 unfoldable pub walked : List ℕ → ℕ → Bool
-walked w count = kindsSpelled w count && (settingsFit (settingsOf w count) && idsFit (settingIds (settingsOf w count)))
+walked w count = kinds_spelled w count && (settings_fit (settings_of w count) && ids_fit (setting_ids (settings_of w count)))
 
 -- what has been tested before that pass
 pub record Configured (w : List ℕ) (count : ℕ) : Type 0 where
-  pub long : length w ≡ configurationLength count
+  pub long : length w ≡ configuration_length count
   pub few : count ≤ MOST-CHANNELS
 
 -- ---- what a fresh start is written from, and the radio's own words then
 pub record Startable (w : List ℕ) (count : ℕ) : Type 0 where
-  pub long : length w ≡ configurationLength count
-  pub count-is : count ≡ word w CONFIGURED-COUNT
+  pub long : length w ≡ configuration_length count
+  pub count_is : count ≡ word w CONFIGURED-COUNT
   pub few : count ≤ MOST-CHANNELS
-  pub ids : (index : ℕ) → index < count → startWord w index START-ID < RESERVED-CHANNEL
+  pub ids : (index : ℕ) → index < count → start_word w index START-ID < RESERVED-CHANNEL
 
-abbrev pub freshHead : (datalink count : ℕ) → List ℕ
-freshHead datalink count = datalink ∷ count ∷ ABSENT ∷ 0 ∷ 0 ∷ ABSENT ∷ 0 ∷ 0 ∷ []
+abbrev pub fresh_head : (datalink count : ℕ) → List ℕ
+fresh_head datalink count = datalink ∷ count ∷ ABSENT ∷ 0 ∷ 0 ∷ ABSENT ∷ 0 ∷ 0 ∷ []

@@ -1,9 +1,9 @@
 // The words of a fresh start.
 ghost use Rattle.std.specs.Prelude.{◌≡◌, ◌++◌, map, ◌≤◌, ◌<◌, length, take, drop};
-ghost use Rattle.radio_end_state.specs.Channel.{freshChannel};
-ghost use Rattle.radio_end_state.specs.State.{freshState};
-ghost use Rattle.radio_end_words.specs.Words.{HEAD, wordsFor, slots_of, stateWords};
-ghost use Rattle.radio_end_start.specs.Start.{settingWith, settingsOf, configurationOf, freshHead, Startable};
+ghost use Rattle.radio_end_state.specs.Channel.{fresh_channel};
+ghost use Rattle.radio_end_state.specs.State.{fresh_state};
+ghost use Rattle.radio_end_words.specs.Words.{HEAD, words_for, slots_of, state_words};
+ghost use Rattle.radio_end_start.specs.Start.{setting_with, settings_of, configuration_of, fresh_head, Startable};
 
 use crate::layout::{
     CONFIGURATION_HEAD, CONFIGURATION_SLOT, CONFIGURED_DATALINK, START_ID, START_KIND,
@@ -22,7 +22,7 @@ use radio_flow::Highest;
 // The radio's own words: no Link Instance and no Context.
 fn write_head(words: &mut [u64], datalink: u64, count: u64)
     requires { HEAD ≤ length words.old }
-    ensures { words.new ≡ freshHead datalink count ++ drop HEAD words.old }
+    ensures { words.new ≡ fresh_head datalink count ++ drop HEAD words.old }
 {
     words[DATALINK_WORD] = datalink;
     words[COUNT_WORD] = count;
@@ -37,7 +37,7 @@ fn write_head(words: &mut [u64], datalink: u64, count: u64)
 // Status 0, nothing queued, no sequence heard.
 fn channel_of(id: u64, kind: u64, watermark: u64, throughput: u64) -> Channel
     requires { id < 256 }
-    ensures { result ≡ freshChannel (settingWith id kind watermark throughput) }
+    ensures { result ≡ fresh_channel (setting_with id kind watermark throughput) }
 {
     let setting = Setting {
         id: id as u8,
@@ -55,8 +55,8 @@ fn channel_of(id: u64, kind: u64, watermark: u64, throughput: u64) -> Channel
 
 // Each channel in configuration order, behind the radio's own words.
 fn write_channels(words: &mut [u64], configuration: &[u64], count: usize)
-    requires { (length words.old ≡ wordsFor count) × Startable configuration.now count }
-    ensures { words.new ≡ take HEAD words.old ++ slots_of (map freshChannel (settingsOf configuration.now count)) }
+    requires { (length words.old ≡ words_for count) × Startable configuration.now count }
+    ensures { words.new ≡ take HEAD words.old ++ slots_of (map fresh_channel (settings_of configuration.now count)) }
 {
     let mut at = 0;
     let mut from = CONFIGURATION_HEAD;
@@ -77,8 +77,8 @@ fn write_channels(words: &mut [u64], configuration: &[u64], count: usize)
 
 // All words of the fresh state, every one of them written.
 pub(crate) fn write(words: &mut [u64], configuration: &[u64], count: usize)
-    requires { (length words.old ≡ wordsFor count) × Startable configuration.now count }
-    ensures { words.new ≡ stateWords (freshState (configurationOf configuration.now)) }
+    requires { (length words.old ≡ words_for count) × Startable configuration.now count }
+    ensures { words.new ≡ state_words (fresh_state (configuration_of configuration.now)) }
 {
     write_head(words, configuration[CONFIGURED_DATALINK], slot::wide(count));
     write_channels(words, configuration, count);

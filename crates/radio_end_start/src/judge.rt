@@ -1,9 +1,9 @@
 // A configuration in words: number 19, then 23.
 ghost use Rattle.std.specs.Prelude.{◌≡◌, ◌&&◌, leb, ltb};
 ghost use Rattle.quantity.specs.Limits.{RESERVED-CHANNEL, MOST-ALLOWANCE};
-ghost use Rattle.radio_end_state.specs.Limits.{indexOf, settingIds, allowancesFit, configurationFits};
+ghost use Rattle.radio_end_state.specs.Limits.{indexOf, setting_ids, allowances_fit, configuration_fits};
 ghost use Rattle.radio_end_words.specs.Words.{CONTROLLED};
-ghost use Rattle.radio_end_start.specs.Start.{settingsOf, configurationIn, walked, Configured};
+ghost use Rattle.radio_end_start.specs.Start.{settings_of, configuration_in, walked, Configured};
 
 use crate::layout::{
     CONFIGURATION_HEAD, CONFIGURATION_SLOT, CONFIGURED_COUNT, CONFIGURED_DATALINK, START_ID,
@@ -19,7 +19,7 @@ const BYTE_VALUES: u64 = 256;
 // The first channel with this ID; behind the last, if there is none.
 fn index_of(configuration: &[u64], count: usize, id: u64) -> usize
     requires { Configured configuration.now count }
-    ensures { result ≡ indexOf id (settingIds (settingsOf configuration.now count)) }
+    ensures { result ≡ indexOf id (setting_ids (settings_of configuration.now count)) }
 {
     let mut at = 0;
     let mut from = CONFIGURATION_HEAD;
@@ -63,7 +63,7 @@ fn walk(configuration: &[u64], count: usize) -> bool
 
 // Number 19. The count is judged before it is multiplied.
 pub fn fits(configuration: &[u64]) -> bool
-    ensures { result ≡ configurationFits (configurationIn configuration.now) }
+    ensures { result ≡ configuration_fits (configuration_in configuration.now) }
 {
     if configuration.len() < CONFIGURATION_HEAD {
         return false;
@@ -93,7 +93,7 @@ fn allowance_fits(watermark: u64, throughput: u64) -> bool
 // Number 23, of plain channels too.
 pub fn allowances_fit(configuration: &[u64], count: usize) -> bool
     requires { Configured configuration.now count }
-    ensures { result ≡ allowancesFit (settingsOf configuration.now count) }
+    ensures { result ≡ allowances_fit (settings_of configuration.now count) }
 {
     let mut at = 0;
     let mut from = CONFIGURATION_HEAD;

@@ -1,6 +1,6 @@
 // A fresh start of the radio's end on words: the configuration is lent as words, and the state is written into words.
 ghost use Rattle.std.specs.Prelude.{◌≡◌};
-ghost use Rattle.radio_end_start.specs.Start.{notStarted, StartedIn};
+ghost use Rattle.radio_end_start.specs.Start.{not_started, StartedIn};
 
 use crate::layout::CONFIGURED_COUNT;
 use quantity::refusal;
@@ -20,7 +20,7 @@ pub enum StartAnswer {
 }
 
 fn refused(number: u8) -> StartAnswer
-    ensures { result ≡ notStarted number }
+    ensures { result ≡ not_started number }
 {
     StartAnswer::Refused(Refusal { number, place: 0 })
 }

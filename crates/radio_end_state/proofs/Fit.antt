@@ -9,25 +9,25 @@ use lib.Dec.{eqb, leb, ltb}
 use lib.ListN.{length, get_or}
 use Rattle.quantity.specs.Limits.{FEWEST-CHANNELS, MOST-CHANNELS, RESERVED-CHANNEL, HIGHEST-STATUS, MOST-ALLOWANCE}
 use Rattle.meaning.specs.declared.message.End.TheVariants as ends
-use Rattle.writable.specs.Allowed.{instanceAllowed, contextAllowed}
+use Rattle.writable.specs.Allowed.{instance_allowed, context_allowed}
 use Rattle.radio_flow.specs.declared.Highest.{Highest}
 use Rattle.radio_end_state.specs.declared.channel.Channel.{Channel}
-use Rattle.radio_end_state.specs.State.{State, noChannel, channelAt}
-use Rattle.radio_end_state.specs.Limits.{up_to, indexOf, hasId, standsFirst, idsFit, countFits, datalinkFits, settingFits, allowanceFits, highestFits, channelFits, all_fit, ids, namesFit, stateFits}
-use Rattle.radio_end_state.proofs.UpTo.{up-to-at, up-to-by}
+use Rattle.radio_end_state.specs.State.{State, no_channel, channel_at}
+use Rattle.radio_end_state.specs.Limits.{up_to, indexOf, has_id, stands_first, ids_fit, count_fits, datalink_fits, setting_fits, allowance_fits, highest_fits, channel_fits, all_fit, ids, names_fit, state_fits}
+use Rattle.radio_end_state.proofs.UpTo.{up_to_at, up_to_by}
 
 pub record ChannelFit (c : Channel) : Type 0 where
   pub unreserved : c.setting.id < 255
   pub watermark : c.setting.watermark.0 ≤ 2147483647
   pub throughput : c.setting.throughput.0 ≤ 2147483647
   pub status : c.status ≤ 15
-  pub highest : highestFits c.highest ≡ true
+  pub highest : highest_fits c.highest ≡ true
 
-pub channel-fit : (c : Channel) → channelFits c ≡ true → ChannelFit c
-unfolding channelFits
-channel-fit c e =
-    let a = (and-eq-true_iff (settingFits c.setting) _).0 e in
-    let b = (and-eq-true_iff (allowanceFits c.setting) _).0 a.1 in
+pub channel_fit : (c : Channel) → channel_fits c ≡ true → ChannelFit c
+unfolding channel_fits
+channel_fit c e =
+    let a = (and-eq-true_iff (setting_fits c.setting) _).0 e in
+    let b = (and-eq-true_iff (allowance_fits c.setting) _).0 a.1 in
     let d = (and-eq-true_iff (leb c.setting.watermark.0 MOST-ALLOWANCE) _).0 b.0 in
     let f = (and-eq-true_iff (leb c.status HIGHEST-STATUS) _).0 b.1 in
     record {
@@ -42,47 +42,47 @@ pub record Fit (s : State) : Type 0 where
   pub datalink : s.datalink.0 < 256
   pub some : 1 ≤ length s.channels
   pub few : length s.channels ≤ 64
-  pub instance : instanceAllowed ends.Radio s.instance ≡ true
-  pub context : contextAllowed ends.Radio s.context ≡ true
-  pub each : (index : ℕ) → index < length s.channels → channelFits (channelAt s index) ≡ true
-  pub apart : up_to (standsFirst (ids s.channels)) (length (ids s.channels)) ≡ true
-  pub primary : hasId 0 (ids s.channels) ≡ true
+  pub instance : instance_allowed ends.Radio s.instance ≡ true
+  pub context : context_allowed ends.Radio s.context ≡ true
+  pub each : (index : ℕ) → index < length s.channels → channel_fits (channel_at s index) ≡ true
+  pub apart : up_to (stands_first (ids s.channels)) (length (ids s.channels)) ≡ true
+  pub primary : has_id 0 (ids s.channels) ≡ true
 
-pub fit-facts : (s : State) → stateFits s ≡ true → Fit s
-unfolding stateFits namesFit all_fit idsFit channelAt
-fit-facts s e =
-    let a = (and-eq-true_iff (datalinkFits s.datalink) _).0 e in
-    let b = (and-eq-true_iff (countFits (length s.channels)) _).0 a.1 in
+pub fit_facts : (s : State) → state_fits s ≡ true → Fit s
+unfolding state_fits names_fit all_fit ids_fit channel_at
+fit_facts s e =
+    let a = (and-eq-true_iff (datalink_fits s.datalink) _).0 e in
+    let b = (and-eq-true_iff (count_fits (length s.channels)) _).0 a.1 in
     let d = (and-eq-true_iff (leb FEWEST-CHANNELS (length s.channels)) _).0 b.0 in
-    let f = (and-eq-true_iff (namesFit s) _).0 b.1 in
-    let g = (and-eq-true_iff (instanceAllowed ends.Radio s.instance) _).0 f.0 in
+    let f = (and-eq-true_iff (names_fit s) _).0 b.1 in
+    let g = (and-eq-true_iff (instance_allowed ends.Radio s.instance) _).0 f.0 in
     let h = (and-eq-true_iff (all_fit s.channels) _).0 f.1 in
-    let k = (and-eq-true_iff (up_to (standsFirst (ids s.channels)) (length (ids s.channels))) _).0 h.1 in
+    let k = (and-eq-true_iff (up_to (stands_first (ids s.channels)) (length (ids s.channels))) _).0 h.1 in
     record {
       datalink = ltb-true _ 256 a.0;
       some = leb-true FEWEST-CHANNELS _ d.0;
       few = leb-true _ MOST-CHANNELS d.1;
       instance = g.0;
       context = g.1;
-      each = up-to-at (λ index. channelFits (get_or s.channels index noChannel)) (length s.channels) h.0;
+      each = up_to_at (λ index. channel_fits (get_or s.channels index no_channel)) (length s.channels) h.0;
       apart = k.0;
       primary = k.1;
     }
 
 -- and back: the facts make a state within the limits
-pub fit-state : (s : State) → Fit s → stateFits s ≡ true
-unfolding stateFits namesFit all_fit idsFit channelAt
-fit-state s f =
-    rw (lt-ltb s.datalink.0 256 f.datalink, le-leb FEWEST-CHANNELS (length s.channels) f.some, le-leb (length s.channels) MOST-CHANNELS f.few, f.instance, f.context, up-to-by (λ index. channelFits (get_or s.channels index noChannel)) (length s.channels) f.each, f.apart, f.primary)
+pub fit_state : (s : State) → Fit s → state_fits s ≡ true
+unfolding state_fits names_fit all_fit ids_fit channel_at
+fit_state s f =
+    rw (lt-ltb s.datalink.0 256 f.datalink, le-leb FEWEST-CHANNELS (length s.channels) f.some, le-leb (length s.channels) MOST-CHANNELS f.few, f.instance, f.context, up_to_by (λ index. channel_fits (get_or s.channels index no_channel)) (length s.channels) f.each, f.apart, f.primary)
 
 -- ---- the IDs
-pub ids_at : (cs : List Channel) (i : ℕ) → get_or (ids cs) i 0 ≡ (get_or cs i noChannel).setting.id
+pub ids_at : (cs : List Channel) (i : ℕ) → get_or (ids cs) i 0 ≡ (get_or cs i no_channel).setting.id
 unfolding ids
 ids_at [] i = refl
 ids_at (c ∷ cs) zero = refl
 ids_at (c ∷ cs) (suc i) = ids_at cs i
 
-pub ids-length : (cs : List Channel) → length (ids cs) ≡ length cs
+pub ids_length : (cs : List Channel) → length (ids cs) ≡ length cs
 unfolding ids
-ids-length [] = refl
-ids-length (c ∷ cs) = ap suc (ids-length cs)
+ids_length [] = refl
+ids_length (c ∷ cs) = ap suc (ids_length cs)

@@ -14,17 +14,17 @@ use Rattle.meaning.specs.declared.message.Counted.{Counted}
 use Rattle.meaning.specs.declared.message.Channel as named
 use Rattle.meaning.specs.declared.message.Control.{Control}
 use Rattle.meaning.specs.declared.message.Data.{Data}
-use Rattle.meaning.specs.Cells.{noSequence}
-use Rattle.writable.specs.Allowed.{instanceAllowed, contextAllowed}
-use Rattle.writer.specs.Written.{noRoom}
-use Rattle.reader.specs.Readings.{Verdict, ControlReading, DataReading, readControl, readData, planeOf, packetOf}
+use Rattle.meaning.specs.Cells.{no_sequence}
+use Rattle.writable.specs.Allowed.{instance_allowed, context_allowed}
+use Rattle.writer.specs.Written.{no_room_of}
+use Rattle.reader.specs.Readings.{Verdict, ControlReading, DataReading, read_control, read_data, plane_of, packet_of}
 use Rattle.reader.specs.declared.answer.PlaneAnswer.{PlaneAnswer}
 use Rattle.radio_end_state.specs.declared.answer.Answer.{Answer}
 use Rattle.radio_end_state.specs.declared.channel.Channel.{Channel}
-use Rattle.radio_end_state.specs.Channel.{hearingOn, queueing, withQueued, withStatus}
-use Rattle.radio_end_state.specs.State.{State, channelAt, withChannel, withChannels, withContext, withInstance}
-use Rattle.radio_end_state.specs.Limits.{up_to, stateFits, isConfigured, indexIn}
-use Rattle.radio_end_state.specs.Message.{messageBytes, differs}
+use Rattle.radio_end_state.specs.Channel.{hearing_on, queueing, with_queued, with_status}
+use Rattle.radio_end_state.specs.State.{State, channel_at, with_channel, with_channels, with_context, with_instance}
+use Rattle.radio_end_state.specs.Limits.{up_to, state_fits, is_configured, index_in}
+use Rattle.radio_end_state.specs.Message.{message_bytes, differs}
 
 -- what a call comes to
 pub record After : Type 0 where
@@ -32,17 +32,17 @@ pub record After : Type 0 where
   pub state : State
   pub output : List ℕ
 
-abbrev pub refusedAt : Refusal → State → List ℕ → After
-refusedAt refusal s out = record { answer = Answer.Refused refusal; state = s; output = out }
+abbrev pub refused_at : Refusal → State → List ℕ → After
+refused_at refusal s out = record { answer = Answer.Refused refusal; state = s; output = out }
 
-abbrev pub refusedBy : ℕ → State → List ℕ → After
-refusedBy number s out = refusedAt (record { number = number; place = 0 }) s out
+abbrev pub refused_by : ℕ → State → List ℕ → After
+refused_by number s out = refused_at (record { number = number; place = 0 }) s out
 
 -- ---- "there is a message to write": the message of the state afterwards, or 18, and then the state is that before
 unfoldable pub telling : (say : ByteCount → Answer) (before after : State) (out : List ℕ) → After
 telling say before after out =
-    cond (noRoom (length (messageBytes after)) (length out)) (refusedBy NO-ROOM before out)
-    (record { answer = say (record { 0 = length (messageBytes after) }); state = after; output = over (messageBytes after) out })
+    cond (no_room_of (length (message_bytes after)) (length out)) (refused_by NO-ROOM before out)
+    (record { answer = say (record { 0 = length (message_bytes after) }); state = after; output = over (message_bytes after) out })
 
 abbrev pub quietly : State → List ℕ → After
 quietly s out = record { answer = Answer.Quiet; state = s; output = out }
@@ -53,35 +53,35 @@ settling before after out = cond (differs before after) (telling (λ n. Answer.U
 
 -- one channel becomes another
 abbrev pub changing : State → ℕ → (Channel → Channel) → List ℕ → After
-changing s index change out = settling s (withChannel s index (change (channelAt s index))) out
+changing s index change out = settling s (with_channel s index (change (channel_at s index))) out
 
 -- ---- 19 first
 abbrev pub within : State → List ℕ → After → After
-within s out call = cond (stateFits s) call (refusedBy OUTSIDE-LIMITS s out)
+within s out call = cond (state_fits s) call (refused_by OUTSIDE-LIMITS s out)
 
 -- 12
 abbrev pub configured : State → ℕ → List ℕ → After → After
-configured s id out call = cond (isConfigured s id) call (refusedBy NO-CHANNEL s out)
+configured s id out call = cond (is_configured s id) call (refused_by NO-CHANNEL s out)
 
 -- 20
 abbrev pub writable : Bool → State → List ℕ → After → After
-writable allowed s out call = cond allowed call (refusedBy NOT-WRITABLE s out)
+writable allowed s out call = cond allowed call (refused_by NOT-WRITABLE s out)
 
 -- THE RADIO'S OWN SIDE tells: 19, 12, 20 for a value or length that can't be written, 18
-unfoldable pub statusTold : State → (id value : ℕ) → List ℕ → After
-statusTold s id value out =
-    within s out (configured s id out (writable (leb value HIGHEST-STATUS) s out (changing s (indexIn s id) (λ c. withStatus c value) out)))
+unfoldable pub status_told : State → (id value : ℕ) → List ℕ → After
+status_told s id value out =
+    within s out (configured s id out (writable (leb value HIGHEST-STATUS) s out (changing s (index_in s id) (λ c. with_status c value) out)))
 
 -- "Queued sets the number, it doesn't add."
-unfoldable pub queuedTold : State → (id : ℕ) (bytes : ByteCount) → List ℕ → After
-queuedTold s id bytes out = within s out (configured s id out (changing s (indexIn s id) (λ c. withQueued c bytes) out))
+unfoldable pub queued_told : State → (id : ℕ) (bytes : ByteCount) → List ℕ → After
+queued_told s id bytes out = within s out (configured s id out (changing s (index_in s id) (λ c. with_queued c bytes) out))
 
-unfoldable pub contextTold : State → Context → List ℕ → After
-contextTold s context out = within s out (writable (contextAllowed ends.Radio context) s out (settling s (withContext s context) out))
+unfoldable pub context_told : State → Context → List ℕ → After
+context_told s context out = within s out (writable (context_allowed ends.Radio context) s out (settling s (with_context s context) out))
 
 -- "Link Instance: kept without a message"
-unfoldable pub linkTold : State → Instance → List ℕ → After
-linkTold s instance out = within s out (writable (instanceAllowed ends.Radio instance) s out (quietly (withInstance s instance) out))
+unfoldable pub link_told : State → Instance → List ℕ → After
+link_told s instance out = within s out (writable (instance_allowed ends.Radio instance) s out (quietly (with_instance s instance) out))
 
 -- "Tell(output): the message as it stands, changes nothing: 19, 18."
 unfoldable pub told : State → List ℕ → After
@@ -90,65 +90,65 @@ told s out = within s out (telling (λ n. Answer.Answered n) s s out)
 -- ---- HEAR: 19, then 1 to 11 as the reader of the IPS end, then 12, then 18
 
 -- what a control message states of a Channel ID
-unfoldable pub sequenceIn : Control → ℕ → Sequence
-sequenceIn message id = (get_or message.sequences id noSequence).sequence
+unfoldable pub sequence_in : Control → ℕ → Sequence
+sequence_in message id = (get_or message.sequences id no_sequence).sequence
 
-abbrev pub isStated : Sequence → Bool
-isStated Sequence.Absent = false
-isStated (Sequence.Given sequence) = true
+abbrev pub is_stated : Sequence → Bool
+is_stated Sequence.Absent = false
+is_stated (Sequence.Given sequence) = true
 
 -- it names no channel that is lacking
-abbrev pub namesOwn : State → Control → ℕ → Bool
-namesOwn s message id = not (isStated (sequenceIn message id)) || isConfigured s id
+abbrev pub names_own : State → Control → ℕ → Bool
+names_own s message id = not (is_stated (sequence_in message id)) || is_configured s id
 
-unfoldable pub lacksNone : State → Control → Bool
-lacksNone s message = up_to (namesOwn s message) CHANNEL-IDS
+unfoldable pub lacks_none : State → Control → Bool
+lacks_none s message = up_to (names_own s message) CHANNEL-IDS
 
 -- every channel hears what is stated of its Channel ID
-unfoldable pub hearingAll : State → Control → State
-hearingAll s message = withChannels s (map (λ (c : Channel). hearingOn c (sequenceIn message c.setting.id)) s.channels)
+unfoldable pub hearing_all : State → Control → State
+hearing_all s message = with_channels s (map (λ (c : Channel). hearing_on c (sequence_in message c.setting.id)) s.channels)
 
 -- "A control message is always answered, with windows as they are after hearing"
-unfoldable pub controlHeard : State → Control → List ℕ → After
-controlHeard s message out =
-    cond (lacksNone s message) (telling (λ n. Answer.Answered n) s (hearingAll s message) out) (refusedBy NO-CHANNEL s out)
+unfoldable pub control_heard : State → Control → List ℕ → After
+control_heard s message out =
+    cond (lacks_none s message) (telling (λ n. Answer.Answered n) s (hearing_all s message) out) (refused_by NO-CHANNEL s out)
 
 -- "a data message without one names channel 0"
-abbrev pub channelNamed : named.Channel → ℕ
-channelNamed named.Channel.Absent = 0
-channelNamed (named.Channel.Given id) = id
+abbrev pub channel_named : named.Channel → ℕ
+channel_named named.Channel.Absent = 0
+channel_named (named.Channel.Given id) = id
 
-abbrev pub sequenceCounted : Counted → Sequence
-sequenceCounted Counted.Absent = Sequence.Absent
-sequenceCounted (Counted.Given id sequence) = Sequence.Given sequence
+abbrev pub sequence_counted : Counted → Sequence
+sequence_counted Counted.Absent = Sequence.Absent
+sequence_counted (Counted.Given id sequence) = Sequence.Given sequence
 
 -- its Flow Sequence is heard and its packet queued
-unfoldable pub dataOn : Data → ByteCount → Channel → Channel
-dataOn message bytes c = queueing (hearingOn c (sequenceCounted message.sequence)) bytes
+unfoldable pub data_on : Data → ByteCount → Channel → Channel
+data_on message bytes c = queueing (hearing_on c (sequence_counted message.sequence)) bytes
 
-unfoldable pub dataHeard : State → Data → (bytes : ByteCount) → List ℕ → After
-dataHeard s message bytes out =
-    configured s (channelNamed message.channel) out (changing s (indexIn s (channelNamed message.channel)) (dataOn message bytes) out)
+unfoldable pub data_heard : State → Data → (bytes : ByteCount) → List ℕ → After
+data_heard s message bytes out =
+    configured s (channel_named message.channel) out (changing s (index_in s (channel_named message.channel)) (data_on message bytes) out)
 
 -- by the reader's verdict; it is asked for a message of its own plane only
-abbrev pub byVerdict : Verdict → State → List ℕ → After → After
-byVerdict Verdict.Accepted s out accepted = accepted
-byVerdict Verdict.OtherPlane s out accepted = quietly s out
-byVerdict (Verdict.Refused refusal) s out accepted = refusedAt refusal s out
+abbrev pub by_verdict : Verdict → State → List ℕ → After → After
+by_verdict Verdict.Accepted s out accepted = accepted
+by_verdict Verdict.OtherPlane s out accepted = quietly s out
+by_verdict (Verdict.Refused refusal) s out accepted = refused_at refusal s out
 
-abbrev pub byPlane : PlaneAnswer → State → List ℕ → (control data' : After) → After
-byPlane PlaneAnswer.Control s out control data' = control
-byPlane PlaneAnswer.Data s out control data' = data'
-byPlane (PlaneAnswer.Refused refusal) s out control data' = refusedAt refusal s out
+abbrev pub by_plane : PlaneAnswer → State → List ℕ → (control data' : After) → After
+by_plane PlaneAnswer.Control s out control data' = control
+by_plane PlaneAnswer.Data s out control data' = data'
+by_plane (PlaneAnswer.Refused refusal) s out control data' = refused_at refusal s out
 
-abbrev pub controlRead : State → ControlReading → List ℕ → After
-controlRead s reading out = byVerdict reading.verdict s out (controlHeard s reading.message out)
+abbrev pub control_read : State → ControlReading → List ℕ → After
+control_read s reading out = by_verdict reading.verdict s out (control_heard s reading.message out)
 
-abbrev pub dataRead : State → DataReading → (bytes : ByteCount) → List ℕ → After
-dataRead s reading bytes out = byVerdict reading.verdict s out (dataHeard s reading.message bytes out)
+abbrev pub data_read : State → DataReading → (bytes : ByteCount) → List ℕ → After
+data_read s reading bytes out = by_verdict reading.verdict s out (data_heard s reading.message bytes out)
 
 unfoldable pub heard : State → (datagram out : List ℕ) → After
 heard s datagram out =
     within s out
-    (byPlane (planeOf datagram) s out (controlRead s (readControl ends.Ips s.datalink datagram) out)
-    (dataRead s (readData ends.Ips s.datalink datagram) (record { 0 = length (packetOf datagram) }) out))
+    (by_plane (plane_of datagram) s out (control_read s (read_control ends.Ips s.datalink datagram) out)
+    (data_read s (read_data ends.Ips s.datalink datagram) (record { 0 = length (packet_of datagram) }) out))

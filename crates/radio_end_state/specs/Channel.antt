@@ -4,32 +4,32 @@ use Rattle.quantity.specs.declared.count.ByteCount.{ByteCount}
 use Rattle.meaning.specs.declared.message.Sequence.{Sequence}
 use Rattle.meaning.specs.declared.message.Window.{Window}
 use Rattle.radio_flow.specs.declared.Highest.{Highest}
-use Rattle.radio_flow.specs.Granting.{hearing, allowanceOf, windowOf, queuedOn, sameWindow}
+use Rattle.radio_flow.specs.Granting.{hearing, allowance_of, window_of, queued_on, same_window}
 use Rattle.radio_end_state.specs.declared.channel.Setting.{Setting}
 use Rattle.radio_end_state.specs.declared.channel.Channel.{Channel}
 
 -- fresh: status 0, nothing queued, none heard
-abbrev pub freshChannel : Setting → Channel
-freshChannel setting = record { setting = setting; status = 0; queued = record { 0 = 0 }; highest = Highest.Unheard }
+abbrev pub fresh_channel : Setting → Channel
+fresh_channel setting = record { setting = setting; status = 0; queued = record { 0 = 0 }; highest = Highest.Unheard }
 
 -- the Flow Window as it stands
-unfoldable pub windowNow : Channel → Window
-windowNow c = windowOf c.setting.controlled c.highest (allowanceOf c.setting.watermark c.setting.throughput c.queued)
+unfoldable pub window_now : Channel → Window
+window_now c = window_of c.setting.controlled c.highest (allowance_of c.setting.watermark c.setting.throughput c.queued)
 
 -- what a message states of the channel is heard
-unfoldable pub hearingOn : Channel → Sequence → Channel
-hearingOn c stated = record { setting = c.setting; status = c.status; queued = c.queued; highest = hearing c.setting.controlled c.highest stated }
+unfoldable pub hearing_on : Channel → Sequence → Channel
+hearing_on c stated = record { setting = c.setting; status = c.status; queued = c.queued; highest = hearing c.setting.controlled c.highest stated }
 
-unfoldable pub withQueued : Channel → ByteCount → Channel
-withQueued c queued = record { setting = c.setting; status = c.status; queued = queued; highest = c.highest }
+unfoldable pub with_queued : Channel → ByteCount → Channel
+with_queued c queued = record { setting = c.setting; status = c.status; queued = queued; highest = c.highest }
 
 -- a data message's packet is queued: its length is added
 unfoldable pub queueing : Channel → ByteCount → Channel
-queueing c bytes = withQueued c (queuedOn c.queued bytes)
+queueing c bytes = with_queued c (queued_on c.queued bytes)
 
-unfoldable pub withStatus : Channel → ℕ → Channel
-withStatus c status = record { setting = c.setting; status = status; queued = c.queued; highest = c.highest }
+unfoldable pub with_status : Channel → ℕ → Channel
+with_status c status = record { setting = c.setting; status = status; queued = c.queued; highest = c.highest }
 
 -- a status or a window differs from before
-unfoldable pub channelDiffers : Channel → Channel → Bool
-channelDiffers before after = not (eqb before.status after.status) || not (sameWindow (windowNow before) (windowNow after))
+unfoldable pub channel_differs : Channel → Channel → Bool
+channel_differs before after = not (eqb before.status after.status) || not (same_window (window_now before) (window_now after))

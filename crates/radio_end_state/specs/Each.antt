@@ -6,14 +6,14 @@ use Rattle.meaning.specs.declared.message.Instance.{Instance}
 use Rattle.meaning.specs.declared.message.Context.{Context}
 use Rattle.radio_end_state.specs.declared.answer.Answer.{Answer}
 use Rattle.radio_end_state.specs.State.{State}
-use Rattle.radio_end_state.specs.Calls.{After, statusTold, queuedTold, contextTold, linkTold, told, heard}
+use Rattle.radio_end_state.specs.Calls.{After, status_told, queued_told, context_told, link_told, told, heard}
 
 -- ---- what holds of every call, on datagrams of a kind
 pub record EachCall (Of : List ℕ → Type 0) (s : State) (out : List ℕ) (P : After → Type 0) : Type 0 where
-  pub status : (id value : ℕ) → P (statusTold s id value out)
-  pub queued : (id : ℕ) (bytes : ByteCount) → P (queuedTold s id bytes out)
-  pub context : (context : Context) → P (contextTold s context out)
-  pub link : (instance : Instance) → P (linkTold s instance out)
+  pub status : (id value : ℕ) → P (status_told s id value out)
+  pub queued : (id : ℕ) (bytes : ByteCount) → P (queued_told s id bytes out)
+  pub context : (context : Context) → P (context_told s context out)
+  pub link : (instance : Instance) → P (link_told s instance out)
   pub tell : P (told s out)
   pub hear : (datagram : List ℕ) → Of datagram → P (heard s datagram out)
 

@@ -6,7 +6,7 @@ use Rattle.meaning.specs.declared.message.Context.{Context}
 use Rattle.radio_flow.specs.declared.Highest.{Highest}
 use Rattle.radio_end_state.specs.declared.channel.Setting.{Setting}
 use Rattle.radio_end_state.specs.declared.channel.Channel.{Channel}
-use Rattle.radio_end_state.specs.Channel.{freshChannel}
+use Rattle.radio_end_state.specs.Channel.{fresh_channel}
 
 -- Datalink ID, and each channel's ID, kind, watermark and throughput per period, in configuration order
 pub record Configuration : Type 0 where
@@ -21,32 +21,32 @@ pub record State : Type 0 where
   pub context : Context
 
 -- what an index past the end gives
-abbrev pub noSetting : Setting
-noSetting = record { id = 0; controlled = false; watermark = record { 0 = 0 }; throughput = record { 0 = 0 } }
+abbrev pub no_setting : Setting
+no_setting = record { id = 0; controlled = false; watermark = record { 0 = 0 }; throughput = record { 0 = 0 } }
 
-abbrev pub noChannel : Channel
-noChannel = record { setting = noSetting; status = 0; queued = record { 0 = 0 }; highest = Highest.Unheard }
+abbrev pub no_channel : Channel
+no_channel = record { setting = no_setting; status = 0; queued = record { 0 = 0 }; highest = Highest.Unheard }
 
-unfoldable pub channelAt : State → ℕ → Channel
-channelAt s index = get_or s.channels index noChannel
+unfoldable pub channel_at : State → ℕ → Channel
+channel_at s index = get_or s.channels index no_channel
 
 -- ---- a state with one thing replaced
-unfoldable pub withChannels : State → List Channel → State
-withChannels s channels = record { datalink = s.datalink; channels = channels; instance = s.instance; context = s.context }
+unfoldable pub with_channels : State → List Channel → State
+with_channels s channels = record { datalink = s.datalink; channels = channels; instance = s.instance; context = s.context }
 
-unfoldable pub withChannel : State → ℕ → Channel → State
-withChannel s index c = withChannels s (set s.channels index c)
+unfoldable pub with_channel : State → ℕ → Channel → State
+with_channel s index c = with_channels s (set s.channels index c)
 
-unfoldable pub withContext : State → Context → State
-withContext s context = record { datalink = s.datalink; channels = s.channels; instance = s.instance; context = context }
+unfoldable pub with_context : State → Context → State
+with_context s context = record { datalink = s.datalink; channels = s.channels; instance = s.instance; context = context }
 
-unfoldable pub withInstance : State → Instance → State
-withInstance s instance = record { datalink = s.datalink; channels = s.channels; instance = instance; context = s.context }
+unfoldable pub with_instance : State → Instance → State
+with_instance s instance = record { datalink = s.datalink; channels = s.channels; instance = instance; context = s.context }
 
 -- ---- a fresh start
-unfoldable pub freshState : Configuration → State
-freshState k = record { datalink = k.datalink; channels = map freshChannel k.settings; instance = Instance.Absent; context = Context.Absent }
+unfoldable pub fresh_state : Configuration → State
+fresh_state k = record { datalink = k.datalink; channels = map fresh_channel k.settings; instance = Instance.Absent; context = Context.Absent }
 
 -- ---- no channel at all, which every call refuses
-unfoldable pub blankState : State
-blankState = record { datalink = record { 0 = 0 }; channels = []; instance = Instance.Absent; context = Context.Absent }
+unfoldable pub blank_state : State
+blank_state = record { datalink = record { 0 = 0 }; channels = []; instance = Instance.Absent; context = Context.Absent }

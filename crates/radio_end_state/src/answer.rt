@@ -1,6 +1,6 @@
 // What a call of the radio's end answers, and the test for a change of the Context.
 ghost use Rattle.std.specs.Prelude.{◌≡◌};
-ghost use Rattle.radio_end_state.specs.Message.{sameContext};
+ghost use Rattle.radio_end_state.specs.Message.{same_context};
 
 use meaning::message::Context;
 use quantity::count::ByteCount;
@@ -17,7 +17,7 @@ pub enum Answer {
 
 // Whether two Contexts are the same in length and bytes, or neither is there.
 pub fn same_context(first: Context, second: Context) -> bool
-    ensures { result ≡ sameContext first second }
+    ensures { result ≡ same_context first second }
 {
     let Context::Given(bytes, length) = first else {
         return is_none(second);
@@ -29,7 +29,7 @@ pub fn same_context(first: Context, second: Context) -> bool
 }
 
 fn is_none(context: Context) -> bool
-    ensures { result ≡ sameContext Context.Absent context }
+    ensures { result ≡ same_context Context.Absent context }
 {
     match context {
         Context::Absent => true,

@@ -1,6 +1,6 @@
 // One channel of the radio's end.
 ghost use Rattle.std.specs.Prelude.{◌≡◌};
-ghost use Rattle.radio_end_state.specs.Channel.{windowNow, hearingOn, queueing, withQueued, withStatus, channelDiffers};
+ghost use Rattle.radio_end_state.specs.Channel.{window_now, hearing_on, queueing, with_queued, with_status, channel_differs};
 
 use meaning::message::{Sequence, Window};
 use quantity::count::ByteCount;
@@ -25,7 +25,7 @@ pub struct Channel {
 
 // The Flow Window as it stands.
 pub fn window(channel: Channel) -> Window
-    ensures { result ≡ windowNow channel }
+    ensures { result ≡ window_now channel }
 {
     let setting = channel.setting;
     let watermark = setting.watermark;
@@ -38,7 +38,7 @@ pub fn window(channel: Channel) -> Window
 
 // The channel after what a message states of it.
 pub fn hear(channel: Channel, stated: Sequence) -> Channel
-    ensures { result ≡ hearingOn channel stated }
+    ensures { result ≡ hearing_on channel stated }
 {
     let setting = channel.setting;
     let queued = channel.queued;
@@ -54,7 +54,7 @@ pub fn hear(channel: Channel, stated: Sequence) -> Channel
 
 // The bytes queued are set.
 pub fn with_queued(channel: Channel, queued: ByteCount) -> Channel
-    ensures { result ≡ withQueued channel queued }
+    ensures { result ≡ with_queued channel queued }
 {
     let setting = channel.setting;
     let highest = channel.highest;
@@ -75,7 +75,7 @@ pub fn queue(channel: Channel, bytes: ByteCount) -> Channel
 }
 
 pub fn with_status(channel: Channel, status: u8) -> Channel
-    ensures { result ≡ withStatus channel status }
+    ensures { result ≡ with_status channel status }
 {
     let setting = channel.setting;
     let queued = channel.queued;
@@ -90,7 +90,7 @@ pub fn with_status(channel: Channel, status: u8) -> Channel
 
 // Whether a status or a window differs from before.
 pub fn differs(before: Channel, after: Channel) -> bool
-    ensures { result ≡ channelDiffers before after }
+    ensures { result ≡ channel_differs before after }
 {
     if before.status != after.status {
         return true;

@@ -1,8 +1,8 @@
 // Number 19 over one channel's words: compares on them, and nothing is loaded.
 ghost use Rattle.std.specs.Prelude.{◌≡◌, ◌&&◌, length, leb, ltb};
 ghost use Rattle.quantity.specs.Limits.{RESERVED-CHANNEL, MOST-ALLOWANCE};
-ghost use Rattle.radio_end_state.specs.Limits.{highestFits, channelFits};
-ghost use Rattle.radio_end_words.specs.Words.{SLOT, highestOf, highestSpelled, nameSpelled, channelIn, spelled};
+ghost use Rattle.radio_end_state.specs.Limits.{highest_fits, channel_fits};
+ghost use Rattle.radio_end_words.specs.Words.{SLOT, highest_of, highest_spelled, name_spelled, channel_in, spelled};
 
 use lent_messages::layout::{ABSENT, GIVEN};
 use quantity::limit::{HIGHEST_STATUS, MOST_ALLOWANCE, RESERVED_CHANNEL};
@@ -15,7 +15,7 @@ const COUNT_VALUES: u64 = 4294967296;
 
 // Where nothing is said stand zeros.
 fn highest_spelled(tag: u64, value: u64) -> bool
-    ensures { result ≡ highestSpelled tag value }
+    ensures { result ≡ highest_spelled tag value }
 {
     if tag == UNHEARD {
         return value == 0;
@@ -24,7 +24,7 @@ fn highest_spelled(tag: u64, value: u64) -> bool
 }
 
 pub(crate) fn name_spelled(tag: u64, value: u64, size: u64) -> bool
-    ensures { result ≡ nameSpelled tag value size }
+    ensures { result ≡ name_spelled tag value size }
 {
     if tag == ABSENT {
         return value == 0 && size == 0;
@@ -48,7 +48,7 @@ fn setting_fits(id: u64, watermark: u64, throughput: u64) -> bool
 }
 
 fn highest_fits(tag: u64, value: u64) -> bool
-    ensures { result ≡ highestFits (highestOf tag value) }
+    ensures { result ≡ highest_fits (highest_of tag value) }
 {
     if tag == UNHEARD {
         return true;
@@ -59,7 +59,7 @@ fn highest_fits(tag: u64, value: u64) -> bool
 // Whether the words say a channel within the limits.
 pub(crate) fn channel_fits(part: &[u64]) -> bool
     requires { length part.now ≡ SLOT }
-    ensures { result ≡ (spelled part.now && channelFits (channelIn part.now)) }
+    ensures { result ≡ (spelled part.now && channel_fits (channel_in part.now)) }
 {
     if !is_spelled(part) {
         return false;

@@ -1,7 +1,7 @@
 // One pass over the words: whether the state that they stand for is within the limits.
 ghost use Rattle.std.specs.Prelude.{◌≡◌, ◌&&◌, ◌≤◌, length};
-ghost use Rattle.radio_end_state.specs.Limits.{namesFit, all_fit, ids, idsFit, stateFits};
-ghost use Rattle.radio_end_words.specs.Words.{HEAD, state_of, stateIn, headSpelled, all_spelled, Counted};
+ghost use Rattle.radio_end_state.specs.Limits.{names_fit, all_fit, ids, ids_fit, state_fits};
+ghost use Rattle.radio_end_words.specs.Words.{HEAD, state_of, state_in, head_spelled, all_spelled, Counted};
 
 use crate::limits;
 use meaning::message::End;
@@ -19,7 +19,7 @@ const BYTE_VALUES: u64 = 256;
 // The channels one after another: an ID that stands before is there twice.
 fn walk(words: &[u64], count: usize) -> bool
     requires { Counted words.now count }
-    ensures { result ≡ (all_spelled words.now count && (all_fit (state_of words.now).channels && idsFit (ids (state_of words.now).channels))) }
+    ensures { result ≡ (all_spelled words.now count && (all_fit (state_of words.now).channels && ids_fit (ids (state_of words.now).channels))) }
 {
     let mut at = 0;
     let mut from = layout::HEAD;
@@ -39,7 +39,7 @@ fn walk(words: &[u64], count: usize) -> bool
 
 fn head_spelled(words: &[u64]) -> bool
     requires { HEAD ≤ length words.now }
-    ensures { result ≡ headSpelled words.now }
+    ensures { result ≡ head_spelled words.now }
 {
     limits::name_spelled(
         words[INSTANCE_TAG],
@@ -55,7 +55,7 @@ fn head_spelled(words: &[u64]) -> bool
 // Link Instance and Context within their lengths.
 fn names_fit(words: &[u64]) -> bool
     requires { HEAD ≤ length words.now }
-    ensures { result ≡ namesFit (state_of words.now) }
+    ensures { result ≡ names_fit (state_of words.now) }
 {
     let instance = head::instance_said(words);
     let context = head::context_said(words);
@@ -64,7 +64,7 @@ fn names_fit(words: &[u64]) -> bool
 
 // Number 19.
 pub fn fits(words: &[u64]) -> bool
-    ensures { result ≡ stateFits (stateIn words.now) }
+    ensures { result ≡ state_fits (state_in words.now) }
 {
     if words.len() < layout::HEAD {
         return false;

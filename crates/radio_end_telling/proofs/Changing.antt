@@ -11,88 +11,88 @@ use Rattle.meaning.specs.declared.message.Context.{Context}
 use Rattle.meaning.specs.declared.message.Sequence.{Sequence}
 use Rattle.meaning.specs.declared.message.SequenceCell.{SequenceCell}
 use Rattle.meaning.specs.declared.message.Control.{Control}
-use Rattle.meaning.specs.Cells.{noSequence}
+use Rattle.meaning.specs.Cells.{no_sequence}
 use Rattle.radio_flow.specs.declared.Highest.{Highest}
 use Rattle.radio_flow.specs.Granting.{hearing}
 use Rattle.radio_flow.proofs.Windows.{window_same}
 use Rattle.radio_end_state.specs.declared.channel.Channel.{Channel}
-use Rattle.radio_end_state.specs.Channel.{windowNow, hearingOn, channelDiffers}
-use Rattle.radio_end_state.specs.State.{State, noChannel, channelAt, withChannels, withChannel, withContext}
-use Rattle.radio_end_state.specs.Message.{sameContext, channelsDiffer, differs}
-use Rattle.radio_end_state.specs.Calls.{sequenceIn, hearingAll}
-use Rattle.radio_end_message.specs.Changed.{hears, changedChannels, changed}
+use Rattle.radio_end_state.specs.Channel.{window_now, hearing_on, channel_differs}
+use Rattle.radio_end_state.specs.State.{State, no_channel, channel_at, with_channels, with_channel, with_context}
+use Rattle.radio_end_state.specs.Message.{same_context, channels_differ, differs}
+use Rattle.radio_end_state.specs.Calls.{sequence_in, hearing_all}
+use Rattle.radio_end_message.specs.Changed.{hears, changed_channels, changed}
 
 -- ---- nothing stated, nothing heard
-hearing-none : (b : Bool) (h : Highest) → hearing b h Sequence.Absent ≡ h
+hearing_none : (b : Bool) (h : Highest) → hearing b h Sequence.Absent ≡ h
 unfolding hearing
-hearing-none true h = refl
-hearing-none false h = refl
+hearing_none true h = refl
+hearing_none false h = refl
 
-heard-none : (c : Channel) → hearingOn c Sequence.Absent ≡ c
-unfolding hearingOn
-heard-none c = rw (hearing-none c.setting.controlled c.highest)
+heard_none : (c : Channel) → hearing_on c Sequence.Absent ≡ c
+unfolding hearing_on
+heard_none c = rw (hearing_none c.setting.controlled c.highest)
 
-none-at : (n i : ℕ) → get_or (replicate n noSequence) i noSequence ≡ noSequence
-none-at zero i = refl
-none-at (suc n) zero = refl
-none-at (suc n) (suc i) = none-at n i
+none_at : (n i : ℕ) → get_or (replicate n no_sequence) i no_sequence ≡ no_sequence
+none_at zero i = refl
+none_at (suc n) zero = refl
+none_at (suc n) (suc i) = none_at n i
 
-hears-none : (n : ℕ) (c : Channel) → hears (replicate n noSequence) c ≡ c
-hears-none n c = rw (none-at n c.setting.id) (heard-none c)
+hears_none : (n : ℕ) (c : Channel) → hears (replicate n no_sequence) c ≡ c
+hears_none n c = rw (none_at n c.setting.id) (heard_none c)
 
-all_none : (n : ℕ) (cs : List Channel) → map (hears (replicate n noSequence)) cs ≡ cs
+all_none : (n : ℕ) (cs : List Channel) → map (hears (replicate n no_sequence)) cs ≡ cs
 all_none n [] = refl
-all_none n (c ∷ cs) = ap₂ (λ (d : Channel) (ds : List Channel). d ∷ ds) (hears-none n c) (all_none n cs)
+all_none n (c ∷ cs) = ap₂ (λ (d : Channel) (ds : List Channel). d ∷ ds) (hears_none n c) (all_none n cs)
 
 set_past : (cs : List Channel) (c : Channel) → set cs (length cs) c ≡ cs
 set_past [] c = refl
 set_past (d ∷ cs) c = ap (λ (ds : List Channel). d ∷ ds) (set_past cs c)
 
 module _ (n : ℕ) (s : State) where
-  pub changed-channel : (index : ℕ) (c : Channel) → changed s s.context index c (replicate n noSequence) ≡ withChannel s index c
-  unfolding changed changedChannels withChannel withChannels
-  changed-channel index c = rw (all_none n (set s.channels index c))
+  pub changed_channel : (index : ℕ) (c : Channel) → changed s s.context index c (replicate n no_sequence) ≡ with_channel s index c
+  unfolding changed changed_channels with_channel with_channels
+  changed_channel index c = rw (all_none n (set s.channels index c))
 
-  pub changed-context : (k : Context) → changed s k (length s.channels) noChannel (replicate n noSequence) ≡ withContext s k
-  unfolding changed changedChannels withContext
-  changed-context k = rw (set_past s.channels noChannel, all_none n s.channels)
+  pub changed_context : (k : Context) → changed s k (length s.channels) no_channel (replicate n no_sequence) ≡ with_context s k
+  unfolding changed changed_channels with_context
+  changed_context k = rw (set_past s.channels no_channel, all_none n s.channels)
 
-  pub changed-nothing : changed s s.context (length s.channels) noChannel (replicate n noSequence) ≡ s
-  unfolding changed changedChannels
-  changed-nothing = rw (set_past s.channels noChannel, all_none n s.channels)
+  pub changed_nothing : changed s s.context (length s.channels) no_channel (replicate n no_sequence) ≡ s
+  unfolding changed changed_channels
+  changed_nothing = rw (set_past s.channels no_channel, all_none n s.channels)
 
-pub changed-heard : (s : State) (message : Control) → changed s s.context (length s.channels) noChannel message.sequences ≡ hearingAll s message
-unfolding changed changedChannels hearingAll withChannels sequenceIn
-changed-heard s message = rw (set_past s.channels noChannel)
+pub changed_heard : (s : State) (message : Control) → changed s s.context (length s.channels) no_channel message.sequences ≡ hearing_all s message
+unfolding changed changed_channels hearing_all with_channels sequence_in
+changed_heard s message = rw (set_past s.channels no_channel)
 
 -- ---- what differs from before
-channel-same : (c : Channel) → channelDiffers c c ≡ false
-unfolding channelDiffers
-channel-same c = rw (eq-eqb c.status c.status refl, window_same (windowNow c))
+channel_same : (c : Channel) → channel_differs c c ≡ false
+unfolding channel_differs
+channel_same c = rw (eq-eqb c.status c.status refl, window_same (window_now c))
 
-channels-same : (cs : List Channel) → channelsDiffer cs cs ≡ false
-unfolding channelsDiffer
-channels-same [] = refl
-channels-same (c ∷ cs) = rw (channel-same c) (channels-same cs)
+channels_same : (cs : List Channel) → channels_differ cs cs ≡ false
+unfolding channels_differ
+channels_same [] = refl
+channels_same (c ∷ cs) = rw (channel_same c) (channels_same cs)
 
-context-same : (k : Context) → sameContext k k ≡ true
-context-same Context.Absent = refl
-context-same (Context.Given bytes size) = rw (eq-eqb bytes.0 bytes.0 refl) (eq-eqb size size refl)
+context_same : (k : Context) → same_context k k ≡ true
+context_same Context.Absent = refl
+context_same (Context.Given bytes size) = rw (eq-eqb bytes.0 bytes.0 refl) (eq-eqb size size refl)
 
 or-false : (b : Bool) → (b || false) ≡ b
 or-false true = refl
 or-false false = refl
 
-one-differs : (cs : List Channel) (index : ℕ) (c : Channel) → index < length cs → channelsDiffer cs (set cs index c) ≡ channelDiffers (get_or cs index noChannel) c
-unfolding channelsDiffer
-one-differs [] index c h = absurd (omega arith)
-one-differs (d ∷ cs) zero c h = rw (channels-same cs) (or-false (channelDiffers d c))
-one-differs (d ∷ cs) (suc index) c h = rw (channel-same d) (one-differs cs index c (omega arith))
+one_differs : (cs : List Channel) (index : ℕ) (c : Channel) → index < length cs → channels_differ cs (set cs index c) ≡ channel_differs (get_or cs index no_channel) c
+unfolding channels_differ
+one_differs [] index c h = absurd (omega arith)
+one_differs (d ∷ cs) zero c h = rw (channels_same cs) (or-false (channel_differs d c))
+one_differs (d ∷ cs) (suc index) c h = rw (channel_same d) (one_differs cs index c (omega arith))
 
-pub differs-channel : (s : State) (index : ℕ) (c : Channel) → index < length s.channels → differs s (withChannel s index c) ≡ channelDiffers (channelAt s index) c
-unfolding differs withChannel withChannels channelAt
-differs-channel s index c h = rw (context-same s.context) (one-differs s.channels index c h)
+pub differs_channel : (s : State) (index : ℕ) (c : Channel) → index < length s.channels → differs s (with_channel s index c) ≡ channel_differs (channel_at s index) c
+unfolding differs with_channel with_channels channel_at
+differs_channel s index c h = rw (context_same s.context) (one_differs s.channels index c h)
 
-pub differs-context : (s : State) (k : Context) → differs s (withContext s k) ≡ not (sameContext s.context k)
-unfolding differs withContext
-differs-context s k = rw (channels-same s.channels) (or-false (not (sameContext s.context k)))
+pub differs_context : (s : State) (k : Context) → differs s (with_context s k) ≡ not (same_context s.context k)
+unfolding differs with_context
+differs_context s k = rw (channels_same s.channels) (or-false (not (same_context s.context k)))

@@ -5,10 +5,10 @@ use Rattle.quantity.specs.Refusals.{NO-CHANNEL, OUTSIDE-LIMITS}
 use Rattle.meaning.specs.declared.message.SequenceCell.{SequenceCell}
 use Rattle.radio_end_state.specs.declared.answer.Answer.{Answer}
 use Rattle.radio_end_state.specs.declared.channel.Channel.{Channel}
-use Rattle.radio_end_state.specs.State.{State, channelAt, withChannels}
-use Rattle.radio_end_state.specs.Limits.{stateFits, isConfigured, indexIn}
+use Rattle.radio_end_state.specs.State.{State, channel_at, with_channels}
+use Rattle.radio_end_state.specs.Limits.{state_fits, is_configured, index_in}
 use Rattle.radio_end_state.specs.Calls.{After}
-use Rattle.radio_end_words.specs.Words.{stateWords, Placed}
+use Rattle.radio_end_words.specs.Words.{state_words, Placed}
 use Rattle.radio_end_message.specs.Changed.{hears}
 use Rattle.radio_end_telling.specs.declared.locate.Found.{Found}
 
@@ -20,16 +20,16 @@ is_refused (Answer.Refused refusal) = true
 
 -- what a call leaves: the words of the state that it comes to, or those that it found
 pub record Left (after : After) (words : List ℕ) (answer : Answer) (words' out' : List ℕ) : Type 0 where
-  pub answer-is : answer ≡ after.answer
-  pub words_are : words' ≡ cond (is_refused after.answer) words (stateWords after.state)
-  pub output-is : out' ≡ after.output
+  pub answer_is : answer ≡ after.answer
+  pub words_are : words' ≡ cond (is_refused after.answer) words (state_words after.state)
+  pub output_is : out' ≡ after.output
 
 -- where a channel is found: 19, then 12
-unfoldable pub foundOf : State → ℕ → Found
-foundOf s id = cond (stateFits s) (cond (isConfigured s id) (Found.At (indexIn s id)) (Found.Refused NO-CHANNEL)) (Found.Refused OUTSIDE-LIMITS)
+unfoldable pub found_of : State → ℕ → Found
+found_of s id = cond (state_fits s) (cond (is_configured s id) (Found.At (index_in s id)) (Found.Refused NO-CHANNEL)) (Found.Refused OUTSIDE-LIMITS)
 
 -- a channel that may take the place of another: its ID is the same, its status has 4 bits
 pub record Settles (words : List ℕ) (s : State) (index : ℕ) (c : Channel) : Type 0 where
   pub placed : Placed words index
-  pub same_id : c.setting.id ≡ (channelAt s index).setting.id
+  pub same_id : c.setting.id ≡ (channel_at s index).setting.id
   pub low : c.status ≤ 15

@@ -1,7 +1,7 @@
 // Where a call finds its channel, or the refusal: 19, then 12.
 ghost use Rattle.std.specs.Prelude.{◌≡◌};
-ghost use Rattle.radio_end_words.specs.Words.{stateIn};
-ghost use Rattle.radio_end_telling.specs.Left.{foundOf};
+ghost use Rattle.radio_end_words.specs.Words.{state_in};
+ghost use Rattle.radio_end_telling.specs.Left.{found_of};
 
 use quantity::refusal;
 use radio_end_survey::survey;
@@ -15,7 +15,7 @@ pub enum Found {
 }
 
 pub fn find(words: &[u64], id: u8) -> Found
-    ensures { result ≡ foundOf (stateIn words.now) id }
+    ensures { result ≡ found_of (state_in words.now) id }
 {
     if !survey::fits(words) {
         return Found::Refused(refusal::OUTSIDE_LIMITS);

@@ -2,12 +2,12 @@
 ghost use Rattle.std.specs.Prelude.{◌≡◌, true, replicate};
 ghost use Rattle.quantity.specs.Limits.{CHANNEL-IDS};
 ghost use Rattle.meaning.specs.declared.message.End.TheVariants as ends;
-ghost use Rattle.meaning.specs.Cells.{noSequence};
-ghost use Rattle.writable.specs.Allowed.{contextAllowed};
-ghost use Rattle.radio_end_state.specs.State.{noChannel, withChannel, withContext};
-ghost use Rattle.radio_end_state.specs.Limits.{stateFits};
-ghost use Rattle.radio_end_state.specs.Calls.{refusedBy, settling};
-ghost use Rattle.radio_end_words.specs.Words.{stateIn};
+ghost use Rattle.meaning.specs.Cells.{no_sequence};
+ghost use Rattle.writable.specs.Allowed.{context_allowed};
+ghost use Rattle.radio_end_state.specs.State.{no_channel, with_channel, with_context};
+ghost use Rattle.radio_end_state.specs.Limits.{state_fits};
+ghost use Rattle.radio_end_state.specs.Calls.{refused_by, settling};
+ghost use Rattle.radio_end_words.specs.Words.{state_in};
 ghost use Rattle.radio_end_telling.specs.Left.{Left, Settles};
 
 use meaning::message::{Context, Sequence, SequenceCell};
@@ -31,7 +31,7 @@ pub fn refused(number: u8) -> Answer
 
 // No channel takes the place of another.
 pub fn no_channel() -> Channel
-    ensures { result ≡ noChannel }
+    ensures { result ≡ no_channel }
 {
     let setting = Setting {
         id: 0,
@@ -49,8 +49,8 @@ pub fn no_channel() -> Channel
 
 // The channel at an index becomes this one.
 pub fn channel(words: &mut [u64], index: usize, after: Channel, out: &mut [u8]) -> Answer
-    requires { Settles words.old (stateIn words.old) index after }
-    ensures { Left (settling (stateIn words.old) (withChannel (stateIn words.old) index after) out.old) words.old result words.new out.new }
+    requires { Settles words.old (state_in words.old) index after }
+    ensures { Left (settling (state_in words.old) (with_channel (state_in words.old) index after) out.old) words.old result words.new out.new }
 {
     let before = place::load(words, index);
     if !channel::differs(before, after) {
@@ -72,9 +72,9 @@ pub fn channel(words: &mut [u64], index: usize, after: Channel, out: &mut [u8]) 
 
 // The Context becomes this one.
 pub fn context(words: &mut [u64], after: Context, out: &mut [u8]) -> Answer
-    requires words_value { stateFits (stateIn words.old) ≡ true }
-    requires after_value { contextAllowed ends.Radio after ≡ true }
-    ensures { Left (settling (stateIn words.old) (withContext (stateIn words.old) after) out.old) words.old result words.new out.new }
+    requires words_value { state_fits (state_in words.old) ≡ true }
+    requires after_value { context_allowed ends.Radio after ≡ true }
+    ensures { Left (settling (state_in words.old) (with_context (state_in words.old) after) out.old) words.old result words.new out.new }
 {
     let before = head::context(words);
     if answer::same_context(before, after) {

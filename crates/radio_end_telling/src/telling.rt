@@ -1,7 +1,7 @@
 // The radio's own side.
 ghost use Rattle.std.specs.Prelude.{◌≡◌, []};
-ghost use Rattle.radio_end_state.specs.Calls.{statusTold, queuedTold, contextTold, linkTold, told};
-ghost use Rattle.radio_end_words.specs.Words.{stateIn};
+ghost use Rattle.radio_end_state.specs.Calls.{status_told, queued_told, context_told, link_told, told};
+ghost use Rattle.radio_end_words.specs.Words.{state_in};
 ghost use Rattle.radio_end_telling.specs.Left.{Left};
 
 use crate::locate::Found;
@@ -20,7 +20,7 @@ use writer::answer::WriteAnswer;
 
 // A channel's status: 19, 12, 20, 18.
 pub fn tell_status(words: &mut [u64], id: u8, value: u8, out: &mut [u8]) -> Answer
-    ensures { Left (statusTold (stateIn words.old) id value out.old) words.old result words.new out.new }
+    ensures { Left (status_told (state_in words.old) id value out.old) words.old result words.new out.new }
 {
     match locate::find(words, id) {
         Found::At(index) => {
@@ -36,7 +36,7 @@ pub fn tell_status(words: &mut [u64], id: u8, value: u8, out: &mut [u8]) -> Answ
 
 // The bytes queued on a channel: 19, 12, 18.
 pub fn tell_queued(words: &mut [u64], id: u8, bytes: ByteCount, out: &mut [u8]) -> Answer
-    ensures { Left (queuedTold (stateIn words.old) id bytes out.old) words.old result words.new out.new }
+    ensures { Left (queued_told (state_in words.old) id bytes out.old) words.old result words.new out.new }
 {
     match locate::find(words, id) {
         Found::At(index) => {
@@ -49,7 +49,7 @@ pub fn tell_queued(words: &mut [u64], id: u8, bytes: ByteCount, out: &mut [u8]) 
 
 // The Context, or that there is none: 19, 20, 18.
 pub fn tell_context(words: &mut [u64], context: Context, out: &mut [u8]) -> Answer
-    ensures { Left (contextTold (stateIn words.old) context out.old) words.old result words.new out.new }
+    ensures { Left (context_told (state_in words.old) context out.old) words.old result words.new out.new }
 {
     if !survey::fits(words) {
         return settle::refused(refusal::OUTSIDE_LIMITS);
@@ -62,7 +62,7 @@ pub fn tell_context(words: &mut [u64], context: Context, out: &mut [u8]) -> Answ
 
 // The Link Instance, or that there is none; kept without a message: 19, 20.
 pub fn tell_link(words: &mut [u64], instance: Instance) -> Answer
-    ensures { Left (linkTold (stateIn words.old) instance []) words.old result words.new [] }
+    ensures { Left (link_told (state_in words.old) instance []) words.old result words.new [] }
 {
     if !survey::fits(words) {
         return settle::refused(refusal::OUTSIDE_LIMITS);
@@ -76,7 +76,7 @@ pub fn tell_link(words: &mut [u64], instance: Instance) -> Answer
 
 // The message as it stands: 19, 18. It changes nothing.
 pub fn tell(words: &[u64], out: &mut [u8]) -> Answer
-    ensures { Left (told (stateIn words.now) out.old) words.now result words.now out.new }
+    ensures { Left (told (state_in words.now) out.old) words.now result words.now out.new }
 {
     if !survey::fits(words) {
         return settle::refused(refusal::OUTSIDE_LIMITS);

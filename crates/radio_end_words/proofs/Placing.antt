@@ -10,146 +10,146 @@ use borrow.Author.Tests.{ltb-true, eq-eqb, ne_eqb}
 use lib.Dec.{eqb}
 use lib.ListN.{length, take, drop, get_or, set, drop_of_length-le}
 use lib.Seq.{get_or-take, get_or-drop, drop-cons, drop-drop}
-use Rattle.facts.proofs.Tables.{length-tabulate, get_d_tabulate}
+use Rattle.facts.proofs.Tables.{length_tabulate, get_d_tabulate}
 use Rattle.meaning.specs.declared.message.Instance.{Instance}
 use Rattle.meaning.specs.declared.message.Context.{Context}
 use Rattle.lent_messages.specs.declared.stated.Stated.{Stated}
-use Rattle.lent_messages.specs.Stated.{instanceStated, contextStated}
+use Rattle.lent_messages.specs.Stated.{instance_stated, context_stated}
 use Rattle.radio_flow.specs.declared.Highest.{Highest}
 use Rattle.radio_end_state.specs.declared.channel.Channel.{Channel}
-use Rattle.radio_end_state.specs.State.{State, noChannel, channelAt, withChannel, withContext, withInstance}
-use Rattle.radio_end_state.specs.Limits.{indexOf, ids, highestFits, stateFits}
-use Rattle.radio_end_state.proofs.Fit.{ChannelFit, channel-fit, Fit, fit-facts, ids_at, ids-length}
-use Rattle.radio_end_words.specs.Words.{HEAD, SLOT, ID, DATALINK-WORD, COUNT-WORD, INSTANCE-TAG, INSTANCE-VALUE, INSTANCE-LENGTH, CONTEXT-TAG, CONTEXT-VALUE, CONTEXT-LENGTH, wordsFor, word, slotStart, slot, channelIn, state_of, stateIn, highestValue, channelWords, headWords, stateWords, Loadable, Placed, Counted}
-use Rattle.radio_end_words.proofs.Slots.{channel-back}
-use Rattle.radio_end_words.proofs.Whole.{slot-state, put-channel, Readable, readable-facts, says, fit-readable, fit_words}
+use Rattle.radio_end_state.specs.State.{State, no_channel, channel_at, with_channel, with_context, with_instance}
+use Rattle.radio_end_state.specs.Limits.{indexOf, ids, highest_fits, state_fits}
+use Rattle.radio_end_state.proofs.Fit.{ChannelFit, channel_fit, Fit, fit_facts, ids_at, ids_length}
+use Rattle.radio_end_words.specs.Words.{HEAD, SLOT, ID, DATALINK-WORD, COUNT-WORD, INSTANCE-TAG, INSTANCE-VALUE, INSTANCE-LENGTH, CONTEXT-TAG, CONTEXT-VALUE, CONTEXT-LENGTH, words_for, word, slot_start, slot, channel_in, state_of, state_in, highest_value, channel_words, head_words, state_words, Loadable, Placed, Counted}
+use Rattle.radio_end_words.proofs.Slots.{channel_back}
+use Rattle.radio_end_words.proofs.Whole.{slot_state, put_channel_lem, Readable, readable_facts, says, fit_readable, fit_words}
 
 -- ---- the words of a state within the limits
-module _ (words : List ℕ) (fits : stateFits (stateIn words) ≡ true) where
-  pub fit_count : length (stateIn words).channels ≡ word words COUNT-WORD
+module _ (words : List ℕ) (fits : state_fits (state_in words) ≡ true) where
+  pub fit_count : length (state_in words).channels ≡ word words COUNT-WORD
   unfolding state_of
-  fit_count = rw (says words (fit-readable words fits)) (length-tabulate (word words COUNT-WORD) (λ index. channelIn (slot words index)))
+  fit_count = rw (says words (fit_readable words fits)) (length_tabulate (word words COUNT-WORD) (λ index. channel_in (slot words index)))
 
-  pub fit_length : length words ≡ wordsFor (length (stateIn words).channels)
-  fit_length = rw fit_count (readable-facts words (fit-readable words fits)).long
+  pub fit_length : length words ≡ words_for (length (state_in words).channels)
+  fit_length = rw fit_count (readable_facts words (fit_readable words fits)).long
 
-  pub fit-says : state_of words ≡ stateIn words
-  fit-says = sym (says words (fit-readable words fits))
+  pub fit_says : state_of words ≡ state_in words
+  fit_says = sym (says words (fit_readable words fits))
 
-  pub fit-datalink : word words DATALINK-WORD ≡ (stateIn words).datalink.0
+  pub fit_datalink : word words DATALINK-WORD ≡ (state_in words).datalink.0
   unfolding state_of
-  fit-datalink = rw (← fit-says)
+  fit_datalink = rw (← fit_says)
 
-  pub fit-byte : word words DATALINK-WORD < 256
-  fit-byte = rw fit-datalink (fit-facts (stateIn words) fits).datalink
+  pub fit_byte : word words DATALINK-WORD < 256
+  fit_byte = rw fit_datalink (fit_facts (state_in words) fits).datalink
 
-  pub fit-counted : Counted words (length (stateIn words).channels)
-  fit-counted = record { long = fit_length; count-is = fit_count; few = (fit-facts (stateIn words) fits).few }
+  pub fit_counted : Counted words (length (state_in words).channels)
+  fit_counted = record { long = fit_length; count_is = fit_count; few = (fit_facts (state_in words) fits).few }
 
-  pub fit-slot : (i : ℕ) → i < length (stateIn words).channels → slot words i ≡ channelWords (channelAt (stateIn words) i)
-  fit-slot i h = ap (λ (w : List ℕ). slot w i) (sym (fit_words words fits)) ∙ slot-state (stateIn words) i h
+  pub fit_slot : (i : ℕ) → i < length (state_in words).channels → slot words i ≡ channel_words (channel_at (state_in words) i)
+  fit_slot i h = ap (λ (w : List ℕ). slot w i) (sym (fit_words words fits)) ∙ slot_state (state_in words) i h
 
-  pub fit-room : (i : ℕ) → i < length (stateIn words).channels → slotStart i + SLOT ≤ length words
-  fit-room i h = omega (arith, fit_length)
+  pub fit_room : (i : ℕ) → i < length (state_in words).channels → slot_start i + SLOT ≤ length words
+  fit_room i h = omega (arith, fit_length)
 
-  pub fit-put : (i : ℕ) (c : Channel) → i < length (stateIn words).channels
-      → take (slotStart i) words ++ (channelWords c ++ drop (slotStart i + SLOT) words) ≡ stateWords (withChannel (stateIn words) i c)
-  fit-put i c h =
-      ap (λ (w : List ℕ). take (slotStart i) w ++ (channelWords c ++ drop (slotStart i + SLOT) w)) (sym (fit_words words fits)) ∙ put-channel (stateIn words) i c h
+  pub fit_put : (i : ℕ) (c : Channel) → i < length (state_in words).channels
+      → take (slot_start i) words ++ (channel_words c ++ drop (slot_start i + SLOT) words) ≡ state_words (with_channel (state_in words) i c)
+  fit_put i c h =
+      ap (λ (w : List ℕ). take (slot_start i) w ++ (channel_words c ++ drop (slot_start i + SLOT) w)) (sym (fit_words words fits)) ∙ put_channel_lem (state_in words) i c h
 
-  pub context-saved : (k : Context) (t : Stated) → t ≡ contextStated k
-      → set (set (set words CONTEXT-TAG t.tag) CONTEXT-VALUE t.first) CONTEXT-LENGTH t.second ≡ stateWords (withContext (stateIn words) k)
-  unfolding stateWords headWords withContext
-  context-saved k t e =
+  pub context_saved : (k : Context) (t : Stated) → t ≡ context_stated k
+      → set (set (set words CONTEXT-TAG t.tag) CONTEXT-VALUE t.first) CONTEXT-LENGTH t.second ≡ state_words (with_context (state_in words) k)
+  unfolding state_words head_words with_context
+  context_saved k t e =
       rw e
-      (ap (λ (w : List ℕ). set (set (set w CONTEXT-TAG (contextStated k).tag) CONTEXT-VALUE (contextStated k).first) CONTEXT-LENGTH (contextStated k).second) (sym (fit_words words fits)))
+      (ap (λ (w : List ℕ). set (set (set w CONTEXT-TAG (context_stated k).tag) CONTEXT-VALUE (context_stated k).first) CONTEXT-LENGTH (context_stated k).second) (sym (fit_words words fits)))
 
-  pub instance-saved : (i : Instance) (t : Stated) → t ≡ instanceStated i
-      → set (set (set words INSTANCE-TAG t.tag) INSTANCE-VALUE t.first) INSTANCE-LENGTH t.second ≡ stateWords (withInstance (stateIn words) i)
-  unfolding stateWords headWords withInstance
-  instance-saved i t e =
+  pub instance_saved : (i : Instance) (t : Stated) → t ≡ instance_stated i
+      → set (set (set words INSTANCE-TAG t.tag) INSTANCE-VALUE t.first) INSTANCE-LENGTH t.second ≡ state_words (with_instance (state_in words) i)
+  unfolding state_words head_words with_instance
+  instance_saved i t e =
       rw e
-      (ap (λ (w : List ℕ). set (set (set w INSTANCE-TAG (instanceStated i).tag) INSTANCE-VALUE (instanceStated i).first) INSTANCE-LENGTH (instanceStated i).second) (sym (fit_words words fits)))
+      (ap (λ (w : List ℕ). set (set (set w INSTANCE-TAG (instance_stated i).tag) INSTANCE-VALUE (instance_stated i).first) INSTANCE-LENGTH (instance_stated i).second) (sym (fit_words words fits)))
 
 -- ---- a channel within the limits can be loaded
-highest-small : (h : Highest) → highestFits h ≡ true → highestValue h < 2 ^ 32
-highest-small Highest.Unheard e = omega arith
-highest-small (Highest.At sequence) e = ltb-true sequence.0 (2 ^ 32) e
+highest_small : (h : Highest) → highest_fits h ≡ true → highest_value h < 2 ^ 32
+highest_small Highest.Unheard e = omega arith
+highest_small (Highest.At sequence) e = ltb-true sequence.0 (2 ^ 32) e
 
-pub channel-loadable : (c : Channel) → ChannelFit c → Loadable (channelWords c)
-unfolding channelWords
-channel-loadable c f = record { long = refl; id = omega (arith, f.unreserved); status = omega (arith, f.status); highest = highest-small c.highest f.highest }
+pub channel_loadable : (c : Channel) → ChannelFit c → Loadable (channel_words c)
+unfolding channel_words
+channel_loadable c f = record { long = refl; id = omega (arith, f.unreserved); status = omega (arith, f.status); highest = highest_small c.highest f.highest }
 
 module _ (words : List ℕ) (index : ℕ) (p : Placed words index) where
-  pub place-loadable : Loadable (slot words index)
-  place-loadable = rw (fit-slot words p.fits index p.inside) (channel-loadable _ (channel-fit _ ((fit-facts (stateIn words) p.fits).each index p.inside)))
+  pub place_loadable : Loadable (slot words index)
+  place_loadable = rw (fit_slot words p.fits index p.inside) (channel_loadable _ (channel_fit _ ((fit_facts (state_in words) p.fits).each index p.inside)))
 
-  pub place-loaded : channelIn (slot words index) ≡ channelAt (stateIn words) index
-  place-loaded = rw (fit-slot words p.fits index p.inside) (channel-back (channelAt (stateIn words) index))
+  pub place_loaded : channel_in (slot words index) ≡ channel_at (state_in words) index
+  place_loaded = rw (fit_slot words p.fits index p.inside) (channel_back (channel_at (state_in words) index))
 
   -- the part of the words that is lent for a channel
   abbrev part : List ℕ
-  part = take ((slotStart index + SLOT) - slotStart index) (drop (slotStart index) words)
+  part = take ((slot_start index + SLOT) - slot_start index) (drop (slot_start index) words)
 
-  part-is : part ≡ slot words index
+  part_is : part ≡ slot words index
   unfolding slot
-  part-is =
-      let size : (slotStart index + SLOT) - slotStart index ≡ SLOT = omega arith in
+  part_is =
+      let size : (slot_start index + SLOT) - slot_start index ≡ SLOT = omega arith in
       rw size
 
-  pub part-long : length part ≡ SLOT
-  part-long = rw part-is place-loadable.long
+  pub part_long : length part ≡ SLOT
+  part_long = rw part_is place_loadable.long
 
-  pub part-loadable : Loadable part
-  part-loadable = rw part-is place-loadable
+  pub part_loadable : Loadable part
+  part_loadable = rw part_is place_loadable
 
-  pub part-loaded : (c : Channel) → c ≡ channelIn part → c ≡ channelAt (stateIn words) index
-  part-loaded c e = e ∙ rw part-is place-loaded
+  pub part_loaded : (c : Channel) → c ≡ channel_in part → c ≡ channel_at (state_in words) index
+  part_loaded c e = e ∙ rw part_is place_loaded
 
-  pub place-ends : slotStart index + SLOT ≤ length words
-  place-ends = fit-room words p.fits index p.inside
+  pub place_ends : slot_start index + SLOT ≤ length words
+  place_ends = fit_room words p.fits index p.inside
 
-  pub part-saved : (c : Channel) (after : List ℕ) → after ≡ channelWords c
-      → put_mid (slotStart index) ((slotStart index + SLOT) - slotStart index) words after ≡ stateWords (withChannel (stateIn words) index c)
-  part-saved c after e =
-      let size : (slotStart index + SLOT) - slotStart index ≡ SLOT = omega arith in
-      rw (size, e, drop-drop) (fit-put words p.fits index c p.inside)
+  pub part_saved : (c : Channel) (after : List ℕ) → after ≡ channel_words c
+      → put_mid (slot_start index) ((slot_start index + SLOT) - slot_start index) words after ≡ state_words (with_channel (state_in words) index c)
+  part_saved c after e =
+      let size : (slot_start index + SLOT) - slot_start index ≡ SLOT = omega arith in
+      rw (size, e, drop-drop) (fit_put words p.fits index c p.inside)
 
-  pub place-few : index < 64
-  place-few = omega (arith, p.inside, (fit-facts (stateIn words) p.fits).few)
+  pub place_few : index < 64
+  place_few = omega (arith, p.inside, (fit_facts (state_in words) p.fits).few)
 
 -- ---- a channel sought by its ID
-pub slot-word : (words : List ℕ) (i k : ℕ) → k < SLOT → word (slot words i) k ≡ word words (slotStart i + k)
+pub slot_word : (words : List ℕ) (i k : ℕ) → k < SLOT → word (slot words i) k ≡ word words (slot_start i + k)
 unfolding slot
-slot-word words i k h = get_or-take SLOT (drop (slotStart i) words) k 0 h ∙ get_or-drop (slotStart i) words k 0
+slot_word words i k h = get_or-take SLOT (drop (slot_start i) words) k 0 h ∙ get_or-drop (slot_start i) words k 0
 
 -- what is sought so far
 pub record Seeking (words : List ℕ) (count id at from : ℕ) : Type 0 where
   pub inside : at ≤ count
-  pub from_is : from ≡ slotStart at
+  pub from_is : from ≡ slot_start at
   pub so_far : indexOf id (ids (state_of words).channels) ≡ at + indexOf id (drop at (ids (state_of words).channels))
 
 module _ (words : List ℕ) (count : ℕ) (counted : Counted words count) where
   abbrev numbers : List ℕ
   numbers = ids (state_of words).channels
 
-  pub numbers-length : length numbers ≡ count
+  pub numbers_length : length numbers ≡ count
   unfolding state_of
-  numbers-length = ids-length (state_of words).channels ∙ length-tabulate (word words COUNT-WORD) (λ index. channelIn (slot words index)) ∙ sym counted.count-is
+  numbers_length = ids_length (state_of words).channels ∙ length_tabulate (word words COUNT-WORD) (λ index. channel_in (slot words index)) ∙ sym counted.count_is
 
-  pub said-channel : (i : ℕ) → i < count → get_or (state_of words).channels i noChannel ≡ channelIn (slot words i)
+  pub said_channel : (i : ℕ) → i < count → get_or (state_of words).channels i no_channel ≡ channel_in (slot words i)
   unfolding state_of
-  said-channel i h = get_d_tabulate (word words COUNT-WORD) (λ index. channelIn (slot words index)) i noChannel (omega (arith, counted.count-is))
+  said_channel i h = get_d_tabulate (word words COUNT-WORD) (λ index. channel_in (slot words index)) i no_channel (omega (arith, counted.count_is))
 
-  pub number_at : (i : ℕ) → i < count → get_or numbers i 0 ≡ word words (slotStart i + ID)
-  unfolding channelIn
-  number_at i h = ids_at (state_of words).channels i ∙ ap (λ (c : Channel). c.setting.id) (said-channel i h) ∙ slot-word words i ID (omega arith)
+  pub number_at : (i : ℕ) → i < count → get_or numbers i 0 ≡ word words (slot_start i + ID)
+  unfolding channel_in
+  number_at i h = ids_at (state_of words).channels i ∙ ap (λ (c : Channel). c.setting.id) (said_channel i h) ∙ slot_word words i ID (omega arith)
 
-  pub seek-start : (id : ℕ) → Seeking words count id 0 HEAD
-  seek-start id = record { inside = omega arith; from_is = omega arith; so_far = omega arith }
+  pub seek_start : (id : ℕ) → Seeking words count id 0 HEAD
+  seek_start id = record { inside = omega arith; from_is = omega arith; so_far = omega arith }
 
   here : (id at from : ℕ) → Seeking words count id at from → at < count → drop at numbers ≡ word words (from + ID) ∷ drop (suc at) numbers
-  here id at from s h = drop-cons numbers at 0 (omega (arith, numbers-length)) ∙ ap (λ (n : ℕ). n ∷ drop (suc at) numbers) (number_at at h ∙ ap (λ (k : ℕ). word words (k + ID)) (sym s.from_is))
+  here id at from s h = drop-cons numbers at 0 (omega (arith, numbers_length)) ∙ ap (λ (n : ℕ). n ∷ drop (suc at) numbers) (number_at at h ∙ ap (λ (k : ℕ). word words (k + ID)) (sym s.from_is))
 
   pub seek_found : (id at from : ℕ) → Seeking words count id at from → at < count → word words (from + ID) ≡ id → at ≡ indexOf id numbers
   unfolding indexOf
@@ -157,14 +157,14 @@ module _ (words : List ℕ) (count : ℕ) (counted : Counted words count) where
       let none : indexOf id (drop at numbers) ≡ 0 = rw (here id at from s h, eq-eqb _ _ e) in
       omega (arith, s.so_far)
 
-  pub seek-on : (id at from : ℕ) → Seeking words count id at from → at < count → (word words (from + ID) ≡ id → ⊥) → Seeking words count id (at + 1) (from + SLOT)
+  pub seek_on : (id at from : ℕ) → Seeking words count id at from → at < count → (word words (from + ID) ≡ id → ⊥) → Seeking words count id (at + 1) (from + SLOT)
   unfolding indexOf
-  seek-on id at from s h e =
+  seek_on id at from s h e =
       let one : indexOf id (drop at numbers) ≡ suc (indexOf id (drop (suc at) numbers)) = rw (here id at from s h, ne_eqb _ _ e) in
       record { inside = omega arith; from_is = omega (arith, s.from_is); so_far = rw (add-one at) (omega (arith, s.so_far)) }
 
-  pub seek-end : (id at from : ℕ) → Seeking words count id at from → count ≤ at → at ≡ indexOf id numbers
+  pub seek_end : (id at from : ℕ) → Seeking words count id at from → count ≤ at → at ≡ indexOf id numbers
   unfolding indexOf
-  seek-end id at from s h =
-      let none : indexOf id (drop at numbers) ≡ 0 = rw (drop_of_length-le numbers {i = at} (omega (arith, numbers-length))) in
+  seek_end id at from s h =
+      let none : indexOf id (drop at numbers) ≡ 0 = rw (drop_of_length-le numbers {i = at} (omega (arith, numbers_length))) in
       omega (arith, s.so_far)

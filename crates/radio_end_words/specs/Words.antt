@@ -5,11 +5,11 @@ use Rattle.facts.specs.Tables.{tabulate}
 use Rattle.meaning.specs.declared.message.Instance.{Instance}
 use Rattle.meaning.specs.declared.message.Context.{Context}
 use Rattle.lent_messages.specs.Layout.{ABSENT, GIVEN}
-use Rattle.lent_messages.specs.Stated.{instanceStated, contextStated, instanceOf, context_of}
+use Rattle.lent_messages.specs.Stated.{instance_stated, context_stated, instance_of, context_of}
 use Rattle.radio_flow.specs.declared.Highest.{Highest}
 use Rattle.radio_end_state.specs.declared.channel.Channel.{Channel}
-use Rattle.radio_end_state.specs.State.{State, blankState}
-use Rattle.radio_end_state.specs.Limits.{up_to, stateFits}
+use Rattle.radio_end_state.specs.State.{State, blank_state}
+use Rattle.radio_end_state.specs.Limits.{up_to, state_fits}
 
 -- ---- the radio's own words
 abbrev pub HEAD : ℕ
@@ -81,89 +81,89 @@ abbrev pub HEARD : ℕ
 HEARD = 1
 
 -- ---- how many words, which word, and the words of the channel at an index
-abbrev pub wordsFor : ℕ → ℕ
-wordsFor count = HEAD + SLOT * count
+abbrev pub words_for : ℕ → ℕ
+words_for count = HEAD + SLOT * count
 
 abbrev pub word : List ℕ → ℕ → ℕ
 word words k = get_or words k 0
 
-abbrev pub slotStart : ℕ → ℕ
-slotStart index = HEAD + SLOT * index
+abbrev pub slot_start : ℕ → ℕ
+slot_start index = HEAD + SLOT * index
 
 unfoldable pub slot : List ℕ → ℕ → List ℕ
-slot words index = take SLOT (drop (slotStart index) words)
+slot words index = take SLOT (drop (slot_start index) words)
 
 -- ---- what a slot's words say
-unfoldable pub highestOf : (tag value : ℕ) → Highest
-highestOf tag value = cond (eqb tag UNHEARD) Highest.Unheard (Highest.At (record { 0 = value }))
+unfoldable pub highest_of : (tag value : ℕ) → Highest
+highest_of tag value = cond (eqb tag UNHEARD) Highest.Unheard (Highest.At (record { 0 = value }))
 
-unfoldable pub channelIn : List ℕ → Channel
-channelIn w = record {
+unfoldable pub channel_in : List ℕ → Channel
+channel_in w = record {
   setting = record { id = word w ID; controlled = eqb (word w KIND) CONTROLLED; watermark = record { 0 = word w WATERMARK }; throughput = record { 0 = word w THROUGHPUT } };
   status = word w STATUS;
   queued = record { 0 = word w QUEUED };
-  highest = highestOf (word w HIGHEST-TAG) (word w HIGHEST-VALUE);
+  highest = highest_of (word w HIGHEST-TAG) (word w HIGHEST-VALUE);
 }
 
 -- ---- the state, of as many channels as the words count
 unfoldable pub state_of : List ℕ → State
 state_of words = record {
   datalink = record { 0 = word words DATALINK-WORD };
-  channels = tabulate (word words COUNT-WORD) (λ index. channelIn (slot words index));
-  instance = instanceOf (word words INSTANCE-TAG) (word words INSTANCE-VALUE) (word words INSTANCE-LENGTH);
+  channels = tabulate (word words COUNT-WORD) (λ index. channel_in (slot words index));
+  instance = instance_of (word words INSTANCE-TAG) (word words INSTANCE-VALUE) (word words INSTANCE-LENGTH);
   context = context_of (word words CONTEXT-TAG) (word words CONTEXT-VALUE) (word words CONTEXT-LENGTH);
 }
 
 -- ---- words that say something: tags that there are, and zeros where nothing is said
-abbrev pub highestSpelled : (tag value : ℕ) → Bool
-highestSpelled tag value = cond (eqb tag UNHEARD) (eqb value 0) (eqb tag HEARD)
+abbrev pub highest_spelled : (tag value : ℕ) → Bool
+highest_spelled tag value = cond (eqb tag UNHEARD) (eqb value 0) (eqb tag HEARD)
 
 unfoldable pub spelled : List ℕ → Bool
-spelled w = leb (word w KIND) CONTROLLED && highestSpelled (word w HIGHEST-TAG) (word w HIGHEST-VALUE)
+spelled w = leb (word w KIND) CONTROLLED && highest_spelled (word w HIGHEST-TAG) (word w HIGHEST-VALUE)
 
-unfoldable pub nameSpelled : (tag value size : ℕ) → Bool
-nameSpelled tag value size = cond (eqb tag ABSENT) (eqb value 0 && eqb size 0) (eqb tag GIVEN)
+unfoldable pub name_spelled : (tag value size : ℕ) → Bool
+name_spelled tag value size = cond (eqb tag ABSENT) (eqb value 0 && eqb size 0) (eqb tag GIVEN)
 
-unfoldable pub headSpelled : List ℕ → Bool
-headSpelled words =
-    nameSpelled (word words INSTANCE-TAG) (word words INSTANCE-VALUE) (word words INSTANCE-LENGTH)
-    && nameSpelled (word words CONTEXT-TAG) (word words CONTEXT-VALUE) (word words CONTEXT-LENGTH)
+unfoldable pub head_spelled : List ℕ → Bool
+head_spelled words =
+    name_spelled (word words INSTANCE-TAG) (word words INSTANCE-VALUE) (word words INSTANCE-LENGTH)
+    && name_spelled (word words CONTEXT-TAG) (word words CONTEXT-VALUE) (word words CONTEXT-LENGTH)
 
 unfoldable pub all_spelled : List ℕ → ℕ → Bool
 all_spelled words count = up_to (λ index. spelled (slot words index)) count
 
 unfoldable pub readable : List ℕ → Bool
-readable words = eqb (length words) (wordsFor (word words COUNT-WORD)) && (headSpelled words && all_spelled words (word words COUNT-WORD))
+readable words = eqb (length words) (words_for (word words COUNT-WORD)) && (head_spelled words && all_spelled words (word words COUNT-WORD))
 
 -- WHAT WORDS STAND FOR: those that say nothing stand for a state with no channel, which every call refuses by 19
-unfoldable pub stateIn : List ℕ → State
-stateIn words = cond (readable words) (state_of words) blankState
+unfoldable pub state_in : List ℕ → State
+state_in words = cond (readable words) (state_of words) blank_state
 
 -- ---- a state as words
-abbrev pub highestTag : Highest → ℕ
-highestTag Highest.Unheard = UNHEARD
-highestTag (Highest.At sequence) = HEARD
+abbrev pub highest_tag : Highest → ℕ
+highest_tag Highest.Unheard = UNHEARD
+highest_tag (Highest.At sequence) = HEARD
 
-abbrev pub highestValue : Highest → ℕ
-highestValue Highest.Unheard = 0
-highestValue (Highest.At sequence) = sequence.0
+abbrev pub highest_value : Highest → ℕ
+highest_value Highest.Unheard = 0
+highest_value (Highest.At sequence) = sequence.0
 
-unfoldable pub channelWords : Channel → List ℕ
-channelWords c =
+unfoldable pub channel_words : Channel → List ℕ
+channel_words c =
     c.setting.id ∷ cond c.setting.controlled CONTROLLED PLAIN ∷ c.setting.watermark.0 ∷ c.setting.throughput.0 ∷ c.status ∷ c.queued.0
-    ∷ highestTag c.highest ∷ highestValue c.highest ∷ []
+    ∷ highest_tag c.highest ∷ highest_value c.highest ∷ []
 
 unfoldable pub slots_of : List Channel → List ℕ
 slots_of [] = []
-slots_of (c ∷ cs) = channelWords c ++ slots_of cs
+slots_of (c ∷ cs) = channel_words c ++ slots_of cs
 
-unfoldable pub headWords : State → List ℕ
-headWords s =
-    s.datalink.0 ∷ length s.channels ∷ (instanceStated s.instance).tag ∷ (instanceStated s.instance).first ∷ (instanceStated s.instance).second
-    ∷ (contextStated s.context).tag ∷ (contextStated s.context).first ∷ (contextStated s.context).second ∷ []
+unfoldable pub head_words : State → List ℕ
+head_words s =
+    s.datalink.0 ∷ length s.channels ∷ (instance_stated s.instance).tag ∷ (instance_stated s.instance).first ∷ (instance_stated s.instance).second
+    ∷ (context_stated s.context).tag ∷ (context_stated s.context).first ∷ (context_stated s.context).second ∷ []
 
-unfoldable pub stateWords : State → List ℕ
-stateWords s = headWords s ++ slots_of s.channels
+unfoldable pub state_words : State → List ℕ
+state_words s = head_words s ++ slots_of s.channels
 
 -- ---- what a channel is loaded from, and where one is found
 pub record Loadable (w : List ℕ) : Type 0 where
@@ -173,11 +173,11 @@ pub record Loadable (w : List ℕ) : Type 0 where
   pub highest : word w HIGHEST-VALUE < 2 ^ 32
 
 pub record Placed (words : List ℕ) (index : ℕ) : Type 0 where
-  pub fits : stateFits (stateIn words) ≡ true
-  pub inside : index < length (stateIn words).channels
+  pub fits : state_fits (state_in words) ≡ true
+  pub inside : index < length (state_in words).channels
 
 -- what has been tested before the pass over the channels
 pub record Counted (words : List ℕ) (count : ℕ) : Type 0 where
-  pub long : length words ≡ wordsFor count
-  pub count-is : count ≡ word words COUNT-WORD
+  pub long : length words ≡ words_for count
+  pub count_is : count ≡ word words COUNT-WORD
   pub few : count ≤ 64

@@ -1,8 +1,8 @@
 // The radio's own words: Datalink ID, Link Instance and Context.
 ghost use Rattle.std.specs.Prelude.{◌≡◌, ◌≤◌, true, length};
-ghost use Rattle.radio_end_state.specs.State.{withContext, withInstance};
-ghost use Rattle.radio_end_state.specs.Limits.{stateFits};
-ghost use Rattle.radio_end_words.specs.Words.{HEAD, state_of, stateIn, stateWords};
+ghost use Rattle.radio_end_state.specs.State.{with_context, with_instance};
+ghost use Rattle.radio_end_state.specs.Limits.{state_fits};
+ghost use Rattle.radio_end_words.specs.Words.{HEAD, state_of, state_in, state_words};
 
 use crate::layout::{
     CONTEXT_LENGTH, CONTEXT_TAG, CONTEXT_VALUE, DATALINK_WORD, INSTANCE_LENGTH, INSTANCE_TAG,
@@ -14,8 +14,8 @@ use meaning::message::{Context, Instance};
 use quantity::count::DatalinkId;
 
 pub fn datalink(words: &[u64]) -> DatalinkId
-    requires { stateFits (stateIn words.now) ≡ true }
-    ensures { result ≡ (stateIn words.now).datalink }
+    requires { state_fits (state_in words.now) ≡ true }
+    ensures { result ≡ (state_in words.now).datalink }
 {
     DatalinkId(slot::byte(words[DATALINK_WORD]))
 }
@@ -44,22 +44,22 @@ pub fn context_said(words: &[u64]) -> Context
 }
 
 pub fn instance(words: &[u64]) -> Instance
-    requires { stateFits (stateIn words.now) ≡ true }
-    ensures { result ≡ (stateIn words.now).instance }
+    requires { state_fits (state_in words.now) ≡ true }
+    ensures { result ≡ (state_in words.now).instance }
 {
     instance_said(words)
 }
 
 pub fn context(words: &[u64]) -> Context
-    requires { stateFits (stateIn words.now) ≡ true }
-    ensures { result ≡ (stateIn words.now).context }
+    requires { state_fits (state_in words.now) ≡ true }
+    ensures { result ≡ (state_in words.now).context }
 {
     context_said(words)
 }
 
 pub fn save_instance(words: &mut [u64], instance: Instance)
-    requires { stateFits (stateIn words.old) ≡ true }
-    ensures { words.new ≡ stateWords (withInstance (stateIn words.old) instance) }
+    requires { state_fits (state_in words.old) ≡ true }
+    ensures { words.new ≡ state_words (with_instance (state_in words.old) instance) }
 {
     let named = stated::instance(instance);
     words[INSTANCE_TAG] = named.tag;
@@ -68,8 +68,8 @@ pub fn save_instance(words: &mut [u64], instance: Instance)
 }
 
 pub fn save_context(words: &mut [u64], context: Context)
-    requires { stateFits (stateIn words.old) ≡ true }
-    ensures { words.new ≡ stateWords (withContext (stateIn words.old) context) }
+    requires { state_fits (state_in words.old) ≡ true }
+    ensures { words.new ≡ state_words (with_context (state_in words.old) context) }
 {
     let told = stated::context(context);
     words[CONTEXT_TAG] = told.tag;

@@ -1,8 +1,8 @@
 // Where a channel stands in the words, and the channel at an index of the configuration. Number 19 was tested.
 ghost use Rattle.std.specs.Prelude.{◌≡◌, true, length};
-ghost use Rattle.radio_end_state.specs.State.{channelAt, withChannel};
-ghost use Rattle.radio_end_state.specs.Limits.{stateFits, ids, indexOf, indexIn};
-ghost use Rattle.radio_end_words.specs.Words.{state_of, stateIn, stateWords, Counted, Placed};
+ghost use Rattle.radio_end_state.specs.State.{channel_at, with_channel};
+ghost use Rattle.radio_end_state.specs.Limits.{state_fits, ids, indexOf, index_in};
+ghost use Rattle.radio_end_words.specs.Words.{state_of, state_in, state_words, Counted, Placed};
 
 use crate::layout::{COUNT_WORD, HEAD, ID, SLOT};
 use crate::slot;
@@ -26,22 +26,22 @@ pub fn index_of(words: &[u64], count: usize, id: u64) -> usize
 }
 
 pub fn count(words: &[u64]) -> usize
-    requires { stateFits (stateIn words.now) ≡ true }
-    ensures { result ≡ length (stateIn words.now).channels }
+    requires { state_fits (state_in words.now) ≡ true }
+    ensures { result ≡ length (state_in words.now).channels }
 {
     slot::narrow(words[COUNT_WORD])
 }
 
 pub fn find(words: &[u64], id: u8) -> usize
-    requires { stateFits (stateIn words.now) ≡ true }
-    ensures { result ≡ indexIn (stateIn words.now) id }
+    requires { state_fits (state_in words.now) ≡ true }
+    ensures { result ≡ index_in (state_in words.now) id }
 {
     index_of(words, count(words), id as u64)
 }
 
 pub fn load(words: &[u64], index: usize) -> Channel
     requires { Placed words.now index }
-    ensures { result ≡ channelAt (stateIn words.now) index }
+    ensures { result ≡ channel_at (state_in words.now) index }
 {
     let from = HEAD + SLOT * index;
     let to = from + SLOT;
@@ -50,7 +50,7 @@ pub fn load(words: &[u64], index: usize) -> Channel
 
 pub fn save(words: &mut [u64], index: usize, channel: Channel)
     requires { Placed words.old index }
-    ensures { words.new ≡ stateWords (withChannel (stateIn words.old) index channel) }
+    ensures { words.new ≡ state_words (with_channel (state_in words.old) index channel) }
 {
     let from = HEAD + SLOT * index;
     let to = from + SLOT;

@@ -1,6 +1,6 @@
 // One channel in its words.
 ghost use Rattle.std.specs.Prelude.{◌≡◌, ◌^◌, ◌<◌, length};
-ghost use Rattle.radio_end_words.specs.Words.{SLOT, highestOf, channelIn, highestTag, highestValue, channelWords, Loadable};
+ghost use Rattle.radio_end_words.specs.Words.{SLOT, highest_of, channel_in, highest_tag, highest_value, channel_words, Loadable};
 
 use crate::layout::{
     CONTROLLED, HEARD, HIGHEST_TAG, HIGHEST_VALUE, ID, KIND, QUEUED, STATUS, THROUGHPUT, UNHEARD,
@@ -39,7 +39,7 @@ pub fn wide(value: usize) -> u64
 
 fn highest_of(tag: u64, value: u64) -> Highest
     requires { value < 2 ^ 32 }
-    ensures { result ≡ highestOf tag value }
+    ensures { result ≡ highest_of tag value }
 {
     if tag == UNHEARD {
         return Highest::Unheard;
@@ -48,7 +48,7 @@ fn highest_of(tag: u64, value: u64) -> Highest
 }
 
 pub fn highest_tag(highest: Highest) -> u64
-    ensures { result ≡ highestTag highest }
+    ensures { result ≡ highest_tag highest }
 {
     match highest {
         Highest::Unheard => UNHEARD,
@@ -57,7 +57,7 @@ pub fn highest_tag(highest: Highest) -> u64
 }
 
 pub fn highest_value(highest: Highest) -> u64
-    ensures { result ≡ highestValue highest }
+    ensures { result ≡ highest_value highest }
 {
     match highest {
         Highest::Unheard => 0,
@@ -68,7 +68,7 @@ pub fn highest_value(highest: Highest) -> u64
 // The channel that the words say.
 pub fn load(part: &[u64]) -> Channel
     requires { Loadable part.now }
-    ensures { result ≡ channelIn part.now }
+    ensures { result ≡ channel_in part.now }
 {
     let setting = Setting {
         id: byte(part[ID]),
@@ -88,7 +88,7 @@ pub fn load(part: &[u64]) -> Channel
 // The words of a channel, every one of them written.
 pub fn save(part: &mut [u64], channel: Channel)
     requires { length part.old ≡ SLOT }
-    ensures { part.new ≡ channelWords channel }
+    ensures { part.new ≡ channel_words channel }
 {
     let setting = channel.setting;
     let watermark = setting.watermark;

@@ -9,8 +9,8 @@ use Rattle.quantity.specs.Distance.{distance_of}
 use Rattle.meaning.specs.declared.message.Sequence.{Sequence}
 use Rattle.meaning.specs.declared.message.Window.{Window}
 use Rattle.radio_flow.specs.declared.Highest.{Highest}
-use Rattle.radio_flow.specs.Granting.{isAhead, hearing, allowanceOf, windowOf, queuedOn}
-use Rattle.radio_flow.specs.Rows.{HeardRow, heardRows, WindowRow, windowRows}
+use Rattle.radio_flow.specs.Granting.{is_ahead, hearing, allowance_of, window_of, queued_on}
+use Rattle.radio_flow.specs.Rows.{HeardRow, heard_rows, WindowRow, window_rows}
 
 -- what a flow-controlled channel keeps
 abbrev pub Hears : List HeardRow → Type 0
@@ -18,43 +18,43 @@ Hears [] = Unit {0}
 Hears (r ∷ rs) =
     (hearing true (Highest.At (record { 0 = r.highest })) (Sequence.Given (record { 0 = r.sequence })) ≡ Highest.At (record { 0 = r.becomes })) × Hears rs
 
-pub rows-heard : Hears heardRows
-unfolding hearing isAhead distance_of
-rows-heard = (refl, (refl, (refl, (refl, (refl, (refl, (refl, tt)))))))
+pub rows_heard : Hears heard_rows
+unfolding hearing is_ahead distance_of
+rows_heard = (refl, (refl, (refl, (refl, (refl, (refl, (refl, tt)))))))
 
 abbrev pub Grants : List WindowRow → Type 0
 Grants [] = Unit {0}
 Grants (r ∷ rs) =
-    (windowOf true (Highest.At (record { 0 = r.highest })) (allowanceOf (record { 0 = r.watermark }) (record { 0 = r.throughput }) (record { 0 = r.queued }))
+    (window_of true (Highest.At (record { 0 = r.highest })) (allowance_of (record { 0 = r.watermark }) (record { 0 = r.throughput }) (record { 0 = r.queued }))
     ≡ Window.Given (record { 0 = r.window }))
     × Grants rs
 
-pub rows-granted : Grants windowRows
-unfolding windowOf allowanceOf
-rows-granted = (refl, (refl, (refl, (refl, (refl, (refl, (refl, (refl, tt))))))))
+pub rows_granted : Grants window_rows
+unfolding window_of allowance_of
+rows_granted = (refl, (refl, (refl, (refl, (refl, (refl, (refl, (refl, tt))))))))
 
 -- the first that is heard is the highest; a plain channel passes over it; until then the Flow Window has no field; a plain channel has none
-pub first-heard : hearing true Highest.Unheard (Sequence.Given (record { 0 = 4294967295 })) ≡ Highest.At (record { 0 = 4294967295 })
+pub first_heard : hearing true Highest.Unheard (Sequence.Given (record { 0 = 4294967295 })) ≡ Highest.At (record { 0 = 4294967295 })
 unfolding hearing
-first-heard = refl
+first_heard = refl
 
 pub plain_passes : (highest : Highest) (stated : Sequence) → hearing false highest stated ≡ highest
 unfolding hearing
 plain_passes highest stated = refl
 
-pub none-heard-empty : windowOf true Highest.Unheard (record { 0 = 1500 }) ≡ Window.Empty
-unfolding windowOf
-none-heard-empty = refl
+pub none_heard_empty : window_of true Highest.Unheard (record { 0 = 1500 }) ≡ Window.Empty
+unfolding window_of
+none_heard_empty = refl
 
-pub plain-absent : windowOf false (Highest.At (record { 0 = 7 })) (record { 0 = 1500 }) ≡ Window.Absent
-unfolding windowOf
-plain-absent = refl
+pub plain_absent : window_of false (Highest.At (record { 0 = 7 })) (record { 0 = 1500 }) ≡ Window.Absent
+unfolding window_of
+plain_absent = refl
 
 -- bytes queued are held at the largest number
-pub held-at-largest : queuedOn (record { 0 = 18446744073709551615 }) (record { 0 = 40 }) ≡ record { 0 = 18446744073709551615 }
-unfolding queuedOn
-held-at-largest = refl
+pub held_at_largest : queued_on (record { 0 = 18446744073709551615 }) (record { 0 = 40 }) ≡ record { 0 = 18446744073709551615 }
+unfolding queued_on
+held_at_largest = refl
 
-pub queued-adds : queuedOn (record { 0 = 100 }) (record { 0 = 40 }) ≡ record { 0 = 140 }
-unfolding queuedOn
-queued-adds = refl
+pub queued_adds : queued_on (record { 0 = 100 }) (record { 0 = 40 }) ≡ record { 0 = 140 }
+unfolding queued_on
+queued_adds = refl

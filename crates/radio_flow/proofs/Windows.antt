@@ -6,20 +6,20 @@ use borrow.Author.Tests.{eqb-true, eq-eqb}
 use Rattle.facts.proofs.Tests.{clash}
 use Rattle.quantity.specs.declared.count.FlowWindow.{FlowWindow}
 use Rattle.meaning.specs.declared.message.Window.{Window}
-use Rattle.radio_flow.specs.Granting.{sameWindow}
+use Rattle.radio_flow.specs.Granting.{same_window}
 
-pub same-window : (a b : Window) → sameWindow a b ≡ true → a ≡ b
-same-window Window.Absent Window.Absent e = refl
-same-window Window.Absent Window.Empty e = clash e
-same-window Window.Absent (Window.Given k) e = clash e
-same-window Window.Empty Window.Absent e = clash e
-same-window Window.Empty Window.Empty e = refl
-same-window Window.Empty (Window.Given k) e = clash e
-same-window (Window.Given n) Window.Absent e = clash e
-same-window (Window.Given n) Window.Empty e = clash e
-same-window (Window.Given n) (Window.Given k) e = ap (λ (x : ℕ). Window.Given (record { 0 = x })) (eqb-true n.0 k.0 e)
+pub same_window_lem : (a b : Window) → same_window a b ≡ true → a ≡ b
+same_window_lem Window.Absent Window.Absent e = refl
+same_window_lem Window.Absent Window.Empty e = clash e
+same_window_lem Window.Absent (Window.Given k) e = clash e
+same_window_lem Window.Empty Window.Absent e = clash e
+same_window_lem Window.Empty Window.Empty e = refl
+same_window_lem Window.Empty (Window.Given k) e = clash e
+same_window_lem (Window.Given n) Window.Absent e = clash e
+same_window_lem (Window.Given n) Window.Empty e = clash e
+same_window_lem (Window.Given n) (Window.Given k) e = ap (λ (x : ℕ). Window.Given (record { 0 = x })) (eqb-true n.0 k.0 e)
 
-pub window_same : (a : Window) → sameWindow a a ≡ true
+pub window_same : (a : Window) → same_window a a ≡ true
 window_same Window.Absent = refl
 window_same Window.Empty = refl
 window_same (Window.Given n) = eq-eqb n.0 n.0 refl

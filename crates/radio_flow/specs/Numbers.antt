@@ -1,18 +1,18 @@
 -- Document 02, §3, in numbers that never wrap: the highest number heard, and the number that a window stands for.
 use Rattle.std.specs.Prelude.{ℕ, ◌+◌, ◌≤◌, max, ◌≡◌, List, [], ◌∷◌, ℤ, pos, negsuc}
 use Rattle.quantity.specs.declared.count.FlowSequence.{FlowSequence}
-use Rattle.quantity.specs.Window.{standingAt}
+use Rattle.quantity.specs.Window.{standing_at}
 use Rattle.radio_flow.specs.declared.Highest.{Highest}
-use Rattle.radio_flow.specs.Granting.{place_of, heardOf}
+use Rattle.radio_flow.specs.Granting.{place_of, heard_of}
 
 -- the highest word after sequences were heard, one after another
-abbrev pub heardAll : Highest → List FlowSequence → Highest
-heardAll highest [] = highest
-heardAll highest (sequence ∷ sequences) = heardAll (heardOf highest sequence) sequences
+abbrev pub heard_all : Highest → List FlowSequence → Highest
+heard_all highest [] = highest
+heard_all highest (sequence ∷ sequences) = heard_all (heard_of highest sequence) sequences
 
--- "each word standing for the one number from 2^31 below to 2^31 - 1 above the highest then" (`standing-stands`, `Stands-one` of the quantities)
+-- "each word standing for the one number from 2^31 below to 2^31 - 1 above the highest then" (`standing_stands`, `Stands-one` of the quantities)
 abbrev pub number_of : ℕ → FlowSequence → ℤ
-number_of highest sequence = standingAt highest (place_of sequence)
+number_of highest sequence = standing_at highest (place_of sequence)
 
 -- the larger of the highest number and another
 abbrev pub larger : ℕ → ℤ → ℕ
@@ -20,14 +20,14 @@ larger highest (pos number) = max highest number
 larger highest (negsuc below) = highest
 
 -- the highest number after sequences were heard
-abbrev pub numberAfter : ℕ → List FlowSequence → ℕ
-numberAfter highest [] = highest
-numberAfter highest (sequence ∷ sequences) = numberAfter (larger highest (number_of highest sequence)) sequences
+abbrev pub number_after : ℕ → List FlowSequence → ℕ
+number_after highest [] = highest
+number_after highest (sequence ∷ sequences) = number_after (larger highest (number_of highest sequence)) sequences
 
 -- the numbers that they stood for when they were heard
-abbrev pub numbersHeard : ℕ → List FlowSequence → List ℤ
-numbersHeard highest [] = []
-numbersHeard highest (sequence ∷ sequences) = number_of highest sequence ∷ numbersHeard (larger highest (number_of highest sequence)) sequences
+abbrev pub numbers_heard : ℕ → List FlowSequence → List ℤ
+numbers_heard highest [] = []
+numbers_heard highest (sequence ∷ sequences) = number_of highest sequence ∷ numbers_heard (larger highest (number_of highest sequence)) sequences
 
 -- exactly the larger of 0 and watermark + throughput - queued, cut at 2^31 - 1: in each case
 pub record AllowanceIs (watermark throughput queued allowance : ℕ) : Type 0 where

@@ -7,8 +7,8 @@ pub record HeardRow : Type 0 where
   pub sequence : ℕ
   pub becomes : ℕ
 
-abbrev pub heardRows : List HeardRow
-heardRows =
+abbrev pub heard_rows : List HeardRow
+heard_rows =
     record { highest = 100; sequence = 101; becomes = 101 }
     ∷ record { highest = 100; sequence = 100; becomes = 100 }
     ∷ record { highest = 100; sequence = 99; becomes = 100 }
@@ -26,8 +26,8 @@ pub record WindowRow : Type 0 where
   pub highest : ℕ
   pub window : ℕ
 
-abbrev pub windowRows : List WindowRow
-windowRows =
+abbrev pub window_rows : List WindowRow
+window_rows =
     record { watermark = 1000; throughput = 500; queued = 200; highest = 40; window = 1340 }
     ∷ record { watermark = 1000; throughput = 500; queued = 1499; highest = 40; window = 41 }
     ∷ record { watermark = 1000; throughput = 500; queued = 1500; highest = 40; window = 40 }

@@ -1,6 +1,6 @@
 // One channel of the radio's end: the highest Flow Sequence heard, the bytes queued, and the window that is granted.
 ghost use Rattle.std.specs.Prelude.{◌≡◌, ◌-◌};
-ghost use Rattle.radio_flow.specs.Granting.{laterOf, heardOf, hearing, sumCut, allowanceOf, windowFrom, granted, windowOf, queuedOn, sameWindow};
+ghost use Rattle.radio_flow.specs.Granting.{later_of, heard_of, hearing, sum_cut, allowance_of, window_from, granted, window_of, queued_on, same_window};
 
 use meaning::message::{Sequence, Window};
 use quantity::count;
@@ -19,7 +19,7 @@ const LARGEST_COUNT: usize = 18446744073709551615;
 
 // Of the highest and a further sequence the one that is ahead, by distance.
 fn later(highest: FlowSequence, sequence: FlowSequence) -> Highest
-    ensures { result ≡ laterOf highest sequence }
+    ensures { result ≡ later_of highest sequence }
 {
     if count::fits(highest, FlowWindow(sequence.0), ByteCount(1)) {
         Highest::At(sequence)
@@ -29,7 +29,7 @@ fn later(highest: FlowSequence, sequence: FlowSequence) -> Highest
 }
 
 fn hear(highest: Highest, sequence: FlowSequence) -> Highest
-    ensures { result ≡ heardOf highest sequence }
+    ensures { result ≡ heard_of highest sequence }
 {
     match highest {
         Highest::Unheard => Highest::At(sequence),
@@ -62,7 +62,7 @@ fn less(first: usize, second: usize) -> usize
 
 // A sum, cut: no larger number is made on the way.
 fn sum_cut(first: usize, second: usize) -> usize
-    ensures { result ≡ sumCut first second }
+    ensures { result ≡ sum_cut first second }
 {
     if MOST_ALLOWANCE <= first {
         return MOST_ALLOWANCE;
@@ -75,7 +75,7 @@ fn sum_cut(first: usize, second: usize) -> usize
 
 // How far the window lies above the highest sequence.
 pub fn allowance(watermark: ByteCount, throughput: ByteCount, queued: ByteCount) -> ByteCount
-    ensures { result ≡ allowanceOf watermark throughput queued }
+    ensures { result ≡ allowance_of watermark throughput queued }
 {
     let above = less(watermark.0, queued.0);
     let over = less(queued.0, watermark.0);
@@ -96,7 +96,7 @@ fn grant(highest: Highest, allowance: ByteCount) -> Window
 
 // The Flow Window that the message states: none of a plain channel.
 pub fn window(controlled: bool, highest: Highest, allowance: ByteCount) -> Window
-    ensures { result ≡ windowOf controlled highest allowance }
+    ensures { result ≡ window_of controlled highest allowance }
 {
     if !controlled {
         return Window::Absent;
@@ -106,7 +106,7 @@ pub fn window(controlled: bool, highest: Highest, allowance: ByteCount) -> Windo
 
 // Bytes that are queued besides, held at the largest number.
 pub fn queue(queued: ByteCount, bytes: ByteCount) -> ByteCount
-    ensures { result ≡ queuedOn queued bytes }
+    ensures { result ≡ queued_on queued bytes }
 {
     if LARGEST_COUNT - queued.0 <= bytes.0 {
         return ByteCount(LARGEST_COUNT);
@@ -115,7 +115,7 @@ pub fn queue(queued: ByteCount, bytes: ByteCount) -> ByteCount
 }
 
 fn is_empty(window: Window) -> bool
-    ensures { result ≡ sameWindow Window.Empty window }
+    ensures { result ≡ same_window Window.Empty window }
 {
     match window {
         Window::Absent => false,
@@ -125,7 +125,7 @@ fn is_empty(window: Window) -> bool
 }
 
 fn is_absent(window: Window) -> bool
-    ensures { result ≡ sameWindow Window.Absent window }
+    ensures { result ≡ same_window Window.Absent window }
 {
     match window {
         Window::Absent => true,
@@ -135,7 +135,7 @@ fn is_absent(window: Window) -> bool
 }
 
 fn is_given(number: FlowWindow, window: Window) -> bool
-    ensures { result ≡ sameWindow (Window.Given number) window }
+    ensures { result ≡ same_window (Window.Given number) window }
 {
     match window {
         Window::Absent => false,
@@ -146,7 +146,7 @@ fn is_given(number: FlowWindow, window: Window) -> bool
 
 // Whether two messages state the same Flow Window.
 pub fn same(first: Window, second: Window) -> bool
-    ensures { result ≡ sameWindow first second }
+    ensures { result ≡ same_window first second }
 {
     match first {
         Window::Absent => is_absent(second),

@@ -1,7 +1,7 @@
 -- Document 01, "A channel's life": each case of the answer to an accepted radio control message with what makes it so, and what the endpoint keeps of it, by the options
 -- that stand in it.
 use Rattle.std.specs.Prelude.{ℕ, ◌≤◌, true, List, [], ◌≡◌, length}
-use Rattle.wire.specs.Numbers.{Octets, bigEndian}
+use Rattle.wire.specs.Numbers.{Octets, big_endian}
 use Rattle.wire.specs.Options.{Options}
 use Rattle.meaning.specs.declared.message.End.TheVariants as ends
 use Rattle.meaning.specs.declared.message.Plane.TheVariants as planes
@@ -10,11 +10,11 @@ use Rattle.meaning.specs.declared.message.Context.{Context}
 use Rattle.meaning.specs.declared.message.Instance.{Instance}
 use Rattle.acceptance.specs.Account.{Accepts}
 use Rattle.ips_state.specs.State.{State}
-use Rattle.ips_state.specs.Limits.{stateFits}
+use Rattle.ips_state.specs.Limits.{state_fits}
 use Rattle.ips_state.specs.Memory.{World}
 use Rattle.ips_radio.specs.declared.RadioAnswer.{RadioAnswer}
-use Rattle.ips_run.specs.Run.{Call, radio, acceptedAll}
-use Rattle.ips_calls.specs.Replies.{EndpointReply, ofRadio}
+use Rattle.ips_run.specs.Run.{Call, radio, accepted_all}
+use Rattle.ips_calls.specs.Replies.{EndpointReply, of_radio}
 use Rattle.ips_calls.specs.Calls.{Performed}
 use Rattle.ips_calls.specs.Ran.{Ran}
 use Rattle.radio_laws.specs.OptionByOption.{Holds}
@@ -23,15 +23,15 @@ use Rattle.radio_laws.specs.OptionByOption.{Holds}
 pub record Answers (options : Options) (s : State) (answer : RadioAnswer) (s' : State) : Type 0 where
   -- "A mobility message is reported due when a Context comes that differs from the last Context received (in length or bytes), or is the first."; document 02 §2: "a
   -- Context that follows an accepted control message without one is due even if equal to the older", so that none is kept of such a message.
-  pub no-context : ((content : List ℕ) → Holds 4 content options → ⊥) → (answer ≡ RadioAnswer.Accepted) × (s'.context ≡ Context.Absent)
+  pub no_context_lem : ((content : List ℕ) → Holds 4 content options → ⊥) → (answer ≡ RadioAnswer.Accepted) × (s'.context ≡ Context.Absent)
   pub none_before : (content : List ℕ) → Holds 4 content options → s.context ≡ Context.Absent → answer ≡ RadioAnswer.Due
-  pub other-context : (content : List ℕ) → Holds 4 content options → (last : ContextBytes) (size : ℕ) → s.context ≡ Context.Given last size
-      → (last.0 ≡ bigEndian content → size ≡ length content → ⊥) → answer ≡ RadioAnswer.Due
-  pub same-context : (content : List ℕ) → Holds 4 content options → s.context ≡ Context.Given (record { 0 = bigEndian content }) (length content) → answer ≡ RadioAnswer.Accepted
-  pub context-kept : (content : List ℕ) → Holds 4 content options → s'.context ≡ Context.Given (record { 0 = bigEndian content }) (length content)
+  pub other_context : (content : List ℕ) → Holds 4 content options → (last : ContextBytes) (size : ℕ) → s.context ≡ Context.Given last size
+      → (last.0 ≡ big_endian content → size ≡ length content → ⊥) → answer ≡ RadioAnswer.Due
+  pub same_context_lem : (content : List ℕ) → Holds 4 content options → s.context ≡ Context.Given (record { 0 = big_endian content }) (length content) → answer ≡ RadioAnswer.Accepted
+  pub context_kept : (content : List ℕ) → Holds 4 content options → s'.context ≡ Context.Given (record { 0 = big_endian content }) (length content)
   -- "Link Instance is kept when given."
-  pub instance-kept : (content : List ℕ) → Holds 3 content options → s'.instance ≡ Instance.Given (record { 0 = bigEndian content }) (length content)
-  pub instance-stays : ((content : List ℕ) → Holds 3 content options → ⊥) → s'.instance ≡ s.instance
+  pub instance_kept : (content : List ℕ) → Holds 3 content options → s'.instance ≡ Instance.Given (record { 0 = big_endian content }) (length content)
+  pub instance_stays : ((content : List ℕ) → Holds 3 content options → ⊥) → s'.instance ≡ s.instance
 
 -- ---- a short life
 -- a control message of these options, handed in and accepted
@@ -39,20 +39,20 @@ pub record HandedIn (options : Options) (w : World) (answer : RadioAnswer) (w' :
   pub time : ℕ
   pub datagram : List ℕ
   pub octets : Octets datagram
-  pub fits : stateFits w.state ≡ true
+  pub fits : state_fits w.state ≡ true
   pub timely : w.state.pacer.clock ≤ time
   pub accepts : Accepts planes.Control ends.Radio w.state.datalink.id datagram options
-  pub performed : Performed (radio time datagram) w (ofRadio answer) w'
+  pub performed : Performed (radio time datagram) w (of_radio answer) w'
 
 -- any calls of which none is an accepted control message: refused ones, radio data messages and silences among them
 pub record Between (w w' : World) : Type 0 where
   pub calls : List Call
   pub replies : List EndpointReply
   pub performed : Ran w calls replies w'
-  pub no-control : acceptedAll calls w ≡ []
+  pub no_control : accepted_all calls w ≡ []
 
 -- Document 02 §2: after a control message without a Context, whatever was kept before it, one comes with a Context, and then one with the same.
 pub record GapAnswers (without again once_more : RadioAnswer) : Type 0 where
-  pub none-due : without ≡ RadioAnswer.Accepted
-  pub due-again : again ≡ RadioAnswer.Due
-  pub not-twice : once_more ≡ RadioAnswer.Accepted
+  pub none_due : without ≡ RadioAnswer.Accepted
+  pub due_again : again ≡ RadioAnswer.Due
+  pub not_twice : once_more ≡ RadioAnswer.Accepted

@@ -19,8 +19,8 @@ use Rattle.meaning.specs.declared.message.Status.{Status}
 use Rattle.meaning.specs.declared.message.Sequence.{Sequence}
 use Rattle.meaning.specs.declared.message.Window.{Window}
 use Rattle.meaning.specs.declared.message.Control.{Control}
-use Rattle.meaning.specs.Kinds.{among, mayHold, mustHold, CHANNEL-STATUS}
-use Rattle.meaning.specs.Cells.{noStatus, noSequence, noWindow}
+use Rattle.meaning.specs.Kinds.{among, may_hold, must_hold, CHANNEL-STATUS}
+use Rattle.meaning.specs.Cells.{no_status, no_sequence, no_window}
 use Rattle.meaning.specs.contracts.message.Window as windows
 use Rattle.meaning.proofs.Amongst.{amongst, no_key}
 use Rattle.read_option.specs.declared.answer.Item.{Item}
@@ -29,23 +29,23 @@ use Rattle.read_option.specs.declared.answer.OptionAnswer.TheVariants.{Took, Ref
 use Rattle.read_option.specs.Items.{item_of, answer_of, InTable, Placed, number_of}
 use Rattle.read_option.specs.contracts.answer.Item.{the_type}
 use Rattle.read_rules.specs.Judging.{Step, next, stop, judge}
-use Rattle.read_rules.specs.Sorts.{finishOf, rulesOf, unstatedDatalink, isOurs}
-use Rattle.read_rules.proofs.Taking.{Seats, Adding, Framed, contentAt, faulty, parting}
+use Rattle.read_rules.specs.Sorts.{finish_of, rules_of, unstated_datalink, is_ours}
+use Rattle.read_rules.proofs.Taking.{Seats, Adding, Framed, content_at, faulty, parting}
 use Rattle.read_control.specs.declared.ControlReading.{ControlReading}
-use Rattle.read_control.specs.Message.{unstatedInstance, unstatedContext, unstatedStatus, unstatedSequence, unstatedWindow, blankControl, controlUnstated, controlState, controlSort, controlAccepted, controlRefused}
+use Rattle.read_control.specs.Message.{unstated_instance, unstated_context, unstated_status, unstated_sequence, unstated_window, blank_control, control_unstated, control_state, control_sort, control_accepted, control_refused}
 
 -- whether nothing is stated yet where an item belongs
-abbrev pub seatUnstated : Item → Control → Bool
-seatUnstated Item.Skipped m = true
-seatUnstated (Item.Datalink d) m = unstatedDatalink m.datalink
-seatUnstated (Item.Instance v n) m = unstatedInstance m.instance
-seatUnstated (Item.Context b n) m = unstatedContext m.context
-seatUnstated (Item.Status channel s) m = unstatedStatus (get_or m.statuses channel noStatus).status
-seatUnstated (Item.Sequence channel s) m = unstatedSequence (get_or m.sequences channel noSequence).sequence
-seatUnstated (Item.Window channel w) m = unstatedWindow (get_or m.windows channel noWindow).window
-seatUnstated (Item.Channel channel) m = true
-seatUnstated (Item.Expiration t) m = true
-seatUnstated Item.Packet m = true
+abbrev pub seat_unstated : Item → Control → Bool
+seat_unstated Item.Skipped m = true
+seat_unstated (Item.Datalink d) m = unstated_datalink m.datalink
+seat_unstated (Item.Instance v n) m = unstated_instance m.instance
+seat_unstated (Item.Context b n) m = unstated_context m.context
+seat_unstated (Item.Status channel s) m = unstated_status (get_or m.statuses channel no_status).status
+seat_unstated (Item.Sequence channel s) m = unstated_sequence (get_or m.sequences channel no_sequence).sequence
+seat_unstated (Item.Window channel w) m = unstated_window (get_or m.windows channel no_window).window
+seat_unstated (Item.Channel channel) m = true
+seat_unstated (Item.Expiration t) m = true
+seat_unstated Item.Packet m = true
 
 -- a message with an item in its seat; what only a data message states has none
 abbrev pub seated : Item → Control → Control
@@ -61,17 +61,17 @@ seated (Item.Expiration t) m = m
 seated Item.Packet m = m
 
 abbrev pub add : Item → Control → Step Control
-add item m = cond (seatUnstated item m) (next (seated item m)) (stop REPEATED)
+add item m = cond (seat_unstated item m) (next (seated item m)) (stop REPEATED)
 
 -- an option that a control message may hold goes to the seat of its item
-seats : (e end : End) (id : DatalinkId) (m : Control) (kind : ℕ) → among kind (mayHold Plane.Control e) ≡ true → Seats (controlSort end id) add m kind
-unfolding controlUnstated controlState item_of
-seats End.Ips end id m = amongst (Seats (controlSort end id) add m) (mayHold Plane.Control End.Ips) ((λ content. refl), ((λ content. refl), tt))
+seats : (e end : End) (id : DatalinkId) (m : Control) (kind : ℕ) → among kind (may_hold Plane.Control e) ≡ true → Seats (control_sort end id) add m kind
+unfolding control_unstated control_state item_of
+seats End.Ips end id m = amongst (Seats (control_sort end id) add m) (may_hold Plane.Control End.Ips) ((λ content. refl), ((λ content. refl), tt))
 seats End.Radio end id m =
-    amongst (Seats (controlSort end id) add m) (mayHold Plane.Control End.Radio)
+    amongst (Seats (control_sort end id) add m) (may_hold Plane.Control End.Radio)
     ((λ content. refl), ((λ content. refl), ((λ content. refl), ((λ content. refl), ((λ content. refl), tt)))))
 
-pub adding : (end : End) (id : DatalinkId) → Adding (controlSort end id) add
+pub adding : (end : End) (id : DatalinkId) → Adding (control_sort end id) add
 adding end id = record { skips = λ m. refl; seats = seats end end id }
 
 twice : {A : Type 0} (b c : Bool) (x y : A) → cond (cond b true (cond c true false)) x y ≡ cond b x (cond c x y)
@@ -81,36 +81,36 @@ twice false false x y = refl
 
 -- 9 by the Channel Status of channel 0
 abbrev pub lacking : End → Control → Bool
-lacking end m = cond (among CHANNEL-STATUS (mustHold Plane.Control end)) (unstatedStatus (get_or m.statuses 0 noStatus).status) false
+lacking end m = cond (among CHANNEL-STATUS (must_hold Plane.Control end)) (unstated_status (get_or m.statuses 0 no_status).status) false
 
 -- the tests on the whole as the reader makes them: 9 by the Datalink Identifier, 9 by that status, then 11
-abbrev pub byTests : {A : Type 0} → (missing lacks ours : Bool) → A → A → A → A
-byTests missing lacks ours nine none eleven = cond missing nine (cond lacks nine (cond ours none eleven))
+abbrev pub by_tests : {A : Type 0} → (missing lacks ours : Bool) → A → A → A → A
+by_tests missing lacks ours nine none eleven = cond missing nine (cond lacks nine (cond ours none eleven))
 
-finish-is : (end : End) (id : DatalinkId) (place : ℕ) (m : Control) → finishOf (controlSort end id) place m
-    ≡ byTests (unstatedDatalink m.datalink) (lacking end m) (isOurs id m.datalink) (controlRefused MISSING place) (controlAccepted m) (controlRefused OTHER-DATALINK place)
-unfolding finishOf controlUnstated
-finish-is End.Ips id place m = twice (unstatedDatalink m.datalink) false _ _
-finish-is End.Radio id place m = twice (unstatedDatalink m.datalink) (unstatedStatus (get_or m.statuses 0 noStatus).status) _ _
+finish_is : (end : End) (id : DatalinkId) (place : ℕ) (m : Control) → finish_of (control_sort end id) place m
+    ≡ by_tests (unstated_datalink m.datalink) (lacking end m) (is_ours id m.datalink) (control_refused MISSING place) (control_accepted m) (control_refused OTHER-DATALINK place)
+unfolding finish_of control_unstated
+finish_is End.Ips id place m = twice (unstated_datalink m.datalink) false _ _
+finish_is End.Radio id place m = twice (unstated_datalink m.datalink) (unstated_status (get_or m.statuses 0 no_status).status) _ _
 
 -- the number of their refusal, or 0, tells the answer
 module _ (end : End) (id : DatalinkId) (place : ℕ) (m : Control) {number : ℕ}
-    (f : number ≡ byTests (unstatedDatalink m.datalink) (lacking end m) (isOurs id m.datalink) MISSING 0 OTHER-DATALINK) where
-  pub refuses-whole : (number ≡ 0 → ⊥) → controlRefused number place ≡ finishOf (controlSort end id) place m
-  refuses-whole some = rw finish-is (go (unstatedDatalink m.datalink) (lacking end m) (isOurs id m.datalink) f)
+    (f : number ≡ by_tests (unstated_datalink m.datalink) (lacking end m) (is_ours id m.datalink) MISSING 0 OTHER-DATALINK) where
+  pub refuses_whole : (number ≡ 0 → ⊥) → control_refused number place ≡ finish_of (control_sort end id) place m
+  refuses_whole some = rw finish_is (go (unstated_datalink m.datalink) (lacking end m) (is_ours id m.datalink) f)
     where
-      go : (a b d : Bool) → number ≡ byTests a b d MISSING 0 OTHER-DATALINK
-          → controlRefused number place ≡ byTests a b d (controlRefused MISSING place) (controlAccepted m) (controlRefused OTHER-DATALINK place)
+      go : (a b d : Bool) → number ≡ by_tests a b d MISSING 0 OTHER-DATALINK
+          → control_refused number place ≡ by_tests a b d (control_refused MISSING place) (control_accepted m) (control_refused OTHER-DATALINK place)
       go true b d e = rw e
       go false true d e = rw e
       go false false true e = absurd (some e)
       go false false false e = rw e
 
-  pub accepts-whole : number ≡ 0 → controlAccepted m ≡ finishOf (controlSort end id) place m
-  accepts-whole none = rw finish-is (go (unstatedDatalink m.datalink) (lacking end m) (isOurs id m.datalink) f)
+  pub accepts_whole : number ≡ 0 → control_accepted m ≡ finish_of (control_sort end id) place m
+  accepts_whole none = rw finish_is (go (unstated_datalink m.datalink) (lacking end m) (is_ours id m.datalink) f)
     where
-      go : (a b d : Bool) → number ≡ byTests a b d MISSING 0 OTHER-DATALINK
-          → controlAccepted m ≡ byTests a b d (controlRefused MISSING place) (controlAccepted m) (controlRefused OTHER-DATALINK place)
+      go : (a b d : Bool) → number ≡ by_tests a b d MISSING 0 OTHER-DATALINK
+          → control_accepted m ≡ by_tests a b d (control_refused MISSING place) (control_accepted m) (control_refused OTHER-DATALINK place)
       go true b d e = absurd (omega arith)
       go false true d e = absurd (omega arith)
       go false false true e = refl
@@ -120,25 +120,25 @@ module _ (end : End) (id : DatalinkId) (place : ℕ) (m : Control) {number : ℕ
 
 -- what reading all the options gives
 abbrev pub whole_of : End → DatalinkId → List ℕ → ControlReading
-whole_of end id s = judge (rulesOf (controlSort end id)) (split (drop 1 s)) 1 blankControl
+whole_of end id s = judge (rules_of (control_sort end id)) (split (drop 1 s)) 1 blank_control
 
 -- at a place, with so much stated, the rest decides the whole
 abbrev pub Reached : End → DatalinkId → List ℕ → ℕ → Control → Type 0
-Reached end id s at m = whole_of end id s ≡ judge (rulesOf (controlSort end id)) (split (drop at s)) at m
+Reached end id s at m = whole_of end id s ≡ judge (rules_of (control_sort end id)) (split (drop at s)) at m
 
 -- the option at a place states an item: what an arm of the turn cites
 pub record Stating (end : End) (id : DatalinkId) (s : List ℕ) (at n : ℕ) (m : Control) (item : Item) : Type 0 where
   pub in_table : InTable item
   pub less : length s - (at + 3 + n) < length s - at
-  pub taken : seatUnstated item m ≡ true → Reached end id s (at + 3 + n) (seated item m)
-  pub repeated : seatUnstated item m ≡ false → controlRefused REPEATED at ≡ whole_of end id s
+  pub taken : seat_unstated item m ≡ true → Reached end id s (at + 3 + n) (seated item m)
+  pub repeated : seat_unstated item m ≡ false → control_refused REPEATED at ≡ whole_of end id s
 
-module _ {end : End} {id : DatalinkId} {s : List ℕ} {at kind n : ℕ} {m : Control} (f : Framed (controlSort end id) (whole_of end id s) s at m kind n) where
-  pub refusing : {answer : OptionAnswer} {number : ℕ} → answer ≡ answer_of Plane.Control end kind (contentAt s at n) → answer ≡ Refused number
-      → controlRefused (number_of answer) at ≡ whole_of end id s
+module _ {end : End} {id : DatalinkId} {s : List ℕ} {at kind n : ℕ} {m : Control} (f : Framed (control_sort end id) (whole_of end id s) s at m kind n) where
+  pub refusing : {answer : OptionAnswer} {number : ℕ} → answer ≡ answer_of Plane.Control end kind (content_at s at n) → answer ≡ Refused number
+      → control_refused (number_of answer) at ≡ whole_of end id s
   refusing a e = rw e (sym (faulty f (adding end id) refl (sym e ∙ a)))
 
-  pub stating : {answer : OptionAnswer} {item : Item} → answer ≡ answer_of Plane.Control end kind (contentAt s at n) → Placed answer → answer ≡ Took item
+  pub stating : {answer : OptionAnswer} {item : Item} → answer ≡ answer_of Plane.Control end kind (content_at s at n) → Placed answer → answer ≡ Took item
       → Stating end id s at n m item
   stating {item} a p e =
       let parts = parting f (adding end id) {item = item} refl (sym e ∙ a) in
@@ -164,11 +164,11 @@ module _ {end : End} {id : DatalinkId} {s : List ℕ} {at n : ℕ} {m : Control}
   passing Item.Packet h x = x.taken refl
 
   -- a Flow Window where one stands, with the field or without
-  pub window-repeated : {channel : ℕ} {v : Window} → Stating end id s at n m (Item.Window channel v)
-      → OneOf (1 ∷ 2 ∷ []) (tag_of windows.the_type (get_or m.windows channel noWindow).window) → controlRefused REPEATED at ≡ whole_of end id s
-  window-repeated {channel} x h = x.repeated (there (get_or m.windows channel noWindow).window h)
+  pub window_repeated : {channel : ℕ} {v : Window} → Stating end id s at n m (Item.Window channel v)
+      → OneOf (1 ∷ 2 ∷ []) (tag_of windows.the_type (get_or m.windows channel no_window).window) → control_refused REPEATED at ≡ whole_of end id s
+  window_repeated {channel} x h = x.repeated (there (get_or m.windows channel no_window).window h)
     where
-      there : (w : Window) → OneOf (1 ∷ 2 ∷ []) (tag_of windows.the_type w) → unstatedWindow w ≡ false
+      there : (w : Window) → OneOf (1 ∷ 2 ∷ []) (tag_of windows.the_type w) → unstated_window w ≡ false
       there Window.Absent k = no_key (1 ∷ 2 ∷ []) 0 refl k
       there Window.Empty k = refl
       there (Window.Given v) k = refl

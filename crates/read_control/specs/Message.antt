@@ -11,76 +11,76 @@ use Rattle.meaning.specs.declared.message.Sequence.{Sequence}
 use Rattle.meaning.specs.declared.message.Window.{Window}
 use Rattle.meaning.specs.declared.message.Control.{Control}
 use Rattle.meaning.specs.Kinds.{DATALINK-IDENTIFIER, LINK-INSTANCE, DATALINK-CONTEXT, CHANNEL-STATUS, FLOW-SEQUENCE}
-use Rattle.meaning.specs.Cells.{noStatus, noSequence, noWindow}
-use Rattle.read_option.specs.Stated.{nothing, datalinkFrom, instanceFrom, contextFrom, statusFrom, sequenceFrom, windowFrom, controlStated}
+use Rattle.meaning.specs.Cells.{no_status, no_sequence, no_window}
+use Rattle.read_option.specs.Stated.{nothing, datalink_from, instance_from, context_from, status_from, sequence_from, window_from, control_stated}
 use Rattle.read_rules.specs.declared.answer.Verdict.{Verdict}
-use Rattle.read_rules.specs.Sorts.{Sort, isOurs, unstatedDatalink}
+use Rattle.read_rules.specs.Sorts.{Sort, is_ours, unstated_datalink}
 use Rattle.read_control.specs.declared.ControlReading.{ControlReading}
 
-abbrev pub unstatedInstance : Instance → Bool
-unstatedInstance Instance.Absent = true
-unstatedInstance (Instance.Given v n) = false
+abbrev pub unstated_instance : Instance → Bool
+unstated_instance Instance.Absent = true
+unstated_instance (Instance.Given v n) = false
 
-abbrev pub unstatedContext : Context → Bool
-unstatedContext Context.Absent = true
-unstatedContext (Context.Given b n) = false
+abbrev pub unstated_context : Context → Bool
+unstated_context Context.Absent = true
+unstated_context (Context.Given b n) = false
 
-abbrev pub unstatedStatus : Status → Bool
-unstatedStatus Status.Absent = true
-unstatedStatus (Status.Given s) = false
+abbrev pub unstated_status : Status → Bool
+unstated_status Status.Absent = true
+unstated_status (Status.Given s) = false
 
-abbrev pub unstatedSequence : Sequence → Bool
-unstatedSequence Sequence.Absent = true
-unstatedSequence (Sequence.Given s) = false
+abbrev pub unstated_sequence : Sequence → Bool
+unstated_sequence Sequence.Absent = true
+unstated_sequence (Sequence.Given s) = false
 
-abbrev pub unstatedWindow : Window → Bool
-unstatedWindow Window.Absent = true
-unstatedWindow Window.Empty = false
-unstatedWindow (Window.Given w) = false
+abbrev pub unstated_window : Window → Bool
+unstated_window Window.Absent = true
+unstated_window Window.Empty = false
+unstated_window (Window.Given w) = false
 
 -- nothing is stated for a type and a channel
-unfoldable pub controlUnstated : ℕ → ℕ → Control → Bool
-controlUnstated kind channel m =
-    cond (eqb kind DATALINK-IDENTIFIER) (unstatedDatalink m.datalink)
-    (cond (eqb kind LINK-INSTANCE) (unstatedInstance m.instance)
-    (cond (eqb kind DATALINK-CONTEXT) (unstatedContext m.context)
-    (cond (eqb kind CHANNEL-STATUS) (unstatedStatus (get_or m.statuses channel noStatus).status)
-    (cond (eqb kind FLOW-SEQUENCE) (unstatedSequence (get_or m.sequences channel noSequence).sequence)
-    (unstatedWindow (get_or m.windows channel noWindow).window)))))
+unfoldable pub control_unstated : ℕ → ℕ → Control → Bool
+control_unstated kind channel m =
+    cond (eqb kind DATALINK-IDENTIFIER) (unstated_datalink m.datalink)
+    (cond (eqb kind LINK-INSTANCE) (unstated_instance m.instance)
+    (cond (eqb kind DATALINK-CONTEXT) (unstated_context m.context)
+    (cond (eqb kind CHANNEL-STATUS) (unstated_status (get_or m.statuses channel no_status).status)
+    (cond (eqb kind FLOW-SEQUENCE) (unstated_sequence (get_or m.sequences channel no_sequence).sequence)
+    (unstated_window (get_or m.windows channel no_window).window)))))
 
 -- what is stated with one content more
-unfoldable pub controlState : ℕ → ℕ → List ℕ → Control → Control
-controlState kind channel content m =
-    cond (eqb kind DATALINK-IDENTIFIER) (record { datalink = datalinkFrom (some content); instance = m.instance; context = m.context; statuses = m.statuses; sequences = m.sequences; windows = m.windows })
-    (cond (eqb kind LINK-INSTANCE) (record { datalink = m.datalink; instance = instanceFrom (some content); context = m.context; statuses = m.statuses; sequences = m.sequences; windows = m.windows })
-    (cond (eqb kind DATALINK-CONTEXT) (record { datalink = m.datalink; instance = m.instance; context = contextFrom (some content); statuses = m.statuses; sequences = m.sequences; windows = m.windows })
-    (cond (eqb kind CHANNEL-STATUS) (record { datalink = m.datalink; instance = m.instance; context = m.context; statuses = set m.statuses channel (record { status = statusFrom (some content) }); sequences = m.sequences; windows = m.windows })
-    (cond (eqb kind FLOW-SEQUENCE) (record { datalink = m.datalink; instance = m.instance; context = m.context; statuses = m.statuses; sequences = set m.sequences channel (record { sequence = sequenceFrom (some content) }); windows = m.windows })
-    (record { datalink = m.datalink; instance = m.instance; context = m.context; statuses = m.statuses; sequences = m.sequences; windows = set m.windows channel (record { window = windowFrom (some content) }) })))))
+unfoldable pub control_state : ℕ → ℕ → List ℕ → Control → Control
+control_state kind channel content m =
+    cond (eqb kind DATALINK-IDENTIFIER) (record { datalink = datalink_from (some content); instance = m.instance; context = m.context; statuses = m.statuses; sequences = m.sequences; windows = m.windows })
+    (cond (eqb kind LINK-INSTANCE) (record { datalink = m.datalink; instance = instance_from (some content); context = m.context; statuses = m.statuses; sequences = m.sequences; windows = m.windows })
+    (cond (eqb kind DATALINK-CONTEXT) (record { datalink = m.datalink; instance = m.instance; context = context_from (some content); statuses = m.statuses; sequences = m.sequences; windows = m.windows })
+    (cond (eqb kind CHANNEL-STATUS) (record { datalink = m.datalink; instance = m.instance; context = m.context; statuses = set m.statuses channel (record { status = status_from (some content) }); sequences = m.sequences; windows = m.windows })
+    (cond (eqb kind FLOW-SEQUENCE) (record { datalink = m.datalink; instance = m.instance; context = m.context; statuses = m.statuses; sequences = set m.sequences channel (record { sequence = sequence_from (some content) }); windows = m.windows })
+    (record { datalink = m.datalink; instance = m.instance; context = m.context; statuses = m.statuses; sequences = m.sequences; windows = set m.windows channel (record { window = window_from (some content) }) })))))
 
-unfoldable pub blankControl : Control
-blankControl = controlStated nothing
+unfoldable pub blank_control : Control
+blank_control = control_stated nothing
 
-unfoldable pub controlRefused : ℕ → ℕ → ControlReading
-controlRefused number place = record { verdict = Verdict.Refused (record { number = number; place = place }); message = blankControl }
+unfoldable pub control_refused : ℕ → ℕ → ControlReading
+control_refused number place = record { verdict = Verdict.Refused (record { number = number; place = place }); message = blank_control }
 
-unfoldable pub controlAccepted : Control → ControlReading
-controlAccepted m = record { verdict = Verdict.Accepted; message = m }
+unfoldable pub control_accepted : Control → ControlReading
+control_accepted m = record { verdict = Verdict.Accepted; message = m }
 
-unfoldable pub controlOther : ControlReading
-controlOther = record { verdict = Verdict.OtherPlane; message = blankControl }
+unfoldable pub control_other : ControlReading
+control_other = record { verdict = Verdict.OtherPlane; message = blank_control }
 
-abbrev pub controlSort : End → DatalinkId → Sort Control ControlReading
-controlSort end id = record {
+abbrev pub control_sort : End → DatalinkId → Sort Control ControlReading
+control_sort end id = record {
   plane = planes.Control;
   end = end;
-  blank = blankControl;
+  blank = blank_control;
   closed = λ m. false;
-  unstated = controlUnstated;
-  state = controlState;
+  unstated = control_unstated;
+  state = control_state;
   paired = λ m. true;
-  ours = λ m. isOurs id m.datalink;
-  accept = controlAccepted;
-  refuse = controlRefused;
-  other = controlOther;
+  ours = λ m. is_ours id m.datalink;
+  accept = control_accepted;
+  refuse = control_refused;
+  other = control_other;
 }

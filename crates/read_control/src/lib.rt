@@ -3,10 +3,10 @@ ghost use Rattle.std.specs.Prelude.{◌≡◌, false, cond, drop};
 ghost use Rattle.wire.specs.Options.{split};
 ghost use Rattle.quantity.specs.Refusals.{MISSING, OTHER-DATALINK};
 ghost use Rattle.meaning.specs.declared.message.Plane.{Plane};
-ghost use Rattle.meaning.specs.Kinds.{among, mustHold, CHANNEL-STATUS};
+ghost use Rattle.meaning.specs.Kinds.{among, must_hold, CHANNEL-STATUS};
 ghost use Rattle.read_rules.specs.Judging.{judge};
-ghost use Rattle.read_rules.specs.Sorts.{isOurs, rulesOf, unstatedDatalink};
-ghost use Rattle.read_control.specs.Message.{unstatedStatus, blankControl, controlRefused, controlSort};
+ghost use Rattle.read_rules.specs.Sorts.{is_ours, rules_of, unstated_datalink};
+ghost use Rattle.read_control.specs.Message.{unstated_status, blank_control, control_refused, control_sort};
 
 use meaning::message::{
     Context, Control, Datalink, End, Instance, Sequence, SequenceCell, Status, StatusCell, Window,
@@ -29,7 +29,7 @@ pub struct ControlReading {
 
 // A message that states nothing.
 pub fn blank() -> Control
-    ensures { result ≡ blankControl }
+    ensures { result ≡ blank_control }
 {
     Control {
         datalink: Datalink::Absent,
@@ -49,7 +49,7 @@ pub fn blank() -> Control
 
 // A refused message states nothing.
 pub fn refused(number: u8, place: usize) -> ControlReading
-    ensures { result ≡ controlRefused number place }
+    ensures { result ≡ control_refused number place }
 {
     ControlReading {
         verdict: Verdict::Refused(Refusal { number, place }),
@@ -59,7 +59,7 @@ pub fn refused(number: u8, place: usize) -> ControlReading
 
 // Whether a message of this end must hold a Channel Status for channel 0, and doesn't.
 fn lacks_status(end: End, status: Status) -> bool
-    ensures { result ≡ cond (among CHANNEL-STATUS (mustHold Plane.Control end)) (unstatedStatus status) false }
+    ensures { result ≡ cond (among CHANNEL-STATUS (must_hold Plane.Control end)) (unstated_status status) false }
 {
     match end {
         End::Ips => false,
@@ -72,7 +72,7 @@ fn lacks_status(end: End, status: Status) -> bool
 
 // The tests on the whole, 9, then 11: the number of the refusal, or 0.
 fn fault(end: End, id: DatalinkId, datalink: Datalink, status: Status) -> u8
-    ensures { result ≡ cond (unstatedDatalink datalink) MISSING (cond (cond (among CHANNEL-STATUS (mustHold Plane.Control end)) (unstatedStatus status) false) MISSING (cond (isOurs id datalink) 0 OTHER-DATALINK)) }
+    ensures { result ≡ cond (unstated_datalink datalink) MISSING (cond (cond (among CHANNEL-STATUS (must_hold Plane.Control end)) (unstated_status status) false) MISSING (cond (is_ours id datalink) 0 OTHER-DATALINK)) }
 {
     let Datalink::Given(stated) = datalink else {
         return MISSING;
@@ -106,7 +106,7 @@ fn window_cell(window: Window) -> WindowCell
 // The options one after another, from the byte behind the header on. What they state stands in locals: a call that took the tables would copy
 // them at each option.
 pub fn options(datagram: &[u8], end: End, id: DatalinkId) -> ControlReading
-    ensures { result ≡ judge (rulesOf (controlSort end id)) (split (drop 1 datagram.now)) 1 blankControl }
+    ensures { result ≡ judge (rules_of (control_sort end id)) (split (drop 1 datagram.now)) 1 blank_control }
 {
     let mut datalink = Datalink::Absent;
     let mut instance = Instance::Absent;

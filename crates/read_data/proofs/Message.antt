@@ -18,17 +18,17 @@ use Rattle.meaning.specs.declared.message.Datalink.{Datalink}
 use Rattle.meaning.specs.declared.message.Channel.{Channel}
 use Rattle.meaning.specs.declared.message.Expiration.{Expiration}
 use Rattle.meaning.specs.declared.message.Counted.{Counted}
-use Rattle.meaning.specs.Kinds.{among, known, lengthListed, valueListed, mayHold, PACKET-DATA}
+use Rattle.meaning.specs.Kinds.{among, known, length_listed, value_listed, may_hold, PACKET-DATA}
 use Rattle.meaning.proofs.Amongst.{amongst}
 use Rattle.read_option.specs.declared.answer.Item.{Item}
 use Rattle.read_option.specs.declared.answer.OptionAnswer.{OptionAnswer}
 use Rattle.read_option.specs.declared.answer.OptionAnswer.TheVariants.{Took, Refused}
-use Rattle.read_option.specs.Items.{item_of, statedOf, answer_of}
+use Rattle.read_option.specs.Items.{item_of, stated_of, answer_of}
 use Rattle.read_option.specs.contracts.answer.Item.{enum}
 use Rattle.read_rules.specs.Judging.{Step, next, stop}
-use Rattle.read_rules.specs.Sorts.{unstatedDatalink}
+use Rattle.read_rules.specs.Sorts.{unstated_datalink}
 use Rattle.read_rules.proofs.Taking.{Seats, Adding}
-use Rattle.read_data.specs.Message.{Gathered, unstatedCounted, unstatedChannel, unstatedExpiration, dataUnstated, dataState, dataSort}
+use Rattle.read_data.specs.Message.{Gathered, unstated_counted, unstated_channel, unstated_expiration, data_unstated, data_state, data_sort}
 
 -- what the code keeps of a message, each part in a variable of its own
 abbrev pub gathered : Datalink → Counted → Channel → Expiration → Bool → Gathered
@@ -41,10 +41,10 @@ seat free g = cond free (next g) (stop REPEATED)
 
 -- the items of control messages add nothing: number 6 refuses them before
 abbrev pub add : Item → Gathered → Step Gathered
-add (Item.Datalink d) g = let m = g.message in seat (unstatedDatalink m.datalink) (gathered (Datalink.Given d) m.sequence m.channel m.expiration g.packet)
-add (Item.Sequence n s) g = let m = g.message in seat (unstatedCounted m.sequence) (gathered m.datalink (Counted.Given n s) m.channel m.expiration g.packet)
-add (Item.Channel n) g = let m = g.message in seat (unstatedChannel m.channel) (gathered m.datalink m.sequence (Channel.Given n) m.expiration g.packet)
-add (Item.Expiration t) g = let m = g.message in seat (unstatedExpiration m.expiration) (gathered m.datalink m.sequence m.channel (Expiration.Given t) g.packet)
+add (Item.Datalink d) g = let m = g.message in seat (unstated_datalink m.datalink) (gathered (Datalink.Given d) m.sequence m.channel m.expiration g.packet)
+add (Item.Sequence n s) g = let m = g.message in seat (unstated_counted m.sequence) (gathered m.datalink (Counted.Given n s) m.channel m.expiration g.packet)
+add (Item.Channel n) g = let m = g.message in seat (unstated_channel m.channel) (gathered m.datalink m.sequence (Channel.Given n) m.expiration g.packet)
+add (Item.Expiration t) g = let m = g.message in seat (unstated_expiration m.expiration) (gathered m.datalink m.sequence m.channel (Expiration.Given t) g.packet)
 add Item.Packet g = seat (not g.packet) (record { message = g.message; packet = true })
 add Item.Skipped g = next g
 add (Item.Instance v n) g = next g
@@ -53,15 +53,15 @@ add (Item.Status n s) g = next g
 add (Item.Window n w) g = next g
 
 -- what a radio data message may hold, an IPS data message may
-held : (end : End) (kind : ℕ) → among kind (mayHold Data end) ≡ true → among kind (mayHold Data Ips) ≡ true
+held : (end : End) (kind : ℕ) → among kind (may_hold Data end) ≡ true → among kind (may_hold Data Ips) ≡ true
 held Ips kind e = e
-held Radio kind e = amongst (λ k. among k (mayHold Data Ips) ≡ true) (mayHold Data Radio) (refl, (refl, (refl, tt))) kind e
+held Radio kind e = amongst (λ k. among k (may_hold Data Ips) ≡ true) (may_hold Data Radio) (refl, (refl, (refl, tt))) kind e
 
-pub adding : (end : End) (id : DatalinkId) → Adding (dataSort end id) add
-unfolding item_of dataUnstated dataState
+pub adding : (end : End) (id : DatalinkId) → Adding (data_sort end id) add
+unfolding item_of data_unstated data_state
 adding end id = record {
   skips = λ g. refl;
-  seats = λ g kind e. amongst (Seats (dataSort end id) add g) (mayHold Data Ips)
+  seats = λ g kind e. amongst (Seats (data_sort end id) add g) (may_hold Data Ips)
       ((λ content. refl), ((λ content. refl), ((λ content. refl), ((λ content. refl), ((λ content. refl), tt))))) kind (held end kind e);
 }
 
@@ -83,57 +83,57 @@ passed_over Item.Packet g h = absurd (miss seatless 9 tt h)
 
 -- ---- which option holds the packet
 
-abbrev pub isPacket : Item → Bool
-isPacket Item.Packet = true
-isPacket Item.Skipped = false
-isPacket (Item.Datalink d) = false
-isPacket (Item.Instance v n) = false
-isPacket (Item.Context b n) = false
-isPacket (Item.Status n s) = false
-isPacket (Item.Sequence n s) = false
-isPacket (Item.Window n w) = false
-isPacket (Item.Channel n) = false
-isPacket (Item.Expiration t) = false
+abbrev pub is_packet : Item → Bool
+is_packet Item.Packet = true
+is_packet Item.Skipped = false
+is_packet (Item.Datalink d) = false
+is_packet (Item.Instance v n) = false
+is_packet (Item.Context b n) = false
+is_packet (Item.Status n s) = false
+is_packet (Item.Sequence n s) = false
+is_packet (Item.Window n w) = false
+is_packet (Item.Channel n) = false
+is_packet (Item.Expiration t) = false
 
-pub no-packet : (item : Item) → OneOf seatless (tag_of (declared enum) item) → isPacket item ≡ false
-no-packet Item.Skipped h = refl
-no-packet (Item.Instance v n) h = refl
-no-packet (Item.Context b n) h = refl
-no-packet (Item.Status n s) h = refl
-no-packet (Item.Window n w) h = refl
-no-packet (Item.Datalink d) h = refl
-no-packet (Item.Sequence n s) h = refl
-no-packet (Item.Channel n) h = refl
-no-packet (Item.Expiration t) h = refl
-no-packet Item.Packet h = absurd (miss seatless 9 tt h)
+pub no_packet : (item : Item) → OneOf seatless (tag_of (declared enum) item) → is_packet item ≡ false
+no_packet Item.Skipped h = refl
+no_packet (Item.Instance v n) h = refl
+no_packet (Item.Context b n) h = refl
+no_packet (Item.Status n s) h = refl
+no_packet (Item.Window n w) h = refl
+no_packet (Item.Datalink d) h = refl
+no_packet (Item.Sequence n s) h = refl
+no_packet (Item.Channel n) h = refl
+no_packet (Item.Expiration t) h = refl
+no_packet Item.Packet h = absurd (miss seatless 9 tt h)
 
-item-told : (end : End) (kind : ℕ) (content : List ℕ) → among kind (mayHold Data end) ≡ true → isPacket (item_of kind content) ≡ eqb kind PACKET-DATA
+item_told : (end : End) (kind : ℕ) (content : List ℕ) → among kind (may_hold Data end) ≡ true → is_packet (item_of kind content) ≡ eqb kind PACKET-DATA
 unfolding item_of
-item-told end kind content e = amongst (λ k. isPacket (item_of k content) ≡ eqb k PACKET-DATA) (mayHold Data Ips) (refl, (refl, (refl, (refl, (refl, tt))))) kind (held end kind e)
+item_told end kind content e = amongst (λ k. is_packet (item_of k content) ≡ eqb k PACKET-DATA) (may_hold Data Ips) (refl, (refl, (refl, (refl, (refl, tt))))) kind (held end kind e)
 
-unknown-told : (kind : ℕ) → among kind known ≡ false → false ≡ eqb kind PACKET-DATA
-unknown-told kind e = go (eqb kind PACKET-DATA) refl
+unknown_told : (kind : ℕ) → among kind known ≡ false → false ≡ eqb kind PACKET-DATA
+unknown_told kind e = go (eqb kind PACKET-DATA) refl
   where
     go : (b : Bool) → eqb kind PACKET-DATA ≡ b → false ≡ b
     go false p = refl
     go true p = let q : true ≡ false = rw (eqb-true kind PACKET-DATA p) at e in clash (sym q)
 
 abbrev Told : Bool → OptionAnswer → Type 0
-Told b (Took item) = isPacket item ≡ b
+Told b (Took item) = is_packet item ≡ b
 Told b (Refused number) = Unit {0}
 
-answer-told : (end : End) (kind : ℕ) (content : List ℕ) → Told (eqb kind PACKET-DATA) (answer_of Data end kind content)
-unfolding answer_of statedOf
-answer-told end kind content =
-    go (among kind known) refl (among kind (mayHold Data end)) refl (lengthListed kind (length content)) (valueListed kind content)
+answer_told : (end : End) (kind : ℕ) (content : List ℕ) → Told (eqb kind PACKET-DATA) (answer_of Data end kind content)
+unfolding answer_of stated_of
+answer_told end kind content =
+    go (among kind known) refl (among kind (may_hold Data end)) refl (length_listed kind (length content)) (value_listed kind content)
   where
-    go : (isKnown : Bool) → among kind known ≡ isKnown → (allowed : Bool) → among kind (mayHold Data end) ≡ allowed → (long meant : Bool)
+    go : (isKnown : Bool) → among kind known ≡ isKnown → (allowed : Bool) → among kind (may_hold Data end) ≡ allowed → (long meant : Bool)
         → Told (eqb kind PACKET-DATA) (cond isKnown (cond allowed (cond long (cond meant (Took (item_of kind content)) (Refused VALUE)) (Refused LENGTH)) (Refused UNLISTED)) (Took Item.Skipped))
-    go false e allowed a long meant = unknown-told kind e
+    go false e allowed a long meant = unknown_told kind e
     go true e false a long meant = tt
     go true e true a false meant = tt
     go true e true a true false = tt
-    go true e true a true true = item-told end kind content a
+    go true e true a true true = item_told end kind content a
 
-pub packet-told : (end : End) (kind : ℕ) (content : List ℕ) (item : Item) → Took item ≡ answer_of Data end kind content → isPacket item ≡ eqb kind PACKET-DATA
-packet-told end kind content item e = subst (Told (eqb kind PACKET-DATA)) (sym e) (answer-told end kind content)
+pub packet_told : (end : End) (kind : ℕ) (content : List ℕ) (item : Item) → Took item ≡ answer_of Data end kind content → is_packet item ≡ eqb kind PACKET-DATA
+packet_told end kind content item e = subst (Told (eqb kind PACKET-DATA)) (sym e) (answer_told end kind content)

@@ -9,9 +9,9 @@ use Rattle.meaning.specs.declared.message.Expiration.{Expiration}
 use Rattle.meaning.specs.declared.message.Counted.{Counted}
 use Rattle.meaning.specs.declared.message.Data.{Data}
 use Rattle.meaning.specs.Kinds.{DATALINK-IDENTIFIER, PACKET-DATA, CHANNEL-IDENTIFIER, EXPIRATION-TIME}
-use Rattle.read_option.specs.Stated.{datalinkFrom, channelFrom, expirationFrom, countedFrom, dataStated, nothing}
+use Rattle.read_option.specs.Stated.{datalink_from, channel_from, expiration_from, counted_from, data_stated, nothing}
 use Rattle.read_rules.specs.declared.answer.Verdict.{Verdict}
-use Rattle.read_rules.specs.Sorts.{Sort, isOurs, unstatedDatalink}
+use Rattle.read_rules.specs.Sorts.{Sort, is_ours, unstated_datalink}
 use Rattle.read_data.specs.declared.DataReading.{DataReading}
 
 -- what a data message states so far, and whether Packet Data stands already
@@ -23,34 +23,34 @@ abbrev pub given : Option (List ℕ) → Bool
 given none = false
 given (some content) = true
 
-abbrev pub unstatedCounted : Counted → Bool
-unstatedCounted Counted.Absent = true
-unstatedCounted (Counted.Given n s) = false
+abbrev pub unstated_counted : Counted → Bool
+unstated_counted Counted.Absent = true
+unstated_counted (Counted.Given n s) = false
 
-abbrev pub unstatedChannel : Channel → Bool
-unstatedChannel Channel.Absent = true
-unstatedChannel (Channel.Given n) = false
+abbrev pub unstated_channel : Channel → Bool
+unstated_channel Channel.Absent = true
+unstated_channel (Channel.Given n) = false
 
-abbrev pub unstatedExpiration : Expiration → Bool
-unstatedExpiration Expiration.Absent = true
-unstatedExpiration (Expiration.Given t) = false
+abbrev pub unstated_expiration : Expiration → Bool
+unstated_expiration Expiration.Absent = true
+unstated_expiration (Expiration.Given t) = false
 
-unfoldable pub dataUnstated : ℕ → ℕ → Gathered → Bool
-dataUnstated kind channel g =
-    cond (eqb kind DATALINK-IDENTIFIER) (unstatedDatalink g.message.datalink)
+unfoldable pub data_unstated : ℕ → ℕ → Gathered → Bool
+data_unstated kind channel g =
+    cond (eqb kind DATALINK-IDENTIFIER) (unstated_datalink g.message.datalink)
     (cond (eqb kind PACKET-DATA) (not g.packet)
-    (cond (eqb kind CHANNEL-IDENTIFIER) (unstatedChannel g.message.channel)
-    (cond (eqb kind EXPIRATION-TIME) (unstatedExpiration g.message.expiration)
-    (unstatedCounted g.message.sequence))))
+    (cond (eqb kind CHANNEL-IDENTIFIER) (unstated_channel g.message.channel)
+    (cond (eqb kind EXPIRATION-TIME) (unstated_expiration g.message.expiration)
+    (unstated_counted g.message.sequence))))
 
-unfoldable pub dataState : ℕ → ℕ → List ℕ → Gathered → Gathered
-dataState kind channel content g =
+unfoldable pub data_state : ℕ → ℕ → List ℕ → Gathered → Gathered
+data_state kind channel content g =
     let m = g.message in
-    cond (eqb kind DATALINK-IDENTIFIER) (record { message = record { datalink = datalinkFrom (some content); sequence = m.sequence; channel = m.channel; expiration = m.expiration }; packet = g.packet })
+    cond (eqb kind DATALINK-IDENTIFIER) (record { message = record { datalink = datalink_from (some content); sequence = m.sequence; channel = m.channel; expiration = m.expiration }; packet = g.packet })
     (cond (eqb kind PACKET-DATA) (record { message = m; packet = true })
-    (cond (eqb kind CHANNEL-IDENTIFIER) (record { message = record { datalink = m.datalink; sequence = m.sequence; channel = channelFrom (some content); expiration = m.expiration }; packet = g.packet })
-    (cond (eqb kind EXPIRATION-TIME) (record { message = record { datalink = m.datalink; sequence = m.sequence; channel = m.channel; expiration = expirationFrom (some content) }; packet = g.packet })
-    (record { message = record { datalink = m.datalink; sequence = countedFrom (some content); channel = m.channel; expiration = m.expiration }; packet = g.packet }))))
+    (cond (eqb kind CHANNEL-IDENTIFIER) (record { message = record { datalink = m.datalink; sequence = m.sequence; channel = channel_from (some content); expiration = m.expiration }; packet = g.packet })
+    (cond (eqb kind EXPIRATION-TIME) (record { message = record { datalink = m.datalink; sequence = m.sequence; channel = m.channel; expiration = expiration_from (some content) }; packet = g.packet })
+    (record { message = record { datalink = m.datalink; sequence = counted_from (some content); channel = m.channel; expiration = m.expiration }; packet = g.packet }))))
 
 -- number 10: "Flow Sequence in a data message without Channel Identifier, or of another channel"
 abbrev pub pairs : Counted → Channel → Bool
@@ -58,29 +58,29 @@ pairs Counted.Absent channel = true
 pairs (Counted.Given n s) Channel.Absent = false
 pairs (Counted.Given n s) (Channel.Given k) = eqb n k
 
-unfoldable pub blankData : Data
-blankData = dataStated nothing
+unfoldable pub blank_data : Data
+blank_data = data_stated nothing
 
-unfoldable pub dataRefused : ℕ → ℕ → DataReading
-dataRefused number place = record { verdict = Verdict.Refused (record { number = number; place = place }); message = blankData }
+unfoldable pub data_refused : ℕ → ℕ → DataReading
+data_refused number place = record { verdict = Verdict.Refused (record { number = number; place = place }); message = blank_data }
 
-unfoldable pub dataAccepted : Gathered → DataReading
-dataAccepted g = record { verdict = Verdict.Accepted; message = g.message }
+unfoldable pub data_accepted : Gathered → DataReading
+data_accepted g = record { verdict = Verdict.Accepted; message = g.message }
 
-unfoldable pub dataOther : DataReading
-dataOther = record { verdict = Verdict.OtherPlane; message = blankData }
+unfoldable pub data_other : DataReading
+data_other = record { verdict = Verdict.OtherPlane; message = blank_data }
 
-abbrev pub dataSort : End → DatalinkId → Sort Gathered DataReading
-dataSort end id = record {
+abbrev pub data_sort : End → DatalinkId → Sort Gathered DataReading
+data_sort end id = record {
   plane = planes.Data;
   end = end;
-  blank = record { message = blankData; packet = false };
+  blank = record { message = blank_data; packet = false };
   closed = λ g. g.packet;
-  unstated = dataUnstated;
-  state = dataState;
+  unstated = data_unstated;
+  state = data_state;
   paired = λ g. pairs g.message.sequence g.message.channel;
-  ours = λ g. isOurs id g.message.datalink;
-  accept = dataAccepted;
-  refuse = dataRefused;
-  other = dataOther;
+  ours = λ g. is_ours id g.message.datalink;
+  accept = data_accepted;
+  refuse = data_refused;
+  other = data_other;
 }

@@ -7,29 +7,29 @@ use Rattle.read_data.specs.declared.DataReading.{DataReading}
 use Rattle.read_data.specs.declared.CarriedReading.{CarriedReading}
 
 -- "The carried packet is handed back as that stretch of the caller's own datagram": the content of the first Packet Data, or nothing
-unfoldable pub packetIn : Options → List ℕ
-packetIn done = []
-packetIn (cut rest) = []
-packetIn (option kind content more) = cond (eqb kind PACKET-DATA) content (packetIn more)
+unfoldable pub packet_in : Options → List ℕ
+packet_in done = []
+packet_in (cut rest) = []
+packet_in (option kind content more) = cond (eqb kind PACKET-DATA) content (packet_in more)
 
-unfoldable pub packetOf : List ℕ → List ℕ
-packetOf datagram = packetIn (split (drop 1 datagram))
+unfoldable pub packet_of : List ℕ → List ℕ
+packet_of datagram = packet_in (split (drop 1 datagram))
 
 -- a place in a message of n bytes, if it is accepted; the end of any other
-abbrev pub startWith : Verdict → ℕ → ℕ → ℕ
-startWith Verdict.Accepted start n = start
-startWith Verdict.OtherPlane start n = n
-startWith (Verdict.Refused refusal) start n = n
+abbrev pub start_with : Verdict → ℕ → ℕ → ℕ
+start_with Verdict.Accepted start n = start
+start_with Verdict.OtherPlane start n = n
+start_with (Verdict.Refused refusal) start n = n
 
 -- "Packet Data is the last option": the packet ends with the datagram, and begins so many bytes before
-unfoldable pub carriedReading : DataReading → List ℕ → CarriedReading
-carriedReading reading datagram =
-    record { reading = reading; start = startWith reading.verdict (length datagram - length (packetOf datagram)) (length datagram) }
+unfoldable pub carried_reading : DataReading → List ℕ → CarriedReading
+carried_reading reading datagram =
+    record { reading = reading; start = start_with reading.verdict (length datagram - length (packet_of datagram)) (length datagram) }
 
 -- the bytes from the start on are the packet that an accepted message carries
 abbrev pub Carries : CarriedReading → List ℕ → Type 0
-Carries carried datagram = carried.reading.verdict ≡ Verdict.Accepted → drop carried.start datagram ≡ packetOf datagram
+Carries carried datagram = carried.reading.verdict ≡ Verdict.Accepted → drop carried.start datagram ≡ packet_of datagram
 
 -- a message of n bytes that isn't accepted carries nothing
-unfoldable pub uncarriedOf : DataReading → ℕ → CarriedReading
-uncarriedOf reading n = record { reading = reading; start = n }
+unfoldable pub uncarried_of : DataReading → ℕ → CarriedReading
+uncarried_of reading n = record { reading = reading; start = n }

@@ -3,9 +3,9 @@ ghost use Rattle.std.specs.Prelude.{◌≡◌, drop};
 ghost use Rattle.wire.specs.Options.{split};
 ghost use Rattle.meaning.specs.declared.message.End.{End};
 ghost use Rattle.read_rules.specs.Judging.{judge};
-ghost use Rattle.read_rules.specs.Sorts.{finishOf, rulesOf};
-ghost use Rattle.read_data.specs.Message.{pairs, blankData, dataRefused, dataOther, dataSort};
-ghost use Rattle.read_data.specs.Packet.{startWith, uncarriedOf, carriedReading, Carries};
+ghost use Rattle.read_rules.specs.Sorts.{finish_of, rules_of};
+ghost use Rattle.read_data.specs.Message.{pairs, blank_data, data_refused, data_other, data_sort};
+ghost use Rattle.read_data.specs.Packet.{start_with, uncarried_of, carried_reading, Carries};
 
 use meaning::message::{Channel, Counted, Data, Datalink, End, Expiration};
 use quantity::count::DatalinkId;
@@ -33,7 +33,7 @@ pub struct CarriedReading {
 
 // A message that states nothing.
 pub fn blank() -> Data
-    ensures { result ≡ blankData }
+    ensures { result ≡ blank_data }
 {
     Data {
         datalink: Datalink::Absent,
@@ -45,7 +45,7 @@ pub fn blank() -> Data
 
 // A refused message states nothing.
 pub fn refused(number: u8, place: usize) -> DataReading
-    ensures { result ≡ dataRefused number place }
+    ensures { result ≡ data_refused number place }
 {
     DataReading {
         verdict: Verdict::Refused(Refusal {
@@ -71,7 +71,7 @@ fn is_paired(sequence: Counted, channel: Channel) -> bool
 
 // The tests on the whole, 9, 10, 11: for either end the same.
 fn finished(n: usize, message: Data, packet: bool, id: DatalinkId) -> DataReading
-    ensures { (end : End) → result ≡ finishOf (dataSort end id) n (record { message = message; packet = packet }) }
+    ensures { (end : End) → result ≡ finish_of (data_sort end id) n (record { message = message; packet = packet }) }
 {
     let datalink = message.datalink;
     let Datalink::Given(named) = datalink else {
@@ -96,7 +96,7 @@ fn finished(n: usize, message: Data, packet: bool, id: DatalinkId) -> DataReadin
 
 // A message of n bytes that is refused carries nothing.
 pub fn uncarried(number: u8, place: usize, n: usize) -> CarriedReading
-    ensures { result ≡ uncarriedOf (dataRefused number place) n }
+    ensures { result ≡ uncarried_of (data_refused number place) n }
 {
     CarriedReading {
         reading: refused(number, place),
@@ -106,7 +106,7 @@ pub fn uncarried(number: u8, place: usize, n: usize) -> CarriedReading
 
 // A message of n bytes that is of the other plane carries nothing.
 pub fn other_plane(n: usize) -> CarriedReading
-    ensures { result ≡ uncarriedOf dataOther n }
+    ensures { result ≡ uncarried_of data_other n }
 {
     let reading = DataReading {
         verdict: Verdict::OtherPlane,
@@ -117,7 +117,7 @@ pub fn other_plane(n: usize) -> CarriedReading
 
 // The place at which the packet was found, if the message of n bytes is accepted.
 fn carried_at(reading: DataReading, start: usize, n: usize) -> CarriedReading
-    ensures { result ≡ record { reading = reading; start = startWith reading.verdict start n } }
+    ensures { result ≡ record { reading = reading; start = start_with reading.verdict start n } }
 {
     let verdict = reading.verdict;
     match verdict {
@@ -129,7 +129,7 @@ fn carried_at(reading: DataReading, start: usize, n: usize) -> CarriedReading
 
 // The options one after another, each tested in the order 3, 8, 6, 4, 5, 7; and where the packet stands that the last one holds.
 pub fn with_packet(datagram: &[u8], end: End, id: DatalinkId) -> CarriedReading
-    ensures value { result ≡ carriedReading (judge (rulesOf (dataSort end id)) (split (drop 1 datagram.now)) 1 (dataSort end id).blank) datagram.now }
+    ensures value { result ≡ carried_reading (judge (rules_of (data_sort end id)) (split (drop 1 datagram.now)) 1 (data_sort end id).blank) datagram.now }
     ensures packet { Carries result datagram.now }
 {
     let n = datagram.len();
@@ -199,7 +199,7 @@ pub fn with_packet(datagram: &[u8], end: End, id: DatalinkId) -> CarriedReading
 
 // The same without the packet, by a walk of its own: a module that wants both has each moved to where it is called (docs/SPEED.md).
 pub fn options(datagram: &[u8], end: End, id: DatalinkId) -> DataReading
-    ensures { result ≡ judge (rulesOf (dataSort end id)) (split (drop 1 datagram.now)) 1 (dataSort end id).blank }
+    ensures { result ≡ judge (rules_of (data_sort end id)) (split (drop 1 datagram.now)) 1 (data_sort end id).blank }
 {
     let n = datagram.len();
     let mut datalink = Datalink::Absent;

@@ -1,6 +1,6 @@
 // The packet that a data message carries.
 ghost use Rattle.std.specs.Prelude.{◌≡◌};
-ghost use Rattle.read_data.specs.Packet.{packetOf};
+ghost use Rattle.read_data.specs.Packet.{packet_of};
 
 use meaning::kind::PACKET_DATA;
 use wire::option;
@@ -8,7 +8,7 @@ use wire::option::{FRAME_SIZE, Frame};
 
 // The content of the first Packet Data, as that stretch of the caller's own datagram; or nothing.
 pub fn packet(datagram: &[u8]) -> &[u8]
-    ensures { result.now ≡ packetOf datagram.now }
+    ensures { result.now ≡ packet_of datagram.now }
 {
     let mut at: usize = 1;
     while at < datagram.len() {

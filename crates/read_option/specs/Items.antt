@@ -3,36 +3,36 @@ use Rattle.std.specs.Prelude.{ℕ, ◌%◌, ◌<◌, List, cond, length, get_or,
 use Rattle.std.proofs.Math.Option.{some}
 use Rattle.quantity.specs.Limits.{CHANNEL-IDS}
 use Rattle.quantity.specs.Refusals.{LENGTH, VALUE, UNLISTED}
-use Rattle.wire.specs.Numbers.{bigEndian}
+use Rattle.wire.specs.Numbers.{big_endian}
 use Rattle.meaning.specs.declared.message.End.{End}
 use Rattle.meaning.specs.declared.message.Plane.{Plane}
-use Rattle.meaning.specs.Kinds.{among, known, lengthListed, valueListed, mayHold, DATALINK-IDENTIFIER, LINK-INSTANCE, DATALINK-CONTEXT, CHANNEL-STATUS, FLOW-WINDOW, PACKET-DATA, CHANNEL-IDENTIFIER, EXPIRATION-TIME}
+use Rattle.meaning.specs.Kinds.{among, known, length_listed, value_listed, may_hold, DATALINK-IDENTIFIER, LINK-INSTANCE, DATALINK-CONTEXT, CHANNEL-STATUS, FLOW-WINDOW, PACKET-DATA, CHANNEL-IDENTIFIER, EXPIRATION-TIME}
 use Rattle.read_option.specs.declared.answer.Item.{Item}
 use Rattle.read_option.specs.declared.answer.OptionAnswer.{OptionAnswer}
 use Rattle.read_option.specs.declared.answer.OptionAnswer.TheVariants.{Took, Refused}
-use Rattle.read_option.specs.Stated.{windowFrom}
+use Rattle.read_option.specs.Stated.{window_from}
 
 -- what an option of a known type without a fault states
 unfoldable pub item_of : ℕ → List ℕ → Item
 item_of kind content =
     cond (eqb kind DATALINK-IDENTIFIER) (Item.Datalink (record { 0 = get_or content 0 0 }))
-    (cond (eqb kind LINK-INSTANCE) (Item.Instance (record { 0 = bigEndian content }) (length content))
-    (cond (eqb kind DATALINK-CONTEXT) (Item.Context (record { 0 = bigEndian content }) (length content))
+    (cond (eqb kind LINK-INSTANCE) (Item.Instance (record { 0 = big_endian content }) (length content))
+    (cond (eqb kind DATALINK-CONTEXT) (Item.Context (record { 0 = big_endian content }) (length content))
     (cond (eqb kind CHANNEL-STATUS) (Item.Status (get_or content 0 0) (get_or content 1 0 % 16))
-    (cond (eqb kind FLOW-WINDOW) (Item.Window (get_or content 0 0) (windowFrom (some content)))
+    (cond (eqb kind FLOW-WINDOW) (Item.Window (get_or content 0 0) (window_from (some content)))
     (cond (eqb kind PACKET-DATA) Item.Packet
     (cond (eqb kind CHANNEL-IDENTIFIER) (Item.Channel (get_or content 0 0))
-    (cond (eqb kind EXPIRATION-TIME) (Item.Expiration (bigEndian content))
-    (Item.Sequence (get_or content 0 0) (record { 0 = bigEndian (drop 1 content) })))))))))
+    (cond (eqb kind EXPIRATION-TIME) (Item.Expiration (big_endian content))
+    (Item.Sequence (get_or content 0 0) (record { 0 = big_endian (drop 1 content) })))))))))
 
 -- 4, 5, or what it states
-unfoldable pub statedOf : ℕ → List ℕ → OptionAnswer
-statedOf kind content = cond (lengthListed kind (length content)) (cond (valueListed kind content) (Took (item_of kind content)) (Refused VALUE)) (Refused LENGTH)
+unfoldable pub stated_of : ℕ → List ℕ → OptionAnswer
+stated_of kind content = cond (length_listed kind (length content)) (cond (value_listed kind content) (Took (item_of kind content)) (Refused VALUE)) (Refused LENGTH)
 
 -- 6, 4, 5, or what it states; an unknown option is skipped
 unfoldable pub answer_of : Plane → End → ℕ → List ℕ → OptionAnswer
 answer_of plane end kind content =
-    cond (among kind known) (cond (among kind (mayHold plane end)) (statedOf kind content) (Refused UNLISTED)) (Took Item.Skipped)
+    cond (among kind known) (cond (among kind (may_hold plane end)) (stated_of kind content) (Refused UNLISTED)) (Took Item.Skipped)
 
 -- the number of a refused answer
 abbrev pub number_of : OptionAnswer → ℕ

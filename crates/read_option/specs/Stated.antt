@@ -3,7 +3,7 @@ use Rattle.std.specs.Prelude.{ℕ, ◌%◌, List, cond, length, get_or, drop, eq
 use Rattle.std.proofs.Math.Option.{Option, none, some}
 use Rattle.facts.specs.Tables.{tabulate}
 use Rattle.quantity.specs.Limits.{CHANNEL-IDS}
-use Rattle.wire.specs.Numbers.{bigEndian}
+use Rattle.wire.specs.Numbers.{big_endian}
 use Rattle.meaning.specs.declared.message.Datalink.{Datalink}
 use Rattle.meaning.specs.declared.message.Instance.{Instance}
 use Rattle.meaning.specs.declared.message.Context.{Context}
@@ -25,64 +25,64 @@ Table = ℕ → ℕ → Option (List ℕ)
 abbrev pub nothing : Table
 nothing = λ kind channel. none
 
-abbrev pub datalinkFrom : Option (List ℕ) → Datalink
-datalinkFrom none = Datalink.Absent
-datalinkFrom (some content) = Datalink.Given (record { 0 = get_or content 0 0 })
+abbrev pub datalink_from : Option (List ℕ) → Datalink
+datalink_from none = Datalink.Absent
+datalink_from (some content) = Datalink.Given (record { 0 = get_or content 0 0 })
 
 -- "unsigned number, its length kept"
-abbrev pub instanceFrom : Option (List ℕ) → Instance
-instanceFrom none = Instance.Absent
-instanceFrom (some content) = Instance.Given (record { 0 = bigEndian content }) (length content)
+abbrev pub instance_from : Option (List ℕ) → Instance
+instance_from none = Instance.Absent
+instance_from (some content) = Instance.Given (record { 0 = big_endian content }) (length content)
 
 -- "byte string": its bytes as the number that they spell, and its length
-abbrev pub contextFrom : Option (List ℕ) → Context
-contextFrom none = Context.Absent
-contextFrom (some content) = Context.Given (record { 0 = bigEndian content }) (length content)
+abbrev pub context_from : Option (List ℕ) → Context
+context_from none = Context.Absent
+context_from (some content) = Context.Given (record { 0 = big_endian content }) (length content)
 
 -- "Channel ID, 4 unused bits, 4-bit Status"
-abbrev pub statusFrom : Option (List ℕ) → Status
-statusFrom none = Status.Absent
-statusFrom (some content) = Status.Given (get_or content 1 0 % 16)
+abbrev pub status_from : Option (List ℕ) → Status
+status_from none = Status.Absent
+status_from (some content) = Status.Given (get_or content 1 0 % 16)
 
 -- "Channel ID, 32-bit sequence"
-abbrev pub sequenceFrom : Option (List ℕ) → Sequence
-sequenceFrom none = Sequence.Absent
-sequenceFrom (some content) = Sequence.Given (record { 0 = bigEndian (drop 1 content) })
+abbrev pub sequence_from : Option (List ℕ) → Sequence
+sequence_from none = Sequence.Absent
+sequence_from (some content) = Sequence.Given (record { 0 = big_endian (drop 1 content) })
 
 -- "Channel ID, window or no window"
-abbrev pub windowFrom : Option (List ℕ) → Window
-windowFrom none = Window.Absent
-windowFrom (some content) = cond (eqb (length content) 1) Window.Empty (Window.Given (record { 0 = bigEndian (drop 1 content) }))
+abbrev pub window_from : Option (List ℕ) → Window
+window_from none = Window.Absent
+window_from (some content) = cond (eqb (length content) 1) Window.Empty (Window.Given (record { 0 = big_endian (drop 1 content) }))
 
-abbrev pub channelFrom : Option (List ℕ) → Channel
-channelFrom none = Channel.Absent
-channelFrom (some content) = Channel.Given (get_or content 0 0)
+abbrev pub channel_from : Option (List ℕ) → Channel
+channel_from none = Channel.Absent
+channel_from (some content) = Channel.Given (get_or content 0 0)
 
 -- section 3.3.9: "32-bit unsigned integer"
-abbrev pub expirationFrom : Option (List ℕ) → Expiration
-expirationFrom none = Expiration.Absent
-expirationFrom (some content) = Expiration.Given (bigEndian content)
+abbrev pub expiration_from : Option (List ℕ) → Expiration
+expiration_from none = Expiration.Absent
+expiration_from (some content) = Expiration.Given (big_endian content)
 
 -- a data message's Flow Sequence, with its Channel ID
-abbrev pub countedFrom : Option (List ℕ) → Counted
-countedFrom none = Counted.Absent
-countedFrom (some content) = Counted.Given (get_or content 0 0) (record { 0 = bigEndian (drop 1 content) })
+abbrev pub counted_from : Option (List ℕ) → Counted
+counted_from none = Counted.Absent
+counted_from (some content) = Counted.Given (get_or content 0 0) (record { 0 = big_endian (drop 1 content) })
 
 -- "the meaning of a message is .. for each known kind (and channel) what is stated"
-unfoldable pub controlStated : Table → Control
-controlStated τ = record {
-  datalink = datalinkFrom (τ DATALINK-IDENTIFIER 0);
-  instance = instanceFrom (τ LINK-INSTANCE 0);
-  context = contextFrom (τ DATALINK-CONTEXT 0);
-  statuses = tabulate CHANNEL-IDS (λ n. record { status = statusFrom (τ CHANNEL-STATUS n) });
-  sequences = tabulate CHANNEL-IDS (λ n. record { sequence = sequenceFrom (τ FLOW-SEQUENCE n) });
-  windows = tabulate CHANNEL-IDS (λ n. record { window = windowFrom (τ FLOW-WINDOW n) });
+unfoldable pub control_stated : Table → Control
+control_stated τ = record {
+  datalink = datalink_from (τ DATALINK-IDENTIFIER 0);
+  instance = instance_from (τ LINK-INSTANCE 0);
+  context = context_from (τ DATALINK-CONTEXT 0);
+  statuses = tabulate CHANNEL-IDS (λ n. record { status = status_from (τ CHANNEL-STATUS n) });
+  sequences = tabulate CHANNEL-IDS (λ n. record { sequence = sequence_from (τ FLOW-SEQUENCE n) });
+  windows = tabulate CHANNEL-IDS (λ n. record { window = window_from (τ FLOW-WINDOW n) });
 }
 
-unfoldable pub dataStated : Table → Data
-dataStated τ = record {
-  datalink = datalinkFrom (τ DATALINK-IDENTIFIER 0);
-  sequence = countedFrom (τ FLOW-SEQUENCE 0);
-  channel = channelFrom (τ CHANNEL-IDENTIFIER 0);
-  expiration = expirationFrom (τ EXPIRATION-TIME 0);
+unfoldable pub data_stated : Table → Data
+data_stated τ = record {
+  datalink = datalink_from (τ DATALINK-IDENTIFIER 0);
+  sequence = counted_from (τ FLOW-SEQUENCE 0);
+  channel = channel_from (τ CHANNEL-IDENTIFIER 0);
+  expiration = expiration_from (τ EXPIRATION-TIME 0);
 }

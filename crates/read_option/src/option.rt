@@ -1,8 +1,8 @@
 // What one option states, by its content: each kind tests the length (4), then the value (5).
 ghost use Rattle.std.specs.Prelude.{◌≡◌, cond};
 ghost use Rattle.quantity.specs.Refusals.{UNLISTED};
-ghost use Rattle.meaning.specs.Kinds.{among, known, lengthListed, DATALINK-IDENTIFIER, LINK-INSTANCE, DATALINK-CONTEXT, CHANNEL-STATUS, FLOW-WINDOW, CHANNEL-IDENTIFIER, EXPIRATION-TIME, FLOW-SEQUENCE};
-ghost use Rattle.read_option.specs.Items.{statedOf, answer_of, number_of, Placed};
+ghost use Rattle.meaning.specs.Kinds.{among, known, length_listed, DATALINK-IDENTIFIER, LINK-INSTANCE, DATALINK-CONTEXT, CHANNEL-STATUS, FLOW-WINDOW, CHANNEL-IDENTIFIER, EXPIRATION-TIME, FLOW-SEQUENCE};
+ghost use Rattle.read_option.specs.Items.{stated_of, answer_of, number_of, Placed};
 
 use crate::answer::{Item, OptionAnswer};
 use meaning::kind;
@@ -13,7 +13,7 @@ use quantity::refusal::{LENGTH, UNLISTED, VALUE};
 use wire::number;
 
 fn datalink(content: &[u8]) -> OptionAnswer
-    ensures { result ≡ statedOf DATALINK-IDENTIFIER content.now }
+    ensures { result ≡ stated_of DATALINK-IDENTIFIER content.now }
 {
     if content.len() != 1 {
         return OptionAnswer::Refused(LENGTH);
@@ -23,7 +23,7 @@ fn datalink(content: &[u8]) -> OptionAnswer
 
 // The lengths of a Link Instance; those of a Context are the same.
 fn is_instance_length(n: usize) -> bool
-    ensures { result ≡ lengthListed LINK-INSTANCE n }
+    ensures { result ≡ length_listed LINK-INSTANCE n }
 {
     if n < SHORTEST_NAME {
         return false;
@@ -32,7 +32,7 @@ fn is_instance_length(n: usize) -> bool
 }
 
 fn instance(content: &[u8]) -> OptionAnswer
-    ensures { result ≡ statedOf LINK-INSTANCE content.now }
+    ensures { result ≡ stated_of LINK-INSTANCE content.now }
 {
     let n = content.len();
     if !is_instance_length(n) {
@@ -42,7 +42,7 @@ fn instance(content: &[u8]) -> OptionAnswer
 }
 
 fn context(content: &[u8]) -> OptionAnswer
-    ensures { result ≡ statedOf DATALINK-CONTEXT content.now }
+    ensures { result ≡ stated_of DATALINK-CONTEXT content.now }
 {
     let n = content.len();
     if !is_instance_length(n) {
@@ -52,7 +52,7 @@ fn context(content: &[u8]) -> OptionAnswer
 }
 
 fn status(content: &[u8]) -> OptionAnswer
-    ensures { result ≡ statedOf CHANNEL-STATUS content.now }
+    ensures { result ≡ stated_of CHANNEL-STATUS content.now }
 {
     if content.len() != 2 {
         return OptionAnswer::Refused(LENGTH);
@@ -67,7 +67,7 @@ fn status(content: &[u8]) -> OptionAnswer
 
 // A Flow Window's field may be left out.
 fn is_window_length(n: usize) -> bool
-    ensures { result ≡ lengthListed FLOW-WINDOW n }
+    ensures { result ≡ length_listed FLOW-WINDOW n }
 {
     match n {
         1 => true,
@@ -77,7 +77,7 @@ fn is_window_length(n: usize) -> bool
 }
 
 fn window(content: &[u8]) -> OptionAnswer
-    ensures { result ≡ statedOf FLOW-WINDOW content.now }
+    ensures { result ≡ stated_of FLOW-WINDOW content.now }
 {
     let n = content.len();
     if !is_window_length(n) {
@@ -95,7 +95,7 @@ fn window(content: &[u8]) -> OptionAnswer
 }
 
 fn channel(content: &[u8]) -> OptionAnswer
-    ensures { result ≡ statedOf CHANNEL-IDENTIFIER content.now }
+    ensures { result ≡ stated_of CHANNEL-IDENTIFIER content.now }
 {
     if content.len() != 1 {
         return OptionAnswer::Refused(LENGTH);
@@ -108,7 +108,7 @@ fn channel(content: &[u8]) -> OptionAnswer
 }
 
 fn expiration(content: &[u8]) -> OptionAnswer
-    ensures { result ≡ statedOf EXPIRATION-TIME content.now }
+    ensures { result ≡ stated_of EXPIRATION-TIME content.now }
 {
     if content.len() != 4 {
         return OptionAnswer::Refused(LENGTH);
@@ -122,7 +122,7 @@ fn expiration(content: &[u8]) -> OptionAnswer
 }
 
 fn sequence(content: &[u8]) -> OptionAnswer
-    ensures { result ≡ statedOf FLOW-SEQUENCE content.now }
+    ensures { result ≡ stated_of FLOW-SEQUENCE content.now }
 {
     if content.len() != 5 {
         return OptionAnswer::Refused(LENGTH);

@@ -19,13 +19,13 @@ pub record Rules (A B : Type 0) : Type 0 where
   pub refuse : ℕ → ℕ → B
   pub other : B
 
-abbrev pub afterStep : {A B : Type 0} → (A → B) → (ℕ → B) → Step A → B
-afterStep f g (next m) = f m
-afterStep f g (stop number) = g number
+abbrev pub after_step : {A B : Type 0} → (A → B) → (ℕ → B) → Step A → B
+after_step f g (next m) = f m
+after_step f g (stop number) = g number
 
 -- the options one after another from a place on, m being what the ones before state: "the first found is reported", at "the option's first byte"
 unfoldable pub judge : {A B : Type 0} → Rules A B → Options → ℕ → A → B
 judge R done place m = R.finish place m
 judge R (cut rest) place m = R.refuse CUT place
 judge R (option kind content more) place m =
-    afterStep (λ m'. judge R more (place + (3 + length content)) m') (λ number. R.refuse number place) (R.step kind content m)
+    after_step (λ m'. judge R more (place + (3 + length content)) m') (λ number. R.refuse number place) (R.step kind content m)

@@ -8,22 +8,22 @@ use borrow.Author.Tests.{eqb-true, eqb-false, ne_eqb, ltb-true, ltb-false}
 use lib.Dec.{eqb, ltb}
 use lib.ListN.{length}
 use Rattle.reader.specs.declared.answer.PlaneAnswer.{PlaneAnswer}
-use Rattle.reader.specs.Readings.{planeOf}
-use Rattle.reader.specs.PlaneRows.{PlaneRow, too_long, empty, other-version, control-plane, data-plane}
+use Rattle.reader.specs.Readings.{plane_of}
+use Rattle.reader.specs.PlaneRows.{PlaneRow, too_long, empty, other_version, control_plane, data_plane}
 
 abbrev numbered : ℕ → PlaneAnswer
 numbered number = PlaneAnswer.Refused (record { number = number; place = 0 })
 
-pub plane-row : (datagram : List ℕ) → PlaneRow datagram (planeOf datagram)
-unfolding planeOf
-plane-row [] = empty
-plane-row (header ∷ body) =
+pub plane_row : (datagram : List ℕ) → PlaneRow datagram (plane_of datagram)
+unfolding plane_of
+plane_row [] = empty
+plane_row (header ∷ body) =
     rw (ne_eqb (suc (length body)) 0 (λ e. omega arith))
     (go (ltb 65507 (suc (length body))) refl (eqb (header / 16) 1) refl (eqb (header / 8 % 2) 0) refl)
   where
     go : (long : Bool) → ltb 65507 (suc (length body)) ≡ long → (version : Bool) → eqb (header / 16) 1 ≡ version → (clear : Bool) → eqb (header / 8 % 2) 0 ≡ clear
         → PlaneRow (header ∷ body) (cond long (numbered 1) (cond version (cond clear PlaneAnswer.Control PlaneAnswer.Data) (numbered 2)))
     go true l version v clear c = too_long (ltb-true _ _ l)
-    go false l false v clear c = other-version (ltb-false _ _ l) (eqb-false _ _ v)
-    go false l true v true c = control-plane (ltb-false _ _ l) (eqb-true _ _ v) (eqb-true _ _ c)
-    go false l true v false c = let n = eqb-false (header / 8 % 2) 0 c in data-plane {header = header} (ltb-false _ _ l) (eqb-true _ _ v) (omega arith)
+    go false l false v clear c = other_version (ltb-false _ _ l) (eqb-false _ _ v)
+    go false l true v true c = control_plane (ltb-false _ _ l) (eqb-true _ _ v) (eqb-true _ _ c)
+    go false l true v false c = let n = eqb-false (header / 8 % 2) 0 c in data_plane {header = header} (ltb-false _ _ l) (eqb-true _ _ v) (omega arith)

@@ -14,49 +14,49 @@ use Rattle.quantity.specs.Refusals.{LONG-DATAGRAM, HEADER}
 use Rattle.wire.specs.Options.{split}
 use Rattle.meaning.specs.declared.message.End.{End}
 use Rattle.read_rules.specs.Judging.{Rules, judge}
-use Rattle.read_rules.specs.Sorts.{rulesOf}
-use Rattle.read_control.specs.Message.{controlRefused, controlOther, controlSort}
-use Rattle.read_data.specs.Message.{dataRefused, dataOther, dataSort}
+use Rattle.read_rules.specs.Sorts.{rules_of}
+use Rattle.read_control.specs.Message.{control_refused, control_other, control_sort}
+use Rattle.read_data.specs.Message.{data_refused, data_other, data_sort}
 use Rattle.reader.specs.declared.answer.PlaneAnswer.{PlaneAnswer}
-use Rattle.reader.specs.Header.{CURRENT-VERSION, versionOf, flagOf, flag, readWith}
-use Rattle.reader.specs.Readings.{Verdict, readControl, readData, planeOf}
+use Rattle.reader.specs.Header.{CURRENT-VERSION, version_of, flag_of, flag, read_with}
+use Rattle.reader.specs.Readings.{Verdict, read_control, read_data, plane_of}
 
 module _ {A B : Type 0} (R : Rules A B) (s : List ℕ) where
   -- the options, if a Data Plane flag is that of the plane
   abbrev pub flagged : ℕ → B
   flagged n = cond (eqb n (flag R.plane)) (judge R (split (drop 1 s)) 1 R.blank) R.other
 
-  abbrev pub byPlane : PlaneAnswer → B
-  byPlane PlaneAnswer.Control = flagged 0
-  byPlane PlaneAnswer.Data = flagged 1
-  byPlane (PlaneAnswer.Refused r) = R.refuse r.number r.place
+  abbrev pub by_plane : PlaneAnswer → B
+  by_plane PlaneAnswer.Control = flagged 0
+  by_plane PlaneAnswer.Data = flagged 1
+  by_plane (PlaneAnswer.Refused r) = R.refuse r.number r.place
 
-  pub by-plane : {p : PlaneAnswer} → planeOf s ≡ p → byPlane p ≡ readWith R s
-  unfolding readWith planeOf
-  by-plane e = sym (go (ltb LONGEST-DATAGRAM (length s)) (eqb (length s) 0) (eqb (versionOf (get_or s 0 0)) CURRENT-VERSION) (eqb (flagOf (get_or s 0 0)) 0) refl ∙ rw e)
+  pub by_plane_lem : {p : PlaneAnswer} → plane_of s ≡ p → by_plane p ≡ read_with R s
+  unfolding read_with plane_of
+  by_plane_lem e = sym (go (ltb LONGEST-DATAGRAM (length s)) (eqb (length s) 0) (eqb (version_of (get_or s 0 0)) CURRENT-VERSION) (eqb (flag_of (get_or s 0 0)) 0) refl ∙ rw e)
     where
-      go : (long empty version clear : Bool) → eqb (flagOf (get_or s 0 0)) 0 ≡ clear
-          → cond long (R.refuse LONG-DATAGRAM 0) (cond empty (R.refuse HEADER 0) (cond version (flagged (flagOf (get_or s 0 0))) (R.refuse HEADER 0)))
-          ≡ byPlane (cond long (PlaneAnswer.Refused (record { number = LONG-DATAGRAM; place = 0 })) (cond empty (PlaneAnswer.Refused (record { number = HEADER; place = 0 })) (cond version (cond clear PlaneAnswer.Control PlaneAnswer.Data) (PlaneAnswer.Refused (record { number = HEADER; place = 0 })))))
+      go : (long empty version clear : Bool) → eqb (flag_of (get_or s 0 0)) 0 ≡ clear
+          → cond long (R.refuse LONG-DATAGRAM 0) (cond empty (R.refuse HEADER 0) (cond version (flagged (flag_of (get_or s 0 0))) (R.refuse HEADER 0)))
+          ≡ by_plane (cond long (PlaneAnswer.Refused (record { number = LONG-DATAGRAM; place = 0 })) (cond empty (PlaneAnswer.Refused (record { number = HEADER; place = 0 })) (cond version (cond clear PlaneAnswer.Control PlaneAnswer.Data) (PlaneAnswer.Refused (record { number = HEADER; place = 0 })))))
       go true empty version clear q = refl
       go false true version clear q = refl
       go false false false clear q = refl
-      go false false true true q = rw (eqb-true (flagOf (get_or s 0 0)) 0 q)
-      go false false true false q = let n = eqb-false (flagOf (get_or s 0 0)) 0 q in let one : flagOf (get_or s 0 0) ≡ 1 = omega arith in rw one
+      go false false true true q = rw (eqb-true (flag_of (get_or s 0 0)) 0 q)
+      go false false true false q = let n = eqb-false (flag_of (get_or s 0 0)) 0 q in let one : flag_of (get_or s 0 0) ≡ 1 = omega arith in rw one
 
 -- ---- for a caller who goes by the plane first
 
 -- what 1 or 2 refuses, each reader refuses by the same number and place
-pub plane-refuses : (end : End) (id : DatalinkId) (s : List ℕ) {r : Refusal} → planeOf s ≡ PlaneAnswer.Refused r
-    → (readControl end id s ≡ controlRefused r.number r.place) × (readData end id s ≡ dataRefused r.number r.place)
-unfolding readControl readData
-plane-refuses end id s e = (sym (by-plane (rulesOf (controlSort end id)) s e), sym (by-plane (rulesOf (dataSort end id)) s e))
+pub plane_refuses : (end : End) (id : DatalinkId) (s : List ℕ) {r : Refusal} → plane_of s ≡ PlaneAnswer.Refused r
+    → (read_control end id s ≡ control_refused r.number r.place) × (read_data end id s ≡ data_refused r.number r.place)
+unfolding read_control read_data
+plane_refuses end id s e = (sym (by_plane_lem (rules_of (control_sort end id)) s e), sym (by_plane_lem (rules_of (data_sort end id)) s e))
 
 -- a reader that is asked for a message of the other plane accepts nothing
-pub data-of-control : (end : End) (id : DatalinkId) (s : List ℕ) → planeOf s ≡ PlaneAnswer.Control → (readData end id s).verdict ≡ Verdict.OtherPlane
-unfolding readData dataOther
-data-of-control end id s p = rw (← (by-plane (rulesOf (dataSort end id)) s p)) refl
+pub data_of_control : (end : End) (id : DatalinkId) (s : List ℕ) → plane_of s ≡ PlaneAnswer.Control → (read_data end id s).verdict ≡ Verdict.OtherPlane
+unfolding read_data data_other
+data_of_control end id s p = rw (← (by_plane_lem (rules_of (data_sort end id)) s p)) refl
 
-pub control-of-data : (end : End) (id : DatalinkId) (s : List ℕ) → planeOf s ≡ PlaneAnswer.Data → (readControl end id s).verdict ≡ Verdict.OtherPlane
-unfolding readControl controlOther
-control-of-data end id s p = rw (← (by-plane (rulesOf (controlSort end id)) s p)) refl
+pub control_of_data : (end : End) (id : DatalinkId) (s : List ℕ) → plane_of s ≡ PlaneAnswer.Data → (read_control end id s).verdict ≡ Verdict.OtherPlane
+unfolding read_control control_other
+control_of_data end id s p = rw (← (by_plane_lem (rules_of (control_sort end id)) s p)) refl

@@ -8,11 +8,11 @@ use Rattle.meaning.specs.declared.message.Plane.TheVariants.{Control, Data}
 use Rattle.read_rules.specs.Judging.{Rules, judge}
 
 -- section 3.1: a version of 4 bits, the Data Plane flag, 3 unused bits
-abbrev pub versionOf : ℕ → ℕ
-versionOf header = header / 16
+abbrev pub version_of : ℕ → ℕ
+version_of header = header / 16
 
-abbrev pub flagOf : ℕ → ℕ
-flagOf header = header / 8 % 2
+abbrev pub flag_of : ℕ → ℕ
+flag_of header = header / 8 % 2
 
 abbrev pub CURRENT-VERSION : ℕ
 CURRENT-VERSION = 1
@@ -22,10 +22,10 @@ flag Control = 0
 flag Data = 1
 
 -- a datagram: 1, then 2, then its options, if it is of this plane
-unfoldable pub readWith : {A B : Type 0} → Rules A B → List ℕ → B
-readWith R datagram =
+unfoldable pub read_with : {A B : Type 0} → Rules A B → List ℕ → B
+read_with R datagram =
     cond (ltb LONGEST-DATAGRAM (length datagram)) (R.refuse LONG-DATAGRAM 0)
     (cond (eqb (length datagram) 0) (R.refuse HEADER 0)
-    (cond (eqb (versionOf (get_or datagram 0 0)) CURRENT-VERSION)
-    (cond (eqb (flagOf (get_or datagram 0 0)) (flag R.plane)) (judge R (split (drop 1 datagram)) 1 R.blank) R.other)
+    (cond (eqb (version_of (get_or datagram 0 0)) CURRENT-VERSION)
+    (cond (eqb (flag_of (get_or datagram 0 0)) (flag R.plane)) (judge R (split (drop 1 datagram)) 1 R.blank) R.other)
     (R.refuse HEADER 0)))

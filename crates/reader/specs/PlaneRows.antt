@@ -6,6 +6,6 @@ use Rattle.reader.specs.declared.answer.PlaneAnswer.{PlaneAnswer}
 pub data PlaneRow : List ℕ → PlaneAnswer → Type 0 where
   too_long : {datagram : List ℕ} → 65507 < length datagram → PlaneRow datagram (PlaneAnswer.Refused (record { number = 1; place = 0 }))
   empty : PlaneRow [] (PlaneAnswer.Refused (record { number = 2; place = 0 }))
-  other-version : {header : ℕ} {body : List ℕ} → length (header ∷ body) ≤ 65507 → (header / 16 ≡ 1 → ⊥) → PlaneRow (header ∷ body) (PlaneAnswer.Refused (record { number = 2; place = 0 }))
-  control-plane : {header : ℕ} {body : List ℕ} → length (header ∷ body) ≤ 65507 → header / 16 ≡ 1 → header / 8 % 2 ≡ 0 → PlaneRow (header ∷ body) PlaneAnswer.Control
-  data-plane : {header : ℕ} {body : List ℕ} → length (header ∷ body) ≤ 65507 → header / 16 ≡ 1 → header / 8 % 2 ≡ 1 → PlaneRow (header ∷ body) PlaneAnswer.Data
+  other_version : {header : ℕ} {body : List ℕ} → length (header ∷ body) ≤ 65507 → (header / 16 ≡ 1 → ⊥) → PlaneRow (header ∷ body) (PlaneAnswer.Refused (record { number = 2; place = 0 }))
+  control_plane : {header : ℕ} {body : List ℕ} → length (header ∷ body) ≤ 65507 → header / 16 ≡ 1 → header / 8 % 2 ≡ 0 → PlaneRow (header ∷ body) PlaneAnswer.Control
+  data_plane : {header : ℕ} {body : List ℕ} → length (header ∷ body) ≤ 65507 → header / 16 ≡ 1 → header / 8 % 2 ≡ 1 → PlaneRow (header ∷ body) PlaneAnswer.Data

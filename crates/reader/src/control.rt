@@ -1,6 +1,6 @@
 // Reading a control message, of either end.
 ghost use Rattle.std.specs.Prelude.{◌≡◌};
-ghost use Rattle.reader.specs.Readings.{readControl};
+ghost use Rattle.reader.specs.Readings.{read_control};
 
 use crate::answer::{ControlReading, PlaneAnswer, Verdict};
 use crate::header;
@@ -9,7 +9,7 @@ use quantity::count::DatalinkId;
 
 // A control message, read whole, or the first refusal; or the answer that it is of the other plane.
 pub fn read(datagram: &[u8], end: End, id: DatalinkId) -> ControlReading
-    ensures { result ≡ readControl end id datagram.now }
+    ensures { result ≡ read_control end id datagram.now }
 {
     match header::plane(datagram) {
         PlaneAnswer::Control => read_control::options(datagram, end, id),

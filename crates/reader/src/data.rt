@@ -1,6 +1,6 @@
 // Reading a data message, of either end.
 ghost use Rattle.std.specs.Prelude.{◌≡◌};
-ghost use Rattle.reader.specs.Readings.{readData, readCarried, Carries};
+ghost use Rattle.reader.specs.Readings.{read_data, read_carried, Carries};
 
 use crate::answer::{CarriedReading, DataReading, PlaneAnswer, Verdict};
 use crate::header;
@@ -9,7 +9,7 @@ use quantity::count::DatalinkId;
 
 // A data message, read whole, or the first refusal; or the answer that it is of the other plane.
 pub fn read(datagram: &[u8], end: End, id: DatalinkId) -> DataReading
-    ensures { result ≡ readData end id datagram.now }
+    ensures { result ≡ read_data end id datagram.now }
 {
     match header::plane(datagram) {
         PlaneAnswer::Refused(refusal) => read_data::refused(refusal.number, refusal.place),
@@ -23,7 +23,7 @@ pub fn read(datagram: &[u8], end: End, id: DatalinkId) -> DataReading
 
 // The same, and where the carried packet begins, by one walk over the options: what `read` and `packet::packet` answer in two.
 pub fn read_with_packet(datagram: &[u8], end: End, id: DatalinkId) -> CarriedReading
-    ensures value { result ≡ readCarried end id datagram.now }
+    ensures value { result ≡ read_carried end id datagram.now }
     ensures packet { Carries result datagram.now }
 {
     match header::plane(datagram) {

@@ -1,6 +1,6 @@
 // The header of section 3.1: a version of 4 bits, the Data Plane flag, 3 unused bits.
 ghost use Rattle.std.specs.Prelude.{◌≡◌};
-ghost use Rattle.reader.specs.Readings.{planeOf};
+ghost use Rattle.reader.specs.Readings.{plane_of};
 
 use crate::answer::PlaneAnswer;
 use quantity::limit::LONGEST_DATAGRAM;
@@ -19,7 +19,7 @@ fn refused(number: u8) -> PlaneAnswer
 
 // The plane of a datagram, or 1 or 2.
 pub fn plane(datagram: &[u8]) -> PlaneAnswer
-    ensures { result ≡ planeOf datagram.now }
+    ensures { result ≡ plane_of datagram.now }
 {
     if LONGEST_DATAGRAM < datagram.len() {
         return refused(LONG_DATAGRAM);

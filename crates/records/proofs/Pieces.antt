@@ -9,15 +9,15 @@ use lib.ListN.{length}
 use Rattle.facts.proofs.Tests.{clash}
 use Rattle.bytes.specs.Bytes.{slice}
 use Rattle.quantity.specs.Refusals.{RECORD}
-use Rattle.lines.specs.Unread.{tidyOf, keptOf}
+use Rattle.lines.specs.Unread.{tidy_of, kept_of}
 use Rattle.records.specs.declared.Input.{Input}
 use Rattle.records.specs.declared.Came.{Came}
 use Rattle.records.specs.declared.Found.TheVariants as found
-use Rattle.records.specs.Unread.{start_of, behindOf, bytesIn, next_of, Refilled}
+use Rattle.records.specs.Unread.{start_of, behind_of, bytes_in, next_of, Refilled}
 use Rattle.records.specs.Files.{Report, kept, refused, Turns, ends, refuses, opens, finds, more}
-use Rattle.records.specs.Reading.{Passed, here, opened, filled, MOST-TURNS, Comes, ending, finding, refusing, tiring, Run, begun, on, Ran, to_end, to-refusal, on-and-on, ReadFile, TurnedOut, in-record, in-records}
+use Rattle.records.specs.Reading.{Passed, here, opened, filled, MOST-TURNS, Comes, ending, finding, refusing, tiring, Run, begun, on, Ran, to_end, to_refusal, on_and_on, ReadFile, TurnedOut, in_record, in_records}
 use Rattle.records.proofs.Ways as next
-use Rattle.records.proofs.Ways.{Next, next-cases, next-inside}
+use Rattle.records.proofs.Ways.{Next, next_cases, next_inside}
 
 -- ---- a reader's loop: the turns made so far, and how many are left
 
@@ -27,34 +27,34 @@ pub record Passing (lent : List ℕ) (start : Input) (buffer : List ℕ) (input 
   pub sum : made + turns ≡ MOST-TURNS
   pub size : length buffer ≡ length lent
 
-pub passing-start : (lent : List ℕ) (start : Input) → Passing lent start lent start MOST-TURNS
-passing-start lent start = record { made = 0; passed = here; sum = refl; size = refl }
+pub passing_start : (lent : List ℕ) (start : Input) → Passing lent start lent start MOST-TURNS
+passing_start lent start = record { made = 0; passed = here; sum = refl; size = refl }
 
 module _ {lent buffer : List ℕ} {start input : Input} {turns : ℕ} (k : Passing lent start buffer input turns) where
-  pub passing-tired : turns ≡ 0 → Comes lent start (Came.Refused RECORD) buffer
-  passing-tired e =
+  pub passing_tired : turns ≡ 0 → Comes lent start (Came.Refused RECORD) buffer
+  passing_tired e =
       let all : k.made ≡ MOST-TURNS = omega (arith, k.sum) in
       let passed : Passed lent start MOST-TURNS buffer input = rw (← all) k.passed in
       tiring passed
 
   module _ {turns' : ℕ} (fewer : suc turns' ≡ turns) where
-    pub passing-head : {rest : Input} → next_of buffer input ≡ found.Head rest → Passing lent start buffer rest turns'
-    passing-head e = record { made = suc k.made; passed = opened k.passed e; sum = omega (arith, k.sum, fewer); size = k.size }
+    pub passing_head : {rest : Input} → next_of buffer input ≡ found.Head rest → Passing lent start buffer rest turns'
+    passing_head e = record { made = suc k.made; passed = opened k.passed e; sum = omega (arith, k.sum, fewer); size = k.size }
 
-    pub passing-fill : {buffer' : List ℕ} {r : Input} → next_of buffer input ≡ found.More → Refilled buffer input r buffer' → length buffer' ≡ length buffer
+    pub passing_fill : {buffer' : List ℕ} {r : Input} → next_of buffer input ≡ found.More → Refilled buffer input r buffer' → length buffer' ≡ length buffer
         → Passing lent start buffer' r turns'
-    passing-fill e f s = record { made = suc k.made; passed = filled k.passed e f s; sum = omega (arith, k.sum, fewer); size = s ∙ k.size }
+    passing_fill e f s = record { made = suc k.made; passed = filled k.passed e f s; sum = omega (arith, k.sum, fewer); size = s ∙ k.size }
 
 -- a record that comes lies within the buffer
-comes-inside : {lent buffer : List ℕ} {start rest : Input} {from to original : ℕ} → Comes lent start (Came.Record from to original rest) buffer
+comes_inside : {lent buffer : List ℕ} {start rest : Input} {from to original : ℕ} → Comes lent start (Came.Record from to original rest) buffer
     → (from ≤ to) × (to ≤ length buffer)
-comes-inside {buffer = buffer} (finding {input = input} k e) = next-inside buffer input e
+comes_inside {buffer = buffer} (finding {input = input} k e) = next_inside buffer input e
 
-pub came-inside : {lent buffer : List ℕ} {input rest : Input} {came : Came} {from to original : ℕ} → Comes lent input came buffer → came ≡ Came.Record from to original rest
+pub came_inside : {lent buffer : List ℕ} {input rest : Input} {came : Came} {from to original : ℕ} → Comes lent input came buffer → came ≡ Came.Record from to original rest
     → (from ≤ to) × (to ≤ length buffer)
-came-inside {lent} {buffer} {input} {rest} {came} {from} {to} {original} c e =
+came_inside {lent} {buffer} {input} {rest} {came} {from} {to} {original} c e =
     let here : Comes lent input (Came.Record from to original rest) buffer = rw (← e) c in
-    comes-inside here
+    comes_inside here
 
 -- ---- a program's loop, whatever it makes of the records: `whole s reports` is what it comes to from a state on
 
@@ -93,14 +93,14 @@ module _ {S R : Type 0} (whole : S → List Report → R) where
     pub going_end : {buffer' : List ℕ} → Comes buffer input Came.End buffer' → Gone lent s₀ (whole s [])
     going_end c = record { reports = k.reports; ran = to_end k.run c; same = sym all_same }
 
-    pub going-refused : {buffer' : List ℕ} {number : ℕ} → Comes buffer input (Came.Refused number) buffer' → Gone lent s₀ (whole s (refused number ∷ []))
-    going-refused {buffer'} {number} c =
-        record { reports = k.reports ++ refused number ∷ []; ran = to-refusal k.run c; same = sym (k.same (refused number ∷ [])) }
+    pub going_refused : {buffer' : List ℕ} {number : ℕ} → Comes buffer input (Came.Refused number) buffer' → Gone lent s₀ (whole s (refused number ∷ []))
+    going_refused {buffer'} {number} c =
+        record { reports = k.reports ++ refused number ∷ []; ran = to_refusal k.run c; same = sym (k.same (refused number ∷ [])) }
 
-    pub going-tired : made ≡ MOST-TURNS → Gone lent s₀ (whole s [])
-    going-tired e =
+    pub going_tired : made ≡ MOST-TURNS → Gone lent s₀ (whole s [])
+    going_tired e =
         let run : Run lent MOST-TURNS buffer input k.reports = rw (← e) k.run in
-        record { reports = k.reports; ran = on-and-on run; same = sym all_same }
+        record { reports = k.reports; ran = on_and_on run; same = sym all_same }
 
 -- ---- what was reported is so of a file
 
@@ -115,20 +115,20 @@ record Reads (failed : Bool) (lent : List ℕ) (start : Input) (reports : List R
 
 module _ (buffer : List ℕ) (input : Input) where
   -- by the ways to find what stands next, where it isn't the end
-  by-ways : {A : Type 0} → (next_of buffer input ≡ found.End → ⊥)
-      → (Next input.opened input.big input.unread (bytesIn buffer input) (next_of buffer input) → A) → A
+  by_ways : {A : Type 0} → (next_of buffer input ≡ found.End → ⊥)
+      → (Next input.opened input.big input.unread (bytes_in buffer input) (next_of buffer input) → A) → A
   unfolding next_of
-  by-ways {A} n g = go (tidyOf (length buffer) input.unread) refl
+  by_ways {A} n g = go (tidy_of (length buffer) input.unread) refl
     where
-      go : (t : Bool) → tidyOf (length buffer) input.unread ≡ t → A
-      go true t = g (next-cases buffer input t)
+      go : (t : Bool) → tidy_of (length buffer) input.unread ≡ t → A
+      go true t = g (next_cases buffer input t)
       go false t = absurd (n (rw t))
 
   -- more is asked for only where the input isn't at its end
-  more-comes : next_of buffer input ≡ found.More → input.unread.ended ≡ false
-  more-comes e = by-ways (λ z. clash (cc)) go
+  more_comes : next_of buffer input ≡ found.More → input.unread.ended ≡ false
+  more_comes e = by_ways (λ z. clash (cc)) go
     where
-      go : Next input.opened input.big input.unread (bytesIn buffer input) (next_of buffer input) → input.unread.ended ≡ false
+      go : Next input.opened input.big input.unread (bytes_in buffer input) (next_of buffer input) → input.unread.ended ≡ false
       go (next.waits g l p) = g
       go (next.nothing g h o l p) = clash (cc)
       go (next.fails g h o l p) = clash (cc)
@@ -137,29 +137,29 @@ module _ (buffer : List ℕ) (input : Input) where
       go (next.finds captured original o l f p) = clash (cc)
 
   -- what is handed on leaves whether more comes
-  stays : {failed : Bool} (n : ℕ) (big : Bool) {rest : Input} {coming : List ℕ} → rest ≡ behindOf input.unread n big → Done failed rest coming → Done failed input coming
+  stays : {failed : Bool} (n : ℕ) (big : Bool) {rest : Input} {coming : List ℕ} → rest ≡ behind_of input.unread n big → Done failed rest coming → Done failed input coming
   stays n big left d z =
       let g = d (ap (λ (i : Input). i.unread.ended) left ∙ z) in
       (sym (ap (λ (i : Input). i.unread.failed) left) ∙ g.0, g.1)
 
   head_done : {failed : Bool} {rest : Input} {coming : List ℕ} → next_of buffer input ≡ found.Head rest → Done failed rest coming → Done failed input coming
-  head_done {failed} {rest} {coming} e d = by-ways (λ z. clash (cc)) go
+  head_done {failed} {rest} {coming} e d = by_ways (λ z. clash (cc)) go
     where
-      go : Next input.opened input.big input.unread (bytesIn buffer input) (next_of buffer input) → Done failed input coming
-      go (next.opens big l f p) = let left : rest ≡ behindOf input.unread 24 big = cc in stays 24 big left d
+      go : Next input.opened input.big input.unread (bytes_in buffer input) (next_of buffer input) → Done failed input coming
+      go (next.opens big l f p) = let left : rest ≡ behind_of input.unread 24 big = cc in stays 24 big left d
       go (next.waits g l p) = clash (cc)
       go (next.nothing g h o l p) = clash (cc)
       go (next.fails g h o l p) = clash (cc)
       go (next.breaks number f p) = clash (cc)
       go (next.finds captured original o l f p) = clash (cc)
 
-  record-done : {failed : Bool} {from to original : ℕ} {rest : Input} {coming : List ℕ} → next_of buffer input ≡ found.Record from to original rest
+  record_done : {failed : Bool} {from to original : ℕ} {rest : Input} {coming : List ℕ} → next_of buffer input ≡ found.Record from to original rest
       → Done failed rest coming → Done failed input coming
-  record-done {failed} {from} {to} {original} {rest} {coming} e d = by-ways (λ z. clash (cc)) go
+  record_done {failed} {from} {to} {original} {rest} {coming} e d = by_ways (λ z. clash (cc)) go
     where
-      go : Next input.opened input.big input.unread (bytesIn buffer input) (next_of buffer input) → Done failed input coming
+      go : Next input.opened input.big input.unread (bytes_in buffer input) (next_of buffer input) → Done failed input coming
       go (next.finds captured o q l f p) =
-          let left : rest ≡ behindOf input.unread (16 + captured) input.big = cc in
+          let left : rest ≡ behind_of input.unread (16 + captured) input.big = cc in
           stays (16 + captured) input.big left d
       go (next.waits g l p) = clash (cc)
       go (next.nothing g h o l p) = clash (cc)
@@ -168,39 +168,39 @@ module _ (buffer : List ℕ) (input : Input) where
       go (next.opens big l f p) = clash (cc)
 
 module _ {failed : Bool} where
-  passed-back : {lent buffer : List ℕ} {start input : Input} {n : ℕ} {reports : List Report} → Passed lent start n buffer input → Reads failed buffer input reports
+  passed_back : {lent buffer : List ℕ} {start input : Input} {n : ℕ} {reports : List Report} → Passed lent start n buffer input → Reads failed buffer input reports
       → Reads failed lent start reports
-  passed-back here r = r
-  passed-back (opened {buffer = buffer} {input = input} k e) r =
-      passed-back k (record { coming = r.coming; turns = opens e r.turns; done = head_done buffer input e r.done })
-  passed-back (filled {buffer = buffer} {buffer' = buffer'} {input = input} {r = now'} k e f s) r =
-      passed-back k
+  passed_back here r = r
+  passed_back (opened {buffer = buffer} {input = input} k e) r =
+      passed_back k (record { coming = r.coming; turns = opens e r.turns; done = head_done buffer input e r.done })
+  passed_back (filled {buffer = buffer} {buffer' = buffer'} {input = input} {r = now'} k e f s) r =
+      passed_back k
       (record {
-        coming = slice (length (keptOf buffer input.unread)) now'.unread.have buffer' ++ r.coming;
+        coming = slice (length (kept_of buffer input.unread)) now'.unread.have buffer' ++ r.coming;
         turns = more e f s refl r.done r.turns;
-        done = λ z. absurd (true≢false (sym z ∙ more-comes buffer input e));
+        done = λ z. absurd (true≢false (sym z ∙ more_comes buffer input e));
       })
 
-  record-back : {lent buffer : List ℕ} {start rest : Input} {from to original : ℕ} {reports : List Report} → Comes lent start (Came.Record from to original rest) buffer
+  record_back : {lent buffer : List ℕ} {start rest : Input} {from to original : ℕ} {reports : List Report} → Comes lent start (Came.Record from to original rest) buffer
       → Reads failed buffer rest reports → Reads failed lent start (kept original (slice from to buffer) ∷ reports)
-  record-back {buffer = buffer} (finding {input = input} k e) r =
-      passed-back k (record { coming = r.coming; turns = finds e r.turns; done = record-done buffer input e r.done })
+  record_back {buffer = buffer} (finding {input = input} k e) r =
+      passed_back k (record { coming = r.coming; turns = finds e r.turns; done = record_done buffer input e r.done })
 
-  run-back : {lent buffer : List ℕ} {n : ℕ} {input : Input} {reports : List Report} (later : List Report) → Run lent n buffer input reports → Reads failed buffer input later
+  run_back : {lent buffer : List ℕ} {n : ℕ} {input : Input} {reports : List Report} (later : List Report) → Run lent n buffer input reports → Reads failed buffer input later
       → Reads failed lent start_of (reports ++ later)
-  run-back later begun r = r
-  run-back later (on {from = from} {to = to} {original = original} {buffer' = buffer'} {reports = reports} k c) r =
+  run_back later begun r = r
+  run_back later (on {from = from} {to = to} {original = original} {buffer' = buffer'} {reports = reports} k c) r =
       let back : Reads failed _ start_of (reports ++ kept original (slice from to buffer') ∷ later) =
-      run-back (kept original (slice from to buffer') ∷ later) k (record-back c r) in
+      run_back (kept original (slice from to buffer') ∷ later) k (record_back c r) in
       rw (append_assoc reports (kept original (slice from to buffer') ∷ []) later) back
 
 -- the reports of a program are those of a file that its turns read into the lent buffer, unless these ran out
-pub ran-file : {lent : List ℕ} {reports : List Report} → Ran lent reports → ReadFile lent reports ⊎ TurnedOut lent
-ran-file (to_end {reports = reports} k (ending {input = input} p e)) =
-    let back = run-back [] k (passed-back p (record { coming = []; turns = ends e; done = λ z. (refl, refl) })) in
+pub ran_file : {lent : List ℕ} {reports : List Report} → Ran lent reports → ReadFile lent reports ⊎ TurnedOut lent
+ran_file (to_end {reports = reports} k (ending {input = input} p e)) =
+    let back = run_back [] k (passed_back p (record { coming = []; turns = ends e; done = λ z. (refl, refl) })) in
     inl (rw (← (append-nil reports)) (record { failed = input.unread.failed; file = back.coming; turns = back.turns }))
-ran-file (to-refusal {number = number} k (refusing {input = input} p e)) =
-    let back = run-back (refused number ∷ []) k (passed-back p (record { coming = []; turns = refuses e; done = λ z. (refl, refl) })) in
+ran_file (to_refusal {number = number} k (refusing {input = input} p e)) =
+    let back = run_back (refused number ∷ []) k (passed_back p (record { coming = []; turns = refuses e; done = λ z. (refl, refl) })) in
     inl (record { failed = input.unread.failed; file = back.coming; turns = back.turns })
-ran-file (to-refusal k (tiring p)) = inr (in-record k p)
-ran-file (on-and-on k) = inr (in-records k)
+ran_file (to_refusal k (tiring p)) = inr (in_record k p)
+ran_file (on_and_on k) = inr (in_records k)

@@ -2,11 +2,11 @@
 use Rattle.std.specs.Prelude.{◌≡◌, Bool, true, false, cond, List, [], ◌∷◌, ◌++◌, ℕ, zero, suc, ◌+◌, ◌-◌, ltb, eqb, length, take, drop}
 use Rattle.bytes.specs.Bytes.{slice}
 use Rattle.quantity.specs.Refusals.{FILE-HEAD, RECORD}
-use Rattle.lines.specs.Unread.{keptOf}
+use Rattle.lines.specs.Unread.{kept_of}
 use Rattle.records.specs.declared.Input.{Input}
 use Rattle.records.specs.declared.Order.{Order}
 use Rattle.records.specs.declared.Found.TheVariants as found
-use Rattle.records.specs.Heads.{capturedIn, originalIn, order_of}
+use Rattle.records.specs.Heads.{captured_in, original_in, order_of}
 use Rattle.records.specs.Unread.{LONGEST, next_of, Refilled}
 
 -- what is reported of a file: a record, with how many bytes there were and those that were kept, or a refusal
@@ -24,43 +24,43 @@ unfoldable pub first_of : Bool → List ℕ → First
 first_of big bytes =
     cond (eqb (length bytes) 0) none
     (cond (ltb (length bytes) 16) broken
-    (cond (ltb LONGEST (capturedIn big bytes)) broken
-    (cond (ltb (length bytes - 16) (capturedIn big bytes)) broken (whole (capturedIn big bytes) (originalIn big bytes)))))
+    (cond (ltb LONGEST (captured_in big bytes)) broken
+    (cond (ltb (length bytes - 16) (captured_in big bytes)) broken (whole (captured_in big bytes) (original_in big bytes)))))
 
 -- what the first record makes of a file, what stands behind it being reported by `f`
-abbrev pub reportFirst : First → List ℕ → (List ℕ → List Report) → List Report
-reportFirst none bytes f = []
-reportFirst broken bytes f = refused RECORD ∷ []
-reportFirst (whole captured original) bytes f = kept original (take captured (drop 16 bytes)) ∷ f (drop (16 + captured) bytes)
+abbrev pub report_first : First → List ℕ → (List ℕ → List Report) → List Report
+report_first none bytes f = []
+report_first broken bytes f = refused RECORD ∷ []
+report_first (whole captured original) bytes f = kept original (take captured (drop 16 bytes)) ∷ f (drop (16 + captured) bytes)
 
 -- the first argument is a bound on the number of records, which each have a head of 16 bytes
-unfoldable pub recordsWith : ℕ → Bool → List ℕ → List Report
-recordsWith zero big bytes = []
-recordsWith (suc k) big bytes = reportFirst (first_of big bytes) bytes (recordsWith k big)
+unfoldable pub records_with : ℕ → Bool → List ℕ → List Report
+records_with zero big bytes = []
+records_with (suc k) big bytes = report_first (first_of big bytes) bytes (records_with k big)
 
 -- the records behind a file's head, one after another, up to the end or to the first that is refused
-unfoldable pub recordsOf : Bool → List ℕ → List Report
-recordsOf big bytes = recordsWith (length bytes) big bytes
+unfoldable pub records_of : Bool → List ℕ → List Report
+records_of big bytes = records_with (length bytes) big bytes
 
-abbrev pub reportBy : Order → List ℕ → List Report
-reportBy Order.Bad bytes = refused FILE-HEAD ∷ []
-reportBy Order.Little bytes = recordsOf false bytes
-reportBy Order.Big bytes = recordsOf true bytes
+abbrev pub report_by : Order → List ℕ → List Report
+report_by Order.Bad bytes = refused FILE-HEAD ∷ []
+report_by Order.Little bytes = records_of false bytes
+report_by Order.Big bytes = records_of true bytes
 
 -- what is reported of a file; "25 bad file header or another link type"
-unfoldable pub reportsOf : List ℕ → List Report
-reportsOf file = cond (ltb (length file) 24) (refused FILE-HEAD ∷ []) (reportBy (order_of (take 24 file)) (drop 24 file))
+unfoldable pub reports_of : List ℕ → List Report
+reports_of file = cond (ltb (length file) 24) (refused FILE-HEAD ∷ []) (report_by (order_of (take 24 file)) (drop 24 file))
 
 -- what is reported of the bytes before a read that failed: what is reported of a file of them, and where that isn't refused, the record that may follow is
 -- "cut off"
-abbrev pub cutOff : List Report → List Report
-cutOff [] = refused RECORD ∷ []
-cutOff (kept original bytes ∷ reports) = kept original bytes ∷ cutOff reports
-cutOff (refused number ∷ reports) = refused number ∷ reports
+abbrev pub cut_off : List Report → List Report
+cut_off [] = refused RECORD ∷ []
+cut_off (kept original bytes ∷ reports) = kept original bytes ∷ cut_off reports
+cut_off (refused number ∷ reports) = refused number ∷ reports
 
 -- by whether a read fails behind the bytes, or they are the whole file
 abbrev pub closed : Bool → List Report → List Report
-closed failed reports = cond failed (cutOff reports) reports
+closed failed reports = cond failed (cut_off reports) reports
 
 -- the turns of a program: by whether a read fails in the end, the buffer, the input and the bytes that are still to come, what it reports
 pub data Turns (failed : Bool) : List ℕ → Input → List ℕ → List Report → Type 0 where
@@ -75,6 +75,6 @@ pub data Turns (failed : Bool) : List ℕ → Input → List ℕ → List Report
   -- the bytes that were read come first of those to come, and where none were read, none are, and the read failed or the file has ended
   more : {buffer buffer' : List ℕ} {input r : Input} {coming coming' : List ℕ} {reports : List Report}
       → next_of buffer input ≡ found.More → Refilled buffer input r buffer' → length buffer' ≡ length buffer
-      → coming ≡ slice (length (keptOf buffer input.unread)) r.unread.have buffer' ++ coming'
+      → coming ≡ slice (length (kept_of buffer input.unread)) r.unread.have buffer' ++ coming'
       → (r.unread.ended ≡ true → (r.unread.failed ≡ failed) × (coming' ≡ []))
       → Turns failed buffer' r coming' reports → Turns failed buffer input coming reports

@@ -13,8 +13,8 @@ unfoldable pub number_at : Bool → ℕ → List ℕ → ℕ
 number_at big n bytes = cond big (pair_at big n bytes * 65536 + pair_at big (n + 2) bytes) (pair_at big (n + 2) bytes * 65536 + pair_at big n bytes)
 
 -- version 2.4, and link type 1
-unfoldable pub isRight : Bool → List ℕ → Bool
-isRight big head = eqb (pair_at big 4 head) 2 && eqb (pair_at big 6 head) 4 && eqb (number_at big 20 head) 1
+unfoldable pub is_right : Bool → List ℕ → Bool
+is_right big head = eqb (pair_at big 4 head) 2 && eqb (pair_at big 6 head) 4 && eqb (number_at big 20 head) 1
 
 -- "d4 c3 b2 a1" and "a1 b2 c3 d4", the highest byte first
 abbrev pub LITTLE-MAGIC : ℕ
@@ -26,11 +26,11 @@ BIG-MAGIC = 2712847316
 -- the byte order of a head that is right
 unfoldable pub order_of : List ℕ → Order
 order_of head =
-    cond (eqb (number_at true 0 head) BIG-MAGIC) (cond (isRight true head) Order.Big Order.Bad)
-    (cond (eqb (number_at true 0 head) LITTLE-MAGIC) (cond (isRight false head) Order.Little Order.Bad) Order.Bad)
+    cond (eqb (number_at true 0 head) BIG-MAGIC) (cond (is_right true head) Order.Big Order.Bad)
+    (cond (eqb (number_at true 0 head) LITTLE-MAGIC) (cond (is_right false head) Order.Little Order.Bad) Order.Bad)
 
-abbrev pub capturedIn : Bool → List ℕ → ℕ
-capturedIn big bytes = number_at big 8 bytes
+abbrev pub captured_in : Bool → List ℕ → ℕ
+captured_in big bytes = number_at big 8 bytes
 
-abbrev pub originalIn : Bool → List ℕ → ℕ
-originalIn big bytes = number_at big 12 bytes
+abbrev pub original_in : Bool → List ℕ → ℕ
+original_in big bytes = number_at big 12 bytes

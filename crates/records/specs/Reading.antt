@@ -10,30 +10,30 @@ use Rattle.records.specs.Unread.{start_of, next_of, Refilled}
 use Rattle.records.specs.Files.{Report, kept, refused, Turns}
 
 -- what is handed on of what stands next: a record, the end, a refusal; what isn't whole, with nothing more to be read, is "cut off"
-unfoldable pub cameBy : Found → Came
-cameBy found.More = Came.Refused RECORD
-cameBy found.End = Came.End
-cameBy (found.Head rest) = Came.Refused FILE-HEAD
-cameBy (found.Record from to original rest) = Came.Record from to original rest
-cameBy (found.Refused number) = Came.Refused number
+unfoldable pub came_by : Found → Came
+came_by found.More = Came.Refused RECORD
+came_by found.End = Came.End
+came_by (found.Head rest) = Came.Refused FILE-HEAD
+came_by (found.Record from to original rest) = Came.Record from to original rest
+came_by (found.Refused number) = Came.Refused number
 
 -- the file's head is passed over
-abbrev pub pastHead : List ℕ → Found → Found
-pastHead file found.More = found.More
-pastHead file found.End = found.End
-pastHead file (found.Head rest) = next_of file rest
-pastHead file (found.Record from to original rest) = found.Record from to original rest
-pastHead file (found.Refused number) = found.Refused number
+abbrev pub past_head : List ℕ → Found → Found
+past_head file found.More = found.More
+past_head file found.End = found.End
+past_head file (found.Head rest) = next_of file rest
+past_head file (found.Record from to original rest) = found.Record from to original rest
+past_head file (found.Refused number) = found.Refused number
 
 -- the next record of a file of which all is in memory
-unfoldable pub recordIn : List ℕ → Input → Came
-recordIn file input = cameBy (pastHead file (next_of file input))
+unfoldable pub record_in : List ℕ → Input → Came
+record_in file input = came_by (past_head file (next_of file input))
 
 -- what is reported by it: a record, or a refusal; of the end nothing
-abbrev pub reportsBy : List ℕ → Came → List Report
-reportsBy buffer Came.End = []
-reportsBy buffer (Came.Record from to original rest) = kept original (slice from to buffer) ∷ []
-reportsBy buffer (Came.Refused number) = refused number ∷ []
+abbrev pub reports_by : List ℕ → Came → List Report
+reports_by buffer Came.End = []
+reports_by buffer (Came.Record from to original rest) = kept original (slice from to buffer) ∷ []
+reports_by buffer (Came.Refused number) = refused number ∷ []
 
 -- ---- of a file that is read in pieces
 
@@ -67,9 +67,9 @@ pub data Run (lent : List ℕ) : ℕ → List ℕ → Input → List Report → 
 pub data Ran (lent : List ℕ) : List Report → Type 0 where
   to_end : {n : ℕ} {buffer buffer' : List ℕ} {input : Input} {reports : List Report} → Run lent n buffer input reports → Comes buffer input Came.End buffer'
       → Ran lent reports
-  to-refusal : {n number : ℕ} {buffer buffer' : List ℕ} {input : Input} {reports : List Report} → Run lent n buffer input reports
+  to_refusal : {n number : ℕ} {buffer buffer' : List ℕ} {input : Input} {reports : List Report} → Run lent n buffer input reports
       → Comes buffer input (Came.Refused number) buffer' → Ran lent (reports ++ refused number ∷ [])
-  on-and-on : {buffer : List ℕ} {input : Input} {reports : List Report} → Run lent MOST-TURNS buffer input reports → Ran lent reports
+  on_and_on : {buffer : List ℕ} {input : Input} {reports : List Report} → Run lent MOST-TURNS buffer input reports → Ran lent reports
 
 -- a file, read whole or up to a read that fails, of which this is reported
 pub record ReadFile (lent : List ℕ) (reports : List Report) : Type 0 where
@@ -79,6 +79,6 @@ pub record ReadFile (lent : List ℕ) (reports : List Report) : Type 0 where
 
 -- all turns were made, for one record or for all of them
 pub data TurnedOut (lent : List ℕ) : Type 0 where
-  in-record : {n : ℕ} {buffer buffer' : List ℕ} {input input' : Input} {reports : List Report} → Run lent n buffer input reports
+  in_record : {n : ℕ} {buffer buffer' : List ℕ} {input input' : Input} {reports : List Report} → Run lent n buffer input reports
       → Passed buffer input MOST-TURNS buffer' input' → TurnedOut lent
-  in-records : {buffer : List ℕ} {input : Input} {reports : List Report} → Run lent MOST-TURNS buffer input reports → TurnedOut lent
+  in_records : {buffer : List ℕ} {input : Input} {reports : List Report} → Run lent MOST-TURNS buffer input reports → TurnedOut lent

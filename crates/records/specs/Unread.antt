@@ -8,7 +8,7 @@ use Rattle.records.specs.declared.Input.{Input}
 use Rattle.records.specs.declared.Order.{Order}
 use Rattle.records.specs.declared.Found.{Found}
 use Rattle.records.specs.declared.Found.TheVariants.{More, End, Head, Record, Refused}
-use Rattle.records.specs.Heads.{capturedIn, originalIn, order_of}
+use Rattle.records.specs.Heads.{captured_in, original_in, order_of}
 
 -- the longest record that is taken, and the heads
 abbrev pub LONGEST : ℕ
@@ -29,45 +29,45 @@ held_of n = record { unread = record { at = 0; have = n; over = false; ended = t
 -- ---- what stands next
 
 -- the input of an opened file behind n bytes
-abbrev pub behindOf : lines.Input → ℕ → Bool → Input
-behindOf unread n big = record { unread = pieces.rest_of unread (unread.at + n); opened = true; big = big }
+abbrev pub behind_of : lines.Input → ℕ → Bool → Input
+behind_of unread n big = record { unread = pieces.rest_of unread (unread.at + n); opened = true; big = big }
 
 -- where there is too little of something: cut off, if nothing more comes
 abbrev pub short_of : Bool → ℕ → Found
 short_of ended number = cond ended (Refused number) More
 
 -- between two records: the end, if nothing more comes; if reading failed, the record that may follow is "cut off"
-abbrev pub betweenOf : lines.Input → Found
-betweenOf unread = cond unread.ended (cond unread.failed (Refused RECORD) End) More
+abbrev pub between_of : lines.Input → Found
+between_of unread = cond unread.ended (cond unread.failed (Refused RECORD) End) More
 
 -- by the byte order of a file's head
-abbrev pub openedBy : lines.Input → Order → Found
-openedBy unread Order.Bad = Refused FILE-HEAD
-openedBy unread Order.Little = Head (behindOf unread 24 false)
-openedBy unread Order.Big = Head (behindOf unread 24 true)
+abbrev pub opened_by : lines.Input → Order → Found
+opened_by unread Order.Bad = Refused FILE-HEAD
+opened_by unread Order.Little = Head (behind_of unread 24 false)
+opened_by unread Order.Big = Head (behind_of unread 24 true)
 
 -- of the file's head, by the bytes that are unread
-unfoldable pub headFound : List ℕ → lines.Input → Found
-headFound bytes unread = cond (ltb (length bytes) 24) (short_of unread.ended FILE-HEAD) (openedBy unread (order_of (take 24 bytes)))
+unfoldable pub head_found : List ℕ → lines.Input → Found
+head_found bytes unread = cond (ltb (length bytes) 24) (short_of unread.ended FILE-HEAD) (opened_by unread (order_of (take 24 bytes)))
 
 -- of a record: an end between two of them; a head that is cut off; a length that is too large; bytes that are cut off; a whole one
-unfoldable pub recordFound : List ℕ → lines.Input → Bool → Found
-recordFound bytes unread big =
-    cond (eqb (length bytes) 0) (betweenOf unread)
+unfoldable pub record_found : List ℕ → lines.Input → Bool → Found
+record_found bytes unread big =
+    cond (eqb (length bytes) 0) (between_of unread)
     (cond (ltb (length bytes) 16) (short_of unread.ended RECORD)
-    (cond (ltb LONGEST (capturedIn big bytes)) (Refused RECORD)
-    (cond (ltb (length bytes - 16) (capturedIn big bytes)) (short_of unread.ended RECORD)
-    (Record (unread.at + 16) (unread.at + 16 + capturedIn big bytes) (originalIn big bytes) (behindOf unread (16 + capturedIn big bytes) big)))))
+    (cond (ltb LONGEST (captured_in big bytes)) (Refused RECORD)
+    (cond (ltb (length bytes - 16) (captured_in big bytes)) (short_of unread.ended RECORD)
+    (Record (unread.at + 16) (unread.at + 16 + captured_in big bytes) (original_in big bytes) (behind_of unread (16 + captured_in big bytes) big)))))
 
 -- the bytes that are unread
-abbrev pub bytesIn : List ℕ → Input → List ℕ
-bytesIn buffer input = slice input.unread.at input.unread.have buffer
+abbrev pub bytes_in : List ℕ → Input → List ℕ
+bytes_in buffer input = slice input.unread.at input.unread.have buffer
 
 -- what stands next; an input that doesn't lie within the buffer is at its end
 unfoldable pub next_of : List ℕ → Input → Found
 next_of buffer input =
-    cond (pieces.tidyOf (length buffer) input.unread)
-    (cond input.opened (recordFound (bytesIn buffer input) input.unread input.big) (headFound (bytesIn buffer input) input.unread))
+    cond (pieces.tidy_of (length buffer) input.unread)
+    (cond input.opened (record_found (bytes_in buffer input) input.unread input.big) (head_found (bytes_in buffer input) input.unread))
     End
 
 -- ---- reading more

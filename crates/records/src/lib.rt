@@ -1,10 +1,10 @@
 // Records of a classic pcap file on standard input, read piece by piece into one lent buffer, which has room for the
 // longest record with its head.
 ghost use Rattle.std.specs.Prelude.{◌≡◌, ◌+◌, ◌≤◌, ◌<◌, length, get_or};
-ghost use Rattle.lines.specs.Unread.{tidyOf};
-ghost use Rattle.records.specs.Heads.{number_at, pair_at, isRight, order_of};
-ghost use Rattle.records.specs.Unread.{start_of, held_of, behindOf, short_of, betweenOf, headFound, recordFound, next_of, Refilled};
-ghost use Rattle.records.specs.Reading.{cameBy, recordIn, Comes};
+ghost use Rattle.lines.specs.Unread.{tidy_of};
+ghost use Rattle.records.specs.Heads.{number_at, pair_at, is_right, order_of};
+ghost use Rattle.records.specs.Unread.{start_of, held_of, behind_of, short_of, between_of, head_found, record_found, next_of, Refilled};
+ghost use Rattle.records.specs.Reading.{came_by, record_in, Comes};
 
 use quantity::refusal::{FILE_HEAD, RECORD};
 
@@ -145,7 +145,7 @@ fn number(bytes: &[u8], at: usize, big: bool) -> usize
 // Whether a head is of version 2.4 and of Ethernet.
 fn is_right(head: &[u8], big: bool) -> bool
     requires { 24 ≤ length head.now }
-    ensures { result ≡ isRight big head.now }
+    ensures { result ≡ is_right big head.now }
 {
     if pair(head, 4, big) != 2 {
         return false;
@@ -178,7 +178,7 @@ fn order_of(head: &[u8]) -> Order
 
 // Whether what is unread lies within a buffer.
 fn tidy(unread: lines::Input, size: usize) -> bool
-    ensures { result ≡ tidyOf size unread }
+    ensures { result ≡ tidy_of size unread }
 {
     if unread.at > unread.have {
         return false;
@@ -189,7 +189,7 @@ fn tidy(unread: lines::Input, size: usize) -> bool
 // The input of an opened file behind n bytes.
 fn behind(unread: lines::Input, n: usize, big: bool) -> Input
     requires { unread.at + n ≤ unread.have }
-    ensures { result ≡ behindOf unread n big }
+    ensures { result ≡ behind_of unread n big }
 {
     let rest = lines::Input {
         at: unread.at + n,
@@ -218,7 +218,7 @@ fn short(ended: bool, number: u8) -> Found
 // What is found between two records: the end, if nothing more comes; where reading failed, the record that may follow
 // is cut off.
 fn between(unread: lines::Input) -> Found
-    ensures { result ≡ betweenOf unread }
+    ensures { result ≡ between_of unread }
 {
     if unread.ended {
         if unread.failed {
@@ -232,7 +232,7 @@ fn between(unread: lines::Input) -> Found
 // What is found of the file's head.
 fn head_found(bytes: &[u8], unread: lines::Input) -> Found
     requires { unread.at + length bytes.now ≤ unread.have }
-    ensures { result ≡ headFound bytes.now unread }
+    ensures { result ≡ head_found bytes.now unread }
 {
     if bytes.len() < HEAD {
         return short(unread.ended, FILE_HEAD);
@@ -247,7 +247,7 @@ fn head_found(bytes: &[u8], unread: lines::Input) -> Found
 // What is found of a record.
 fn record_found(bytes: &[u8], unread: lines::Input, big: bool) -> Found
     requires { unread.at + length bytes.now ≤ unread.have }
-    ensures { result ≡ recordFound bytes.now unread big }
+    ensures { result ≡ record_found bytes.now unread big }
 {
     if bytes.len() == 0 {
         return between(unread);
@@ -290,7 +290,7 @@ pub fn next(buffer: &[u8], input: Input) -> Found
 
 // What is handed on of what stands next. What isn't whole, with nothing more to be read, is cut off; an opened file has no head.
 fn handed(found: Found) -> Came
-    ensures { result ≡ cameBy found }
+    ensures { result ≡ came_by found }
 {
     match found {
         Found::More => Came::Refused(RECORD),
@@ -313,7 +313,7 @@ fn handed(found: Found) -> Came
 
 // The next record of a capture of which all is in memory; the file's head is passed over.
 pub fn record_in(capture: &[u8], input: Input) -> Came
-    ensures { result ≡ recordIn capture.now input }
+    ensures { result ≡ record_in capture.now input }
 {
     let found = next(capture, input);
     match found {

@@ -6,19 +6,19 @@ use Prim.Native.Nat.{ℕ, ◌≤◌}
 use lib.ListN.{length, get_or, replicate}
 use Rattle.quantity.specs.declared.count.DatalinkId.{DatalinkId}
 use Rattle.records.specs.Unread.{ROOM}
-use Rattle.records.specs.Endings.{refusalIn}
+use Rattle.records.specs.Endings.{refusal_in}
 use Rattle.records.specs.Reading.{ReadFile, TurnedOut}
-use Rattle.records.proofs.Pieces.{ran-file}
-use Rattle.records.proofs.Whole.{every-record}
+use Rattle.records.proofs.Pieces.{ran_file}
+use Rattle.records.proofs.Whole.{every_record}
 use Rattle.ethernet.specs.declared.Ports.{Ports}
 use Rattle.census.specs.Places.{PLACES}
 use Rattle.census.specs.Counts.{place_of}
-use Rattle.census.proofs.Totals.{whole-count}
+use Rattle.census.proofs.Totals.{whole_count}
 use Rattle.report.specs.Serving.{Served, CountsOf}
 
-pub served-counts : (ports : Ports) (id : DatalinkId) (lent : List ℕ) → ROOM ≤ length lent → {r : ℕ} {counts : List ℕ} → Served ports id lent (replicate PLACES 0) r counts
+pub served_counts : (ports : Ports) (id : DatalinkId) (lent : List ℕ) → ROOM ≤ length lent → {r : ℕ} {counts : List ℕ} → Served ports id lent (replicate PLACES 0) r counts
     → CountsOf ports id lent r counts ⊎ TurnedOut lent
-served-counts ports id lent room {r} {counts} k = go (ran-file k.ran)
+served_counts ports id lent room {r} {counts} k = go (ran_file k.ran)
   where
     go : ReadFile lent k.reports ⊎ TurnedOut lent → CountsOf ports id lent r counts ⊎ TurnedOut lent
     go (inl read) =
@@ -28,7 +28,7 @@ served-counts ports id lent room {r} {counts} k = go (ran-file k.ran)
           file = read.file;
           reports = k.reports;
           turns = read.turns;
-          refusal = k.refusal ∙ ap refusalIn (every-record lent read.file k.reports room read.turns);
-          counts-are = λ count known. ap (λ (l : List ℕ). get_or l (place_of count) 0) k.counts-are ∙ whole-count ports id lent read.file k.reports room read.turns count known;
+          refusal = k.refusal ∙ ap refusal_in (every_record lent read.file k.reports room read.turns);
+          counts_are = λ count known. ap (λ (l : List ℕ). get_or l (place_of count) 0) k.counts_are ∙ whole_count ports id lent read.file k.reports room read.turns count known;
         })
     go (inr out) = inr out

@@ -15,18 +15,18 @@ use Rattle.quantity.specs.Refusals.{NO-ROOM, NOT-WRITABLE}
 use Rattle.wire.specs.Options.{over}
 use Rattle.writer.specs.declared.answer.WriteAnswer.{WriteAnswer}
 use Rattle.writer.specs.Written.{Outcome}
-use Rattle.roundtrip.specs.Answers.{Room, refusedBy, Exact}
+use Rattle.roundtrip.specs.Answers.{Room, refused_by, Exact}
 
 -- any two outcomes of a writer coincide
 pub outcome-one : {allowed : Bool} {message out : List ℕ} {answer answer' : WriteAnswer} {out' out'' : List ℕ} → Outcome allowed message out answer out' → Outcome allowed message out answer' out''
     → (answer ≡ answer') × (out' ≡ out'')
-outcome-one o p = (o.answers ∙ sym p.answers, o.bytes-are ∙ sym p.bytes-are)
+outcome-one o p = (o.answers ∙ sym p.answers, o.bytes_are ∙ sym p.bytes_are)
 
 -- no answer is two
 apart : {count : ByteCount} {refusal : Refusal} → WriteAnswer.Wrote count ≡ WriteAnswer.Refused refusal → ⊥
 apart e = clash (cc)
 
-two-numbers : refusedBy NO-ROOM ≡ refusedBy NOT-WRITABLE → ⊥
+two-numbers : refused_by NO-ROOM ≡ refused_by NOT-WRITABLE → ⊥
 two-numbers e =
     let same : ◌≡◌ {A = Refusal} (record { number = NO-ROOM; place = 0 }) (record { number = NOT-WRITABLE; place = 0 }) = cc in
     omega (arith, ap (λ (r : Refusal). r.number) same)
@@ -36,13 +36,13 @@ module _ (message out : List ℕ) (answer : WriteAnswer) (out' : List ℕ) where
   wrote : Room message out → answer ≡ WriteAnswer.Wrote (record { 0 = length message }) → out' ≡ over message out → Exact true message out answer out'
   wrote r a b = record {
     written = λ p q. (a, b);
-    sent = λ count e. record { is-allowed = refl; room = r; count-is = cc; bytes-are = b };
+    sent = λ count e. record { is-allowed = refl; room = r; count_is = cc; bytes_are = b };
     disallowed = (λ e. absurd (apart (sym a ∙ e)), λ p. absurd (true≢false p));
     no_room = (λ e. absurd (apart (sym a ∙ e)), λ p. absurd (p.1 r));
     stays = λ refusal e. absurd (apart (sym a ∙ e));
   }
 
-  narrow : (Room message out → ⊥) → answer ≡ refusedBy NO-ROOM → out' ≡ out → Exact true message out answer out'
+  narrow : (Room message out → ⊥) → answer ≡ refused_by NO-ROOM → out' ≡ out → Exact true message out answer out'
   narrow n a b = record {
     written = λ p q. absurd (n q);
     sent = λ count e. absurd (apart (sym e ∙ a));
@@ -51,7 +51,7 @@ module _ (message out : List ℕ) (answer : WriteAnswer) (out' : List ℕ) where
     stays = λ refusal e. b;
   }
 
-  meaningless : answer ≡ refusedBy NOT-WRITABLE → out' ≡ out → Exact false message out answer out'
+  meaningless : answer ≡ refused_by NOT-WRITABLE → out' ≡ out → Exact false message out answer out'
   meaningless a b = record {
     written = λ p q. absurd (false≢true p);
     sent = λ count e. absurd (apart (sym e ∙ a));
@@ -62,13 +62,13 @@ module _ (message out : List ℕ) (answer : WriteAnswer) (out' : List ℕ) where
 
   by-room : Outcome true message out answer out' → (a : Bool) → ltb (length out) (length message) ≡ a → (b : Bool) → ltb LONGEST-DATAGRAM (length message) ≡ b
       → Exact true message out answer out'
-  by-room o true e b f = narrow (λ r. omega (arith, ltb-true (length out) (length message) e, r.in-output)) (o.answers ∙ rw e) (o.bytes-are ∙ rw e)
+  by-room o true e b f = narrow (λ r. omega (arith, ltb-true (length out) (length message) e, r.in-output)) (o.answers ∙ rw e) (o.bytes_are ∙ rw e)
   by-room o false e true f =
-      narrow (λ r. omega (arith, ltb-true LONGEST-DATAGRAM (length message) f, r.in-datagram)) (o.answers ∙ rw (e, f)) (o.bytes-are ∙ rw (e, f))
+      narrow (λ r. omega (arith, ltb-true LONGEST-DATAGRAM (length message) f, r.in-datagram)) (o.answers ∙ rw (e, f)) (o.bytes_are ∙ rw (e, f))
   by-room o false e false f =
       wrote (record { in-output = ltb-false (length out) (length message) e; in-datagram = ltb-false LONGEST-DATAGRAM (length message) f })
-      (o.answers ∙ rw (e, f)) (o.bytes-are ∙ rw (e, f))
+      (o.answers ∙ rw (e, f)) (o.bytes_are ∙ rw (e, f))
 
   pub exact : (allowed : Bool) → Outcome allowed message out answer out' → Exact allowed message out answer out'
-  exact false o = meaningless o.answers o.bytes-are
+  exact false o = meaningless o.answers o.bytes_are
   exact true o = by-room o (ltb (length out) (length message)) refl (ltb LONGEST-DATAGRAM (length message)) refl

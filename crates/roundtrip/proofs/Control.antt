@@ -9,12 +9,12 @@ use native.Mathlib.Nat.{mod-eq_of_lt}
 use borrow.Author.Tests.{eq-eqb, leb-true, ltb-true}
 use lib.ListN.{length, get_or, replicate}
 use lib.Dec.{ltb, leb, eqb, lit≤}
-use Rattle.facts.proofs.Tables.{tabulate-same, each-place}
+use Rattle.facts.proofs.Tables.{tabulate_same, each_place}
 use Rattle.quantity.specs.declared.count.DatalinkId.{DatalinkId}
 use Rattle.quantity.specs.Limits.{LONGEST-DATAGRAM, HIGHEST-STATUS, SHORTEST-NAME, LONGEST-NAME}
-use Rattle.wire.specs.Numbers.{bytes_of, bigEndian}
-use Rattle.wire.specs.Options.{Options, done, option, bytes, Whole-options}
-use Rattle.wire.proofs.Numbers.{length-bytes, there_and_back}
+use Rattle.wire.specs.Numbers.{bytes_of, big_endian}
+use Rattle.wire.specs.Options.{Options, done, option, bytes, WholeOptions}
+use Rattle.wire.proofs.Numbers.{length_bytes, there_and_back}
 use Rattle.meaning.specs.declared.message.End.{End}
 use Rattle.meaning.specs.declared.message.Plane.TheVariants as planes
 use Rattle.meaning.specs.declared.message.Datalink.{Datalink}
@@ -27,258 +27,258 @@ use Rattle.meaning.specs.declared.message.StatusCell.{StatusCell}
 use Rattle.meaning.specs.declared.message.SequenceCell.{SequenceCell}
 use Rattle.meaning.specs.declared.message.WindowCell.{WindowCell}
 use Rattle.meaning.specs.declared.message.Control.{Control}
-use Rattle.meaning.specs.Kinds.{among, known, lengthListed, valueListed, LINK-INSTANCE, DATALINK-CONTEXT, CHANNEL-STATUS, FLOW-WINDOW, FLOW-SEQUENCE, PACKET-DATA}
-use Rattle.meaning.specs.Cells.{noStatus, noSequence, noWindow}
-use Rattle.read_option.specs.Stated.{statusFrom, sequenceFrom, windowFrom, controlStated}
+use Rattle.meaning.specs.Kinds.{among, known, length_listed, value_listed, LINK-INSTANCE, DATALINK-CONTEXT, CHANNEL-STATUS, FLOW-WINDOW, FLOW-SEQUENCE, PACKET-DATA}
+use Rattle.meaning.specs.Cells.{no_status, no_sequence, no_window}
+use Rattle.read_option.specs.Stated.{status_from, sequence_from, window_from, control_stated}
 use Rattle.read_rules.specs.Judging.{judge}
-use Rattle.read_rules.specs.Sorts.{channelOf, finishOf}
-use Rattle.read_control.specs.Message.{blankControl, controlSort, controlAccepted, unstatedStatus, controlUnstated, controlState}
-use Rattle.reader.specs.Readings.{readControl}
-use Rattle.writable.specs.Allowed.{may, fitsLength, datalinkAllowed, instanceAllowed, contextAllowed, statusAllowed, statusesAllowed, primaryAllowed, sequenceAllowed, sequencesAllowed, windowAllowed, windowsAllowed, controlAllowed, stands}
-use Rattle.write_option.specs.Parts.{datalinkThen, instanceThen, contextThen, statusThen, sequenceThen, windowThen, statusesThen, sequencesThen, windowsThen}
-use Rattle.writer.specs.Written.{controlOptions, controlWritten, CONTROL-HEADER}
+use Rattle.read_rules.specs.Sorts.{channel_of, finish_of}
+use Rattle.read_control.specs.Message.{blank_control, control_sort, control_accepted, unstated_status, control_unstated, control_state}
+use Rattle.reader.specs.Readings.{read_control}
+use Rattle.writable.specs.Allowed.{may, fits_length, datalink_allowed, instance_allowed, context_allowed, status_allowed, statuses_allowed, primary_allowed, sequence_allowed, sequences_allowed, window_allowed, windows_allowed, control_allowed, stands}
+use Rattle.write_option.specs.Parts.{datalink_then, instance_then, context_then, status_then, sequence_then, window_then, statuses_then, sequences_then, windows_then}
+use Rattle.writer.specs.Written.{control_options, control_written, CONTROL-HEADER}
 use Rattle.roundtrip.specs.Values.{SequenceWord, WindowWord, ControlValue}
-use Rattle.roundtrip.proofs.Adding.{Adds, adds_none, adds-option, adds-both, adds-datalink, read_back}
-use Rattle.roundtrip.proofs.Tables.{Cell, nothing, stated, Column, adds-column}
+use Rattle.roundtrip.proofs.Adding.{Adds, adds_none, adds_option, adds_both, adds_datalink, read_back}
+use Rattle.roundtrip.proofs.Tables.{Cell, nothing, stated, Column, adds_column}
 
 -- a message with another part of one kind
-abbrev withDatalink : Control → Datalink → Control
-withDatalink m d = record { datalink = d; instance = m.instance; context = m.context; statuses = m.statuses; sequences = m.sequences; windows = m.windows }
+abbrev with_datalink : Control → Datalink → Control
+with_datalink m d = record { datalink = d; instance = m.instance; context = m.context; statuses = m.statuses; sequences = m.sequences; windows = m.windows }
 
-abbrev withInstance : Control → Instance → Control
-withInstance m x = record { datalink = m.datalink; instance = x; context = m.context; statuses = m.statuses; sequences = m.sequences; windows = m.windows }
+abbrev with_instance : Control → Instance → Control
+with_instance m x = record { datalink = m.datalink; instance = x; context = m.context; statuses = m.statuses; sequences = m.sequences; windows = m.windows }
 
-abbrev withContext : Control → Context → Control
-withContext m c = record { datalink = m.datalink; instance = m.instance; context = c; statuses = m.statuses; sequences = m.sequences; windows = m.windows }
+abbrev with_context : Control → Context → Control
+with_context m c = record { datalink = m.datalink; instance = m.instance; context = c; statuses = m.statuses; sequences = m.sequences; windows = m.windows }
 
-abbrev withStatuses : Control → List StatusCell → Control
-withStatuses m cells = record { datalink = m.datalink; instance = m.instance; context = m.context; statuses = cells; sequences = m.sequences; windows = m.windows }
+abbrev with_statuses : Control → List StatusCell → Control
+with_statuses m cells = record { datalink = m.datalink; instance = m.instance; context = m.context; statuses = cells; sequences = m.sequences; windows = m.windows }
 
-abbrev withSequences : Control → List SequenceCell → Control
-withSequences m cells = record { datalink = m.datalink; instance = m.instance; context = m.context; statuses = m.statuses; sequences = cells; windows = m.windows }
+abbrev with_sequences : Control → List SequenceCell → Control
+with_sequences m cells = record { datalink = m.datalink; instance = m.instance; context = m.context; statuses = m.statuses; sequences = cells; windows = m.windows }
 
-abbrev withWindows : Control → List WindowCell → Control
-withWindows m cells = record { datalink = m.datalink; instance = m.instance; context = m.context; statuses = m.statuses; sequences = m.sequences; windows = cells }
+abbrev with_windows : Control → List WindowCell → Control
+with_windows m cells = record { datalink = m.datalink; instance = m.instance; context = m.context; statuses = m.statuses; sequences = m.sequences; windows = cells }
 
 -- ---- Link Instance and Context: a number of n bytes
 
 module _ (end : End) (id : DatalinkId) where
-  adds-spelled : (kind value n : ℕ) (m m' : Control) → among kind known ≡ true → eqb kind PACKET-DATA ≡ false
-      → lengthListed kind n ≡ leb SHORTEST-NAME n && leb n LONGEST-NAME → ((content : List ℕ) → valueListed kind content ≡ true)
-      → ((content : List ℕ) → controlUnstated kind (channelOf planes.Control kind content) m ≡ true)
-      → ((content : List ℕ) → bigEndian content ≡ value → length content ≡ n → controlState kind (channelOf planes.Control kind content) content m ≡ m')
-      → may planes.Control end kind && fitsLength kind value n ≡ true → Adds (controlSort end id) 1 (option kind (bytes_of n value)) m m'
-  adds-spelled kind value n m m' k p l v f s e =
-      let parts = (and-eq-true_iff (may planes.Control end kind) (fitsLength kind value n)).0 e in
-      let fits = (and-eq-true_iff (lengthListed kind n) (ltb value (256 ^ n))).0 parts.1 in
+  adds_spelled : (kind value n : ℕ) (m m' : Control) → among kind known ≡ true → eqb kind PACKET-DATA ≡ false
+      → length_listed kind n ≡ leb SHORTEST-NAME n && leb n LONGEST-NAME → ((content : List ℕ) → value_listed kind content ≡ true)
+      → ((content : List ℕ) → control_unstated kind (channel_of planes.Control kind content) m ≡ true)
+      → ((content : List ℕ) → big_endian content ≡ value → length content ≡ n → control_state kind (channel_of planes.Control kind content) content m ≡ m')
+      → may planes.Control end kind && fits_length kind value n ≡ true → Adds (control_sort end id) 1 (option kind (bytes_of n value)) m m'
+  adds_spelled kind value n m m' k p l v f s e =
+      let parts = (and-eq-true_iff (may planes.Control end kind) (fits_length kind value n)).0 e in
+      let fits = (and-eq-true_iff (length_listed kind n) (ltb value (256 ^ n))).0 parts.1 in
       let bounds = (and-eq-true_iff (leb SHORTEST-NAME n) (leb n LONGEST-NAME)).0 (sym l ∙ fits.0) in
       let content = bytes_of n value in
-      adds-option (controlSort end id)
+      adds_option (control_sort end id)
       (record {
         opened = refl;
         is_known = k;
-        may-stand = parts.0;
-        length-listed = rw length-bytes fits.0;
-        value-listed = v content;
+        may_stand = parts.0;
+        length_listed_lem = rw length_bytes fits.0;
+        value_listed_lem = v content;
         is_free = f content;
-        states = s content (there_and_back n value (ltb-true value (256 ^ n) fits.1)) (length-bytes n value);
+        states = s content (there_and_back n value (ltb-true value (256 ^ n) fits.1)) (length_bytes n value);
       })
-      (rw length-bytes (leb-true n LONGEST-NAME bounds.1)) p
+      (rw length_bytes (leb-true n LONGEST-NAME bounds.1)) p
 
-  adds-instance : (m : Control) (x : Instance) → instanceAllowed end x ≡ true → Adds (controlSort end id) 1 (instanceThen x) (withInstance m Instance.Absent) (withInstance m x)
-  unfolding lengthListed valueListed controlUnstated controlState
-  adds-instance m Instance.Absent e = adds_none (controlSort end id) 1 (withInstance m Instance.Absent)
-  adds-instance m (Instance.Given v n) e =
-      adds-spelled LINK-INSTANCE v.0 n (withInstance m Instance.Absent) (withInstance m (Instance.Given v n)) refl refl refl (λ content. refl) (λ content. refl)
+  adds_instance : (m : Control) (x : Instance) → instance_allowed end x ≡ true → Adds (control_sort end id) 1 (instance_then x) (with_instance m Instance.Absent) (with_instance m x)
+  unfolding length_listed value_listed control_unstated control_state
+  adds_instance m Instance.Absent e = adds_none (control_sort end id) 1 (with_instance m Instance.Absent)
+  adds_instance m (Instance.Given v n) e =
+      adds_spelled LINK-INSTANCE v.0 n (with_instance m Instance.Absent) (with_instance m (Instance.Given v n)) refl refl refl (λ content. refl) (λ content. refl)
       (λ content b l. rw (b, l)) e
 
-  adds-context : (m : Control) (x : Context) → contextAllowed end x ≡ true → Adds (controlSort end id) 1 (contextThen x) (withContext m Context.Absent) (withContext m x)
-  unfolding lengthListed valueListed controlUnstated controlState
-  adds-context m Context.Absent e = adds_none (controlSort end id) 1 (withContext m Context.Absent)
-  adds-context m (Context.Given v n) e =
-      adds-spelled DATALINK-CONTEXT v.0 n (withContext m Context.Absent) (withContext m (Context.Given v n)) refl refl refl (λ content. refl) (λ content. refl)
+  adds_context : (m : Control) (x : Context) → context_allowed end x ≡ true → Adds (control_sort end id) 1 (context_then x) (with_context m Context.Absent) (with_context m x)
+  unfolding length_listed value_listed control_unstated control_state
+  adds_context m Context.Absent e = adds_none (control_sort end id) 1 (with_context m Context.Absent)
+  adds_context m (Context.Given v n) e =
+      adds_spelled DATALINK-CONTEXT v.0 n (with_context m Context.Absent) (with_context m (Context.Given v n)) refl refl refl (λ content. refl) (λ content. refl)
       (λ content b l. rw (b, l)) e
 
 -- ---- the three tables, each with what a content makes of a place
 
-abbrev statusMade : List ℕ → StatusCell
-statusMade content = record { status = statusFrom (some content) }
+abbrev status_made : List ℕ → StatusCell
+status_made content = record { status = status_from (some content) }
 
-abbrev sequenceMade : List ℕ → SequenceCell
-sequenceMade content = record { sequence = sequenceFrom (some content) }
+abbrev sequence_made : List ℕ → SequenceCell
+sequence_made content = record { sequence = sequence_from (some content) }
 
-abbrev windowMade : List ℕ → WindowCell
-windowMade content = record { window = windowFrom (some content) }
+abbrev window_made : List ℕ → WindowCell
+window_made content = record { window = window_from (some content) }
 
 module _ (end : End) where
-  status-cell : (channel : ℕ) (x : Status) → statusAllowed end x ≡ true → Cell end CHANNEL-STATUS noStatus statusMade channel (statusThen channel x) (record { status = x })
-  unfolding lengthListed
-  status-cell channel Status.Absent e = nothing
-  status-cell channel (Status.Given s) e =
+  status_cell : (channel : ℕ) (x : Status) → status_allowed end x ≡ true → Cell end CHANNEL-STATUS no_status status_made channel (status_then channel x) (record { status = x })
+  unfolding length_listed
+  status_cell channel Status.Absent e = nothing
+  status_cell channel (Status.Given s) e =
       let parts = (and-eq-true_iff (may planes.Control end CHANNEL-STATUS) (leb s HIGHEST-STATUS)).0 e in
       let small : s < 16 = omega (arith, leb-true s HIGHEST-STATUS parts.1) in
       stated (record { status = Status.Given s }) (s ∷ []) parts.0 refl (lit≤ tt) (rw (mod-eq_of_lt small))
 
-  sequence-cell : (channel : ℕ) (x : Sequence) → sequenceAllowed end x ≡ true → SequenceWord x
-      → Cell end FLOW-SEQUENCE noSequence sequenceMade channel (sequenceThen channel x) (record { sequence = x })
-  unfolding lengthListed
-  sequence-cell channel Sequence.Absent e w = nothing
-  sequence-cell channel (Sequence.Given s) e w =
-      let l = length-bytes 4 s.0 in
+  sequence_cell : (channel : ℕ) (x : Sequence) → sequence_allowed end x ≡ true → SequenceWord x
+      → Cell end FLOW-SEQUENCE no_sequence sequence_made channel (sequence_then channel x) (record { sequence = x })
+  unfolding length_listed
+  sequence_cell channel Sequence.Absent e w = nothing
+  sequence_cell channel (Sequence.Given s) e w =
+      let l = length_bytes 4 s.0 in
       stated (record { sequence = Sequence.Given s }) (bytes_of 4 s.0) e (rw l) (omega arith) (rw (there_and_back 4 s.0 w))
 
-  window-cell : (channel : ℕ) (x : Window) → windowAllowed end x ≡ true → WindowWord x
-      → Cell end FLOW-WINDOW noWindow windowMade channel (windowThen channel x) (record { window = x })
-  unfolding lengthListed
-  window-cell channel Window.Absent e w = nothing
-  window-cell channel Window.Empty e w = stated (record { window = Window.Empty }) [] e refl (lit≤ tt) refl
-  window-cell channel (Window.Given x) e w =
-      let l = length-bytes 4 x.0 in
+  window_cell : (channel : ℕ) (x : Window) → window_allowed end x ≡ true → WindowWord x
+      → Cell end FLOW-WINDOW no_window window_made channel (window_then channel x) (record { window = x })
+  unfolding length_listed
+  window_cell channel Window.Absent e w = nothing
+  window_cell channel Window.Empty e w = stated (record { window = Window.Empty }) [] e refl (lit≤ tt) refl
+  window_cell channel (Window.Given x) e w =
+      let l = length_bytes 4 x.0 in
       stated (record { window = Window.Given x }) (bytes_of 4 x.0) e (rw l) (omega arith) (rw (l, there_and_back 4 x.0 w))
 
   module _ (m : Control) where
-    status-column : Column end CHANNEL-STATUS (λ n cell. statusThen n cell.status) noStatus (withStatuses m) statusMade (λ cell. statusAllowed end cell.status ≡ true)
-    unfolding controlUnstated controlState
-    status-column = record {
+    status_column : Column end CHANNEL-STATUS (λ n cell. status_then n cell.status) no_status (with_statuses m) status_made (λ cell. status_allowed end cell.status ≡ true)
+    unfolding control_unstated control_state
+    status_column = record {
       is_known = refl;
-      one-for-each = refl;
-      is-naming = refl;
-      no-packet = refl;
+      one_for_each_lem = refl;
+      is_naming = refl;
+      no_packet = refl;
       frees = λ cells channel e. rw e;
       states = λ cells channel content. refl;
-      puts = λ channel cell e. status-cell channel cell.status e;
+      puts = λ channel cell e. status_cell channel cell.status e;
     }
 
-    sequence-column : Column end FLOW-SEQUENCE (λ n cell. sequenceThen n cell.sequence) noSequence (withSequences m) sequenceMade
-        (λ cell. (sequenceAllowed end cell.sequence ≡ true) × SequenceWord cell.sequence)
-    unfolding controlUnstated controlState
-    sequence-column = record {
+    sequence_column : Column end FLOW-SEQUENCE (λ n cell. sequence_then n cell.sequence) no_sequence (with_sequences m) sequence_made
+        (λ cell. (sequence_allowed end cell.sequence ≡ true) × SequenceWord cell.sequence)
+    unfolding control_unstated control_state
+    sequence_column = record {
       is_known = refl;
-      one-for-each = refl;
-      is-naming = refl;
-      no-packet = refl;
+      one_for_each_lem = refl;
+      is_naming = refl;
+      no_packet = refl;
       frees = λ cells channel e. rw e;
       states = λ cells channel content. refl;
-      puts = λ channel cell e. sequence-cell channel cell.sequence e.0 e.1;
+      puts = λ channel cell e. sequence_cell channel cell.sequence e.0 e.1;
     }
 
-    window-column : Column end FLOW-WINDOW (λ n cell. windowThen n cell.window) noWindow (withWindows m) windowMade
-        (λ cell. (windowAllowed end cell.window ≡ true) × WindowWord cell.window)
-    unfolding controlUnstated controlState
-    window-column = record {
+    window_column : Column end FLOW-WINDOW (λ n cell. window_then n cell.window) no_window (with_windows m) window_made
+        (λ cell. (window_allowed end cell.window ≡ true) × WindowWord cell.window)
+    unfolding control_unstated control_state
+    window_column = record {
       is_known = refl;
-      one-for-each = refl;
-      is-naming = refl;
-      no-packet = refl;
+      one_for_each_lem = refl;
+      is_naming = refl;
+      no_packet = refl;
       frees = λ cells channel e. rw e;
       states = λ cells channel content. refl;
-      puts = λ channel cell e. window-cell channel cell.window e.0 e.1;
+      puts = λ channel cell e. window_cell channel cell.window e.0 e.1;
     }
 
 -- what a test on the whole message says of its parts
 record Parts (end : End) (m : Control) : Type 0 where
-  instance : instanceAllowed end m.instance ≡ true
-  context : contextAllowed end m.context ≡ true
-  statuses : (n : ℕ) → statusAllowed end (get_or m.statuses n noStatus).status ≡ true
-  primary : primaryAllowed end m.statuses ≡ true
-  sequences : (n : ℕ) → sequenceAllowed end (get_or m.sequences n noSequence).sequence ≡ true
-  windows : (n : ℕ) → windowAllowed end (get_or m.windows n noWindow).window ≡ true
+  instance : instance_allowed end m.instance ≡ true
+  context : context_allowed end m.context ≡ true
+  statuses : (n : ℕ) → status_allowed end (get_or m.statuses n no_status).status ≡ true
+  primary : primary_allowed end m.statuses ≡ true
+  sequences : (n : ℕ) → sequence_allowed end (get_or m.sequences n no_sequence).sequence ≡ true
+  windows : (n : ℕ) → window_allowed end (get_or m.windows n no_window).window ≡ true
 
-parts-allowed : (end : End) (m : Control) → controlAllowed end m ≡ true → Parts end m
-unfolding controlAllowed statusesAllowed sequencesAllowed windowsAllowed
-parts-allowed end m e =
-    let a = ((and-eq-true_iff (datalinkAllowed m.datalink) _).0 e).1 in
-    let b = (and-eq-true_iff (instanceAllowed end m.instance) _).0 a in
-    let c = (and-eq-true_iff (contextAllowed end m.context) _).0 b.1 in
-    let d = (and-eq-true_iff (statusesAllowed end m.statuses) _).0 c.1 in
-    let f = (and-eq-true_iff (primaryAllowed end m.statuses) _).0 d.1 in
-    let g = (and-eq-true_iff (sequencesAllowed end m.sequences) (windowsAllowed end m.windows)).0 f.1 in
+parts_allowed : (end : End) (m : Control) → control_allowed end m ≡ true → Parts end m
+unfolding control_allowed statuses_allowed sequences_allowed windows_allowed
+parts_allowed end m e =
+    let a = ((and-eq-true_iff (datalink_allowed m.datalink) _).0 e).1 in
+    let b = (and-eq-true_iff (instance_allowed end m.instance) _).0 a in
+    let c = (and-eq-true_iff (context_allowed end m.context) _).0 b.1 in
+    let d = (and-eq-true_iff (statuses_allowed end m.statuses) _).0 c.1 in
+    let f = (and-eq-true_iff (primary_allowed end m.statuses) _).0 d.1 in
+    let g = (and-eq-true_iff (sequences_allowed end m.sequences) (windows_allowed end m.windows)).0 f.1 in
     record {
       instance = b.0;
       context = c.0;
-      statuses = each-place (statusesAllowed end) (λ cell. statusAllowed end cell.status) noStatus (λ cell cells. refl) refl m.statuses d.0;
+      statuses = each_place (statuses_allowed end) (λ cell. status_allowed end cell.status) no_status (λ cell cells. refl) refl m.statuses d.0;
       primary = f.0;
-      sequences = each-place (sequencesAllowed end) (λ cell. sequenceAllowed end cell.sequence) noSequence (λ cell cells. refl) refl m.sequences g.0;
-      windows = each-place (windowsAllowed end) (λ cell. windowAllowed end cell.window) noWindow (λ cell cells. refl) refl m.windows g.1;
+      sequences = each_place (sequences_allowed end) (λ cell. sequence_allowed end cell.sequence) no_sequence (λ cell cells. refl) refl m.sequences g.0;
+      windows = each_place (windows_allowed end) (λ cell. window_allowed end cell.window) no_window (λ cell cells. refl) refl m.windows g.1;
     }
 
 -- the options of a message, before others
-abbrev controlThen : Control → Options → Options
-controlThen m more =
-    datalinkThen m.datalink
-    (instanceThen m.instance
-    (contextThen m.context (statusesThen m.statuses (sequencesThen m.sequences (windowsThen m.windows more)))))
+abbrev control_then : Control → Options → Options
+control_then m more =
+    datalink_then m.datalink
+    (instance_then m.instance
+    (context_then m.context (statuses_then m.statuses (sequences_then m.sequences (windows_then m.windows more)))))
 
 -- how many options at most
 abbrev most : Control → ℕ
 most m = 1 + (1 + (1 + (length m.statuses + (length m.sequences + length m.windows))))
 
 -- nothing stated, and then part after part, in tables as long as the message's own
-abbrev noWindows : Control → Control
-noWindows m = withWindows m (replicate (length m.windows) noWindow)
+abbrev no_windows : Control → Control
+no_windows m = with_windows m (replicate (length m.windows) no_window)
 
-abbrev noSequences : Control → Control
-noSequences m = withSequences (noWindows m) (replicate (length m.sequences) noSequence)
+abbrev no_sequences : Control → Control
+no_sequences m = with_sequences (no_windows m) (replicate (length m.sequences) no_sequence)
 
-abbrev noStatuses : Control → Control
-noStatuses m = withStatuses (noSequences m) (replicate (length m.statuses) noStatus)
+abbrev no_statuses : Control → Control
+no_statuses m = with_statuses (no_sequences m) (replicate (length m.statuses) no_status)
 
-abbrev noContext : Control → Control
-noContext m = withContext (noStatuses m) Context.Absent
+abbrev no_context : Control → Control
+no_context m = with_context (no_statuses m) Context.Absent
 
-abbrev noInstance : Control → Control
-noInstance m = withInstance (noContext m) Instance.Absent
+abbrev no_instance : Control → Control
+no_instance m = with_instance (no_context m) Instance.Absent
 
-abbrev noDatalink : Control → Control
-noDatalink m = withDatalink (noInstance m) Datalink.Absent
+abbrev no_datalink : Control → Control
+no_datalink m = with_datalink (no_instance m) Datalink.Absent
 
-blank-is : (m : Control) → ControlValue m → noDatalink m ≡ blankControl
-unfolding blankControl controlStated
-blank-is m value =
-    rw (tabulate-same noStatus value.statuses-long, tabulate-same noSequence value.sequences-long, tabulate-same noWindow value.windows-long)
+blank_is : (m : Control) → ControlValue m → no_datalink m ≡ blank_control
+unfolding blank_control control_stated
+blank_is m value =
+    rw (tabulate_same no_status value.statuses_long, tabulate_same no_sequence value.sequences_long, tabulate_same no_window value.windows_long)
 
-standing : (x : Status) → stands x ≡ true → unstatedStatus x ≡ false
+standing : (x : Status) → stands x ≡ true → unstated_status x ≡ false
 standing Status.Absent e = sym e
 standing (Status.Given s) e = refl
 
-module _ (end : End) (id : DatalinkId) (m : Control) (value : ControlValue m) (allowed : controlAllowed end m ≡ true) where
-  adds-control : Adds (controlSort end id) (most m) (controlThen m) blankControl m
-  unfolding controlUnstated controlState
-  adds-control =
-      let S = controlSort end id in
-      let parts = parts-allowed end m allowed in
-      subst (λ (blank : Control). Adds (controlSort end id) (most m) (controlThen m) blank m) (blank-is m value)
-      (adds-both S (adds-datalink S (withDatalink (noInstance m)) refl (λ content. refl) (λ content. refl) m.datalink)
-      (adds-both S (adds-instance end id (noContext m) m.instance parts.instance)
-      (adds-both S (adds-context end id (noStatuses m) m.context parts.context)
-      (adds-both S (adds-column id (status-column end (noSequences m)) m.statuses value.statuses-long parts.statuses)
-      (adds-both S
-      (adds-column id (sequence-column end (noWindows m)) m.sequences value.sequences-long (λ n. (parts.sequences n, value.sequence-words n)))
-      (adds-column id (window-column end m) m.windows value.windows-long (λ n. (parts.windows n, value.window-words n))))))))
+module _ (end : End) (id : DatalinkId) (m : Control) (value : ControlValue m) (allowed : control_allowed end m ≡ true) where
+  adds_control : Adds (control_sort end id) (most m) (control_then m) blank_control m
+  unfolding control_unstated control_state
+  adds_control =
+      let S = control_sort end id in
+      let parts = parts_allowed end m allowed in
+      subst (λ (blank : Control). Adds (control_sort end id) (most m) (control_then m) blank m) (blank_is m value)
+      (adds_both S (adds_datalink S (with_datalink (no_instance m)) refl (λ content. refl) (λ content. refl) m.datalink)
+      (adds_both S (adds_instance end id (no_context m) m.instance parts.instance)
+      (adds_both S (adds_context end id (no_statuses m) m.context parts.context)
+      (adds_both S (adds_column id (status_column end (no_sequences m)) m.statuses value.statuses_long parts.statuses)
+      (adds_both S
+      (adds_column id (sequence_column end (no_windows m)) m.sequences value.sequences_long (λ n. (parts.sequences n, value.sequence_words n)))
+      (adds_column id (window_column end m) m.windows value.windows_long (λ n. (parts.windows n, value.window_words n))))))))
 
   -- 9, 10 and 11 find nothing
-  finishes : m.datalink ≡ Datalink.Given id → (place : ℕ) → finishOf (controlSort end id) place m ≡ controlAccepted m
-  unfolding finishOf controlUnstated
-  finishes d place = go end (parts-allowed end m allowed).primary
+  finishes : m.datalink ≡ Datalink.Given id → (place : ℕ) → finish_of (control_sort end id) place m ≡ control_accepted m
+  unfolding finish_of control_unstated
+  finishes d place = go end (parts_allowed end m allowed).primary
     where
-      go : (e : End) → primaryAllowed e m.statuses ≡ true → finishOf (controlSort e id) place m ≡ controlAccepted m
+      go : (e : End) → primary_allowed e m.statuses ≡ true → finish_of (control_sort e id) place m ≡ control_accepted m
       go End.Ips p = rw (d, eq-eqb id.0 id.0 refl)
-      go End.Radio p = rw (d, standing (get_or m.statuses 0 noStatus).status p, eq-eqb id.0 id.0 refl)
+      go End.Radio p = rw (d, standing (get_or m.statuses 0 no_status).status p, eq-eqb id.0 id.0 refl)
 
 -- every option that is written is whole
-pub control-whole : (end : End) (m : Control) → ControlValue m → controlAllowed end m ≡ true → Whole-options (controlOptions m)
-unfolding controlOptions Whole-options
-control-whole end m value allowed = (adds-control end (record { 0 = 0 }) m value allowed).whole done tt
+pub control_whole : (end : End) (m : Control) → ControlValue m → control_allowed end m ≡ true → WholeOptions (control_options m)
+unfolding control_options WholeOptions
+control_whole end m value allowed = (adds_control end (record { 0 = 0 }) m value allowed).whole done tt
 
 -- so that number 18 is given for a control message exactly where the output is shorter
-pub control-short : (end : End) (m : Control) → ControlValue m → controlAllowed end m ≡ true → length (controlWritten m) ≤ LONGEST-DATAGRAM
-unfolding controlWritten controlOptions bytes
-control-short end m value allowed =
-    omega (arith, (adds-control end (record { 0 = 0 }) m value allowed).short done, value.statuses-long, value.sequences-long, value.windows-long)
+pub control_short : (end : End) (m : Control) → ControlValue m → control_allowed end m ≡ true → length (control_written m) ≤ LONGEST-DATAGRAM
+unfolding control_written control_options bytes
+control_short end m value allowed =
+    omega (arith, (adds_control end (record { 0 = 0 }) m value allowed).short done, value.statuses_long, value.sequences_long, value.windows_long)
 
-pub control-round : (end : End) (id : DatalinkId) (m : Control) → ControlValue m → controlAllowed end m ≡ true → m.datalink ≡ Datalink.Given id
-    → readControl end id (controlWritten m) ≡ controlAccepted m
-unfolding readControl controlWritten controlOptions judge Whole-options
-control-round end id m value allowed d =
-    read_back (controlSort end id) (adds-control end id m value allowed) done tt CONTROL-HEADER refl refl (control-short end m value allowed) (controlAccepted m)
+pub control_round : (end : End) (id : DatalinkId) (m : Control) → ControlValue m → control_allowed end m ≡ true → m.datalink ≡ Datalink.Given id
+    → read_control end id (control_written m) ≡ control_accepted m
+unfolding read_control control_written control_options judge WholeOptions
+control_round end id m value allowed d =
+    read_back (control_sort end id) (adds_control end id m value allowed) done tt CONTROL-HEADER refl refl (control_short end m value allowed) (control_accepted m)
     (finishes end id m value allowed d)

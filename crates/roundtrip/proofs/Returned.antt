@@ -19,62 +19,62 @@ use Rattle.meaning.specs.declared.message.Datalink.{Datalink}
 use Rattle.meaning.specs.declared.message.Control.{Control}
 use Rattle.meaning.specs.declared.message.Data.{Data}
 use Rattle.read_rules.specs.declared.answer.Verdict.{Verdict}
-use Rattle.read_control.specs.Message.{controlAccepted}
-use Rattle.reader.specs.Readings.{readControl, readData, packetOf}
-use Rattle.writable.specs.Allowed.{controlAllowed, dataAllowed}
+use Rattle.read_control.specs.Message.{control_accepted}
+use Rattle.reader.specs.Readings.{read_control, read_data, packet_of}
+use Rattle.writable.specs.Allowed.{control_allowed, data_allowed}
 use Rattle.writer.specs.declared.answer.WriteAnswer.{WriteAnswer}
-use Rattle.writer.specs.Written.{controlWritten, dataWritten, Outcome}
+use Rattle.writer.specs.Written.{control_written, data_written, Outcome}
 use Rattle.roundtrip.specs.Values.{ControlValue, DataValue}
-use Rattle.roundtrip.specs.Answers.{Room, refusedBy, Sent, Exact}
+use Rattle.roundtrip.specs.Answers.{Room, refused_by, Sent, Exact}
 use Rattle.roundtrip.proofs.Answers.{exact}
-use Rattle.roundtrip.proofs.Control.{control-short, control-round}
-use Rattle.roundtrip.proofs.Data.{data-round, packet-round}
+use Rattle.roundtrip.proofs.Control.{control_short, control_round}
+use Rattle.roundtrip.proofs.Data.{data_round, packet_round}
 
 -- the bytes that the answer counts are the message
 pub counted : {allowed : Bool} {message out : List ℕ} {count : ByteCount} {out' : List ℕ} → Sent allowed message out count out' → take count.0 out' ≡ message
-counted {message} {out} s = rw (s.count-is, s.bytes-are) (take_at message (drop (length message) out) (length message) refl)
+counted {message} {out} s = rw (s.count_is, s.bytes_are) (take_at message (drop (length message) out) (length message) refl)
 
 module _ (end : End) (m : Control) (value : ControlValue m) (out : List ℕ) (answer : WriteAnswer) (out' : List ℕ)
-    (o : Outcome (controlAllowed end m) (controlWritten m) out answer out') where
-  control-outcome : Exact (controlAllowed end m) (controlWritten m) out answer out'
-  control-outcome = exact (controlWritten m) out answer out' (controlAllowed end m) o
+    (o : Outcome (control_allowed end m) (control_written m) out answer out') where
+  control_outcome : Exact (control_allowed end m) (control_written m) out answer out'
+  control_outcome = exact (control_written m) out answer out' (control_allowed end m) o
 
-  control-room : controlAllowed end m ≡ true → length (controlWritten m) ≤ length out → Room (controlWritten m) out
-  control-room e h = record { in-output = h; in-datagram = control-short end m value e }
+  control_room : control_allowed end m ≡ true → length (control_written m) ≤ length out → Room (control_written m) out
+  control_room e h = record { in-output = h; in-datagram = control_short end m value e }
 
-  pub control-written : controlAllowed end m ≡ true → length (controlWritten m) ≤ length out
-      → (answer ≡ WriteAnswer.Wrote (record { 0 = length (controlWritten m) })) × (out' ≡ over (controlWritten m) out)
-  control-written e h = control-outcome.written e (control-room e h)
+  pub control_written_lem : control_allowed end m ≡ true → length (control_written m) ≤ length out
+      → (answer ≡ WriteAnswer.Wrote (record { 0 = length (control_written m) })) × (out' ≡ over (control_written m) out)
+  control_written_lem e h = control_outcome.written e (control_room e h)
 
   -- no control message is too long for a datagram
-  pub control-no-room : (answer ≡ refusedBy NO-ROOM) ↔ ((controlAllowed end m ≡ true) × (length out < length (controlWritten m)))
-  control-no-room = (
-    λ e. there (control-outcome.no_room.0 e).0 (control-outcome.no_room.0 e).1 (ltb (length out) (length (controlWritten m))) refl,
-    λ e. control-outcome.no_room.1 (e.0, λ r. omega (arith, e.1, r.in-output)),
+  pub control_no_room : (answer ≡ refused_by NO-ROOM) ↔ ((control_allowed end m ≡ true) × (length out < length (control_written m)))
+  control_no_room = (
+    λ e. there (control_outcome.no_room.0 e).0 (control_outcome.no_room.0 e).1 (ltb (length out) (length (control_written m))) refl,
+    λ e. control_outcome.no_room.1 (e.0, λ r. omega (arith, e.1, r.in-output)),
   )
     where
-      there : controlAllowed end m ≡ true → (Room (controlWritten m) out → ⊥) → (b : Bool) → ltb (length out) (length (controlWritten m)) ≡ b
-          → (controlAllowed end m ≡ true) × (length out < length (controlWritten m))
-      there e n true f = (e, ltb-true (length out) (length (controlWritten m)) f)
-      there e n false f = absurd (n (control-room e (ltb-false (length out) (length (controlWritten m)) f)))
+      there : control_allowed end m ≡ true → (Room (control_written m) out → ⊥) → (b : Bool) → ltb (length out) (length (control_written m)) ≡ b
+          → (control_allowed end m ≡ true) × (length out < length (control_written m))
+      there e n true f = (e, ltb-true (length out) (length (control_written m)) f)
+      there e n false f = absurd (n (control_room e (ltb-false (length out) (length (control_written m)) f)))
 
-  pub control-returned : (id : DatalinkId) (count : ByteCount) → m.datalink ≡ Datalink.Given id → answer ≡ WriteAnswer.Wrote count
-      → readControl end id (take count.0 out') ≡ controlAccepted m
-  control-returned id count d e = let s = control-outcome.sent count e in ap (readControl end id) (counted s) ∙ control-round end id m value s.is-allowed d
+  pub control_returned : (id : DatalinkId) (count : ByteCount) → m.datalink ≡ Datalink.Given id → answer ≡ WriteAnswer.Wrote count
+      → read_control end id (take count.0 out') ≡ control_accepted m
+  control_returned id count d e = let s = control_outcome.sent count e in ap (read_control end id) (counted s) ∙ control_round end id m value s.is-allowed d
 
 module _ (end : End) (m : Data) (packet : List ℕ) (out : List ℕ) (answer : WriteAnswer) (out' : List ℕ)
-    (o : Outcome (dataAllowed end m (length packet)) (dataWritten m packet) out answer out') where
-  data-outcome : Exact (dataAllowed end m (length packet)) (dataWritten m packet) out answer out'
-  data-outcome = exact (dataWritten m packet) out answer out' (dataAllowed end m (length packet)) o
+    (o : Outcome (data_allowed end m (length packet)) (data_written m packet) out answer out') where
+  data_outcome : Exact (data_allowed end m (length packet)) (data_written m packet) out answer out'
+  data_outcome = exact (data_written m packet) out answer out' (data_allowed end m (length packet)) o
 
-  pub data-written : dataAllowed end m (length packet) ≡ true → Room (dataWritten m packet) out
-      → (answer ≡ WriteAnswer.Wrote (record { 0 = length (dataWritten m packet) })) × (out' ≡ over (dataWritten m packet) out)
-  data-written e r = data-outcome.written e r
+  pub data_written_lem : data_allowed end m (length packet) ≡ true → Room (data_written m packet) out
+      → (answer ≡ WriteAnswer.Wrote (record { 0 = length (data_written m packet) })) × (out' ≡ over (data_written m packet) out)
+  data_written_lem e r = data_outcome.written e r
 
-  pub data-returned : (id : DatalinkId) (count : ByteCount) → DataValue m → m.datalink ≡ Datalink.Given id → answer ≡ WriteAnswer.Wrote count
-      → (readData end id (take count.0 out') ≡ record { verdict = Verdict.Accepted; message = m }) × (packetOf (take count.0 out') ≡ packet)
-  data-returned id count value d e =
-      let s = data-outcome.sent count e in (
-        ap (readData end id) (counted s) ∙ data-round end id m packet value s.is-allowed d s.room.in-datagram,
-        ap packetOf (counted s) ∙ packet-round end m packet value s.is-allowed,
+  pub data_returned : (id : DatalinkId) (count : ByteCount) → DataValue m → m.datalink ≡ Datalink.Given id → answer ≡ WriteAnswer.Wrote count
+      → (read_data end id (take count.0 out') ≡ record { verdict = Verdict.Accepted; message = m }) × (packet_of (take count.0 out') ≡ packet)
+  data_returned id count value d e =
+      let s = data_outcome.sent count e in (
+        ap (read_data end id) (counted s) ∙ data_round end id m packet value s.is-allowed d s.room.in-datagram,
+        ap packet_of (counted s) ∙ packet_round end m packet value s.is-allowed,
       )

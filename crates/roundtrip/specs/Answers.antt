@@ -12,23 +12,23 @@ pub record Room (message out : List ℕ) : Type 0 where
   pub in-datagram : length message ≤ LONGEST-DATAGRAM
 
 -- a writer's refusal is at place 0
-abbrev pub refusedBy : ℕ → WriteAnswer
-refusedBy number = WriteAnswer.Refused (record { number = number; place = 0 })
+abbrev pub refused_by : ℕ → WriteAnswer
+refused_by number = WriteAnswer.Refused (record { number = number; place = 0 })
 
 -- a message that was written: it was allowed, had room, was counted, and stands over the first bytes of the output
 pub record Sent (allowed : Bool) (message out : List ℕ) (count : ByteCount) (out' : List ℕ) : Type 0 where
   pub is-allowed : allowed ≡ true
   pub room : Room message out
-  pub count-is : count ≡ record { 0 = length message }
-  pub bytes-are : out' ≡ over message out
+  pub count_is : count ≡ record { 0 = length message }
+  pub bytes_are : out' ≡ over message out
 
 pub record Exact (allowed : Bool) (message out : List ℕ) (answer : WriteAnswer) (out' : List ℕ) : Type 0 where
   -- an allowed meaning is never refused where there is room
   pub written : allowed ≡ true → Room message out → (answer ≡ WriteAnswer.Wrote (record { 0 = length message })) × (out' ≡ over message out)
   pub sent : (count : ByteCount) → answer ≡ WriteAnswer.Wrote count → Sent allowed message out count out'
   -- number 20 exactly where the meaning isn't allowed
-  pub disallowed : (answer ≡ refusedBy 20) ↔ (allowed ≡ false)
+  pub disallowed : (answer ≡ refused_by 20) ↔ (allowed ≡ false)
   -- number 18 exactly where it is allowed and there is no room
-  pub no_room : (answer ≡ refusedBy 18) ↔ ((allowed ≡ true) × (Room message out → ⊥))
+  pub no_room : (answer ≡ refused_by 18) ↔ ((allowed ≡ true) × (Room message out → ⊥))
   -- a refusal leaves every byte
   pub stays : (refusal : Refusal) → answer ≡ WriteAnswer.Refused refusal → out' ≡ out

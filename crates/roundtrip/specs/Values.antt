@@ -7,7 +7,7 @@ use Rattle.meaning.specs.declared.message.Expiration.{Expiration}
 use Rattle.meaning.specs.declared.message.Counted.{Counted}
 use Rattle.meaning.specs.declared.message.Control.{Control}
 use Rattle.meaning.specs.declared.message.Data.{Data}
-use Rattle.meaning.specs.Cells.{noSequence, noWindow}
+use Rattle.meaning.specs.Cells.{no_sequence, no_window}
 
 -- a number of 32 bits
 abbrev pub Word : ℕ → Type 0
@@ -31,12 +31,12 @@ ExpirationWord Expiration.Absent = Unit {0}
 ExpirationWord (Expiration.Given t) = Word t
 
 pub record ControlValue (m : Control) : Type 0 where
-  pub statuses-long : length m.statuses ≡ CHANNEL-IDS
-  pub sequences-long : length m.sequences ≡ CHANNEL-IDS
-  pub windows-long : length m.windows ≡ CHANNEL-IDS
-  pub sequence-words : (channel : ℕ) → SequenceWord (get_or m.sequences channel noSequence).sequence
-  pub window-words : (channel : ℕ) → WindowWord (get_or m.windows channel noWindow).window
+  pub statuses_long : length m.statuses ≡ CHANNEL-IDS
+  pub sequences_long : length m.sequences ≡ CHANNEL-IDS
+  pub windows_long : length m.windows ≡ CHANNEL-IDS
+  pub sequence_words : (channel : ℕ) → SequenceWord (get_or m.sequences channel no_sequence).sequence
+  pub window_words : (channel : ℕ) → WindowWord (get_or m.windows channel no_window).window
 
 pub record DataValue (m : Data) : Type 0 where
-  pub sequence-word : CountedWord m.sequence
-  pub expiration-word : ExpirationWord m.expiration
+  pub sequence_word : CountedWord m.sequence
+  pub expiration_word : ExpirationWord m.expiration

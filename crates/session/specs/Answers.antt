@@ -2,7 +2,7 @@
 use Rattle.std.specs.Prelude.{false, List, ◌≡◌, ℕ}
 use Rattle.message_words.specs.Saying.{Says}
 use Rattle.session_read.specs.Lines.{asked_of}
-use Rattle.session_print.specs.Messages.{aboutState, answerTexts}
+use Rattle.session_print.specs.Messages.{about_state, answer_texts}
 
 pub record Answers (size most : ℕ) (line out : List ℕ) (count : ℕ) (out' : List ℕ) : Type 0 where
-  pub message : aboutState (asked_of size line) ≡ false → Says out 0 (answerTexts size most line) count out'
+  pub message : about_state (asked_of size line) ≡ false → Says out 0 (answer_texts size most line) count out'

@@ -8,55 +8,55 @@ use lib.ListN.{length, get_or, take, length-take}
 use lib.Seq.{get_or-take, take_all}
 use Rattle.quantity.specs.Limits.{MOST-WAITING}
 use Rattle.text.specs.Laying.{Lays}
-use Rattle.text.specs.Strings.{bytesText}
+use Rattle.text.specs.Strings.{bytes_text}
 use Rattle.store.specs.declared.queue.Entry.{Entry}
 use Rattle.store.specs.declared.queue.Queue.{Queue}
-use Rattle.store.specs.Waiting.{waiting, noEntry}
+use Rattle.store.specs.Waiting.{waiting, no_entry}
 use Rattle.store.proofs.Entries.{waiting_few}
 use Rattle.message_words.specs.Saying.{Says}
-use Rattle.message_words.specs.Phrases.{SPACE, oneNumber, twoNumbers, tableTexts}
-use Rattle.message_words.proofs.Saying.{Saying, says-one, says_then, saying-on, saying-end}
-use Rattle.session_print.specs.Shown.{entriesTexts, waitingTexts}
+use Rattle.message_words.specs.Phrases.{SPACE, one_number, two_numbers, table_texts}
+use Rattle.message_words.proofs.Saying.{Saying, says_one, says_then, saying_on, saying_end}
+use Rattle.session_print.specs.Shown.{entries_texts, waiting_texts}
 
 -- ---- a label, and the bytes that are shown
-says-message : {out : List ℕ} {at : ℕ} {label : List ℕ} {a : ℕ} {out' : List ℕ} {x y : List ℕ} {b : ℕ} {out'' : List ℕ}
-    → x ≡ y → Lays out at label a out' → Lays out' a (bytesText x) b out'' → Says out at (label ∷ (bytesText y ∷ [])) b out''
-says-message e k l = says_then (says-one k) (says-one (rw e at l))
+says_message : {out : List ℕ} {at : ℕ} {label : List ℕ} {a : ℕ} {out' : List ℕ} {x y : List ℕ} {b : ℕ} {out'' : List ℕ}
+    → x ≡ y → Lays out at label a out' → Lays out' a (bytes_text x) b out'' → Says out at (label ∷ (bytes_text y ∷ [])) b out''
+says_message e k l = says_then (says_one k) (says_one (rw e at l))
 
 module _ (count : ℕ) (lent : List ℕ) {out : List ℕ} {at : ℕ} {label : List ℕ} {a : ℕ} {out' : List ℕ} {b : ℕ} {out'' : List ℕ} (k : Lays out at label a out') where
-  pub message-part : Lays out' a (bytesText (take (count - 0) lent)) b out'' → Says out at (label ∷ (bytesText (take count lent) ∷ [])) b out''
-  message-part l = let z : count - 0 ≡ count = omega arith in says-message (ap (λ (n : ℕ). take n lent) z) k l
+  pub message_part : Lays out' a (bytes_text (take (count - 0) lent)) b out'' → Says out at (label ∷ (bytes_text (take count lent) ∷ [])) b out''
+  message_part l = let z : count - 0 ≡ count = omega arith in says_message (ap (λ (n : ℕ). take n lent) z) k l
 
-  pub message-all : length lent ≤ count → Lays out' a (bytesText lent) b out'' → Says out at (label ∷ (bytesText (take count lent) ∷ [])) b out''
-  message-all h l = says-message (sym (take_all count lent h)) k l
+  pub message_all : length lent ≤ count → Lays out' a (bytes_text lent) b out'' → Says out at (label ∷ (bytes_text (take count lent) ∷ [])) b out''
+  message_all h l = says_message (sym (take_all count lent h)) k l
 
 -- ---- the waiting packets are a table whose places aren't said
-abbrev pub entryTexts : ℕ → Entry → List (List ℕ)
-entryTexts i e = twoNumbers SPACE e.length.0 e.expiry
+abbrev pub entry_texts : ℕ → Entry → List (List ℕ)
+entry_texts i e = two_numbers SPACE e.length.0 e.expiry
 
-entries-table : (i : ℕ) (es : List Entry) → tableTexts entryTexts i es ≡ entriesTexts es
-unfolding tableTexts entriesTexts
-entries-table i [] = refl
-entries-table i (e ∷ es) = ap (λ (l : List (List ℕ)). entryTexts i e ++ l) (entries-table (suc i) es)
+entries_table : (i : ℕ) (es : List Entry) → table_texts entry_texts i es ≡ entries_texts es
+unfolding table_texts entries_texts
+entries_table i [] = refl
+entries_table i (e ∷ es) = ap (λ (l : List (List ℕ)). entry_texts i e ++ l) (entries_table (suc i) es)
 
 module _ (queue : Queue) (full : length queue.entries ≡ MOST-WAITING) where
   waits : (i : ℕ) → i < queue.count → i < MOST-WAITING → i < length (waiting queue)
   unfolding waiting
   waits i h l = rw (length-take queue.count queue.entries, full) (omega arith)
 
-  pub waiting-most : (i : ℕ) → MOST-WAITING ≤ i → length (waiting queue) ≤ i
+  pub waiting_most : (i : ℕ) → MOST-WAITING ≤ i → length (waiting queue) ≤ i
   unfolding waiting
-  waiting-most i h = omega (arith, length-take queue.count queue.entries, min-le_right queue.count (length queue.entries))
+  waiting_most i h = omega (arith, length-take queue.count queue.entries, min-le_right queue.count (length queue.entries))
 
-  module _ {out : List ℕ} {at i : ℕ} {out' : List ℕ} {a : ℕ} (k : Saying entryTexts (waiting queue) out at i out' a) where
-    pub waiting-on : {b : ℕ} {out'' : List ℕ} → i < queue.count → i < MOST-WAITING → Says out' a (entryTexts i (get_or queue.entries i noEntry)) b out''
-        → Saying entryTexts (waiting queue) out at (i + 1) out'' b
+  module _ {out : List ℕ} {at i : ℕ} {out' : List ℕ} {a : ℕ} (k : Saying entry_texts (waiting queue) out at i out' a) where
+    pub waiting_on : {b : ℕ} {out'' : List ℕ} → i < queue.count → i < MOST-WAITING → Says out' a (entry_texts i (get_or queue.entries i no_entry)) b out''
+        → Saying entry_texts (waiting queue) out at (i + 1) out'' b
     unfolding waiting
-    waiting-on h l s = saying-on entryTexts noEntry k (waits i h l) (rw (get_or-take queue.count queue.entries i noEntry h) s)
+    waiting_on h l s = saying_on entry_texts no_entry k (waits i h l) (rw (get_or-take queue.count queue.entries i no_entry h) s)
 
     -- the count was said before them
-    pub waiting-end : {out₀ : List ℕ} {at₀ : ℕ} → Says out₀ at₀ (oneNumber SPACE queue.count) at out → length (waiting queue) ≤ i → Says out₀ at₀ (waitingTexts queue) a out'
-    waiting-end s h = says_then s (rw (entries-table 0 (waiting queue)) at (saying-end entryTexts k h))
+    pub waiting_end : {out₀ : List ℕ} {at₀ : ℕ} → Says out₀ at₀ (one_number SPACE queue.count) at out → length (waiting queue) ≤ i → Says out₀ at₀ (waiting_texts queue) a out'
+    waiting_end s h = says_then s (rw (entries_table 0 (waiting queue)) at (saying_end entry_texts k h))
 
-pub waiting-counted : (queue : Queue) (i : ℕ) → queue.count ≤ i → length (waiting queue) ≤ i
-waiting-counted queue i h = omega (arith, waiting_few queue)
+pub waiting_counted : (queue : Queue) (i : ℕ) → queue.count ≤ i → length (waiting queue) ≤ i
+waiting_counted queue i h = omega (arith, waiting_few queue)

@@ -1,6 +1,6 @@
 -- docs/SESSION.md, "About a state": the answers.
 use Rattle.std.specs.Prelude.{ℕ, List, [], ◌∷◌, ◌++◌, take}
-use Rattle.text.specs.Strings.{bytesText}
+use Rattle.text.specs.Strings.{bytes_text}
 use Rattle.writer.specs.declared.answer.WriteAnswer.{WriteAnswer}
 use Rattle.ips_channel_calls.specs.declared.offering.OfferAnswer.{OfferAnswer}
 use Rattle.ips_channel_calls.specs.declared.asking.NextAnswer.{NextAnswer}
@@ -9,7 +9,7 @@ use Rattle.ips_state.specs.declared.StartAnswer.{StartAnswer}
 use Rattle.ips_channel_calls.specs.declared.offering.WithdrawAnswer.{WithdrawAnswer}
 use Rattle.ips_radio.specs.declared.RadioAnswer.{RadioAnswer}
 use Rattle.pacer.specs.declared.PaceAnswer.{PaceAnswer}
-use Rattle.message_words.specs.Phrases.{SPACE, refusedTexts}
+use Rattle.message_words.specs.Phrases.{SPACE, refused_texts}
 
 -- `started`
 abbrev pub STARTED : List ℕ
@@ -71,13 +71,13 @@ DUE-SILENT = 100 ∷ 117 ∷ 101 ∷ 32 ∷ 115 ∷ 105 ∷ 108 ∷ 101 ∷ 110 
 abbrev pub QUERY : List ℕ
 QUERY = 113 ∷ 117 ∷ 101 ∷ 114 ∷ 121 ∷ 32 ∷ []
 
-abbrev pub startTexts : StartAnswer → List (List ℕ)
-startTexts StartAnswer.Started = STARTED ∷ []
-startTexts (StartAnswer.Refused refusal) = refusedTexts refusal
+abbrev pub start_texts : StartAnswer → List (List ℕ)
+start_texts StartAnswer.Started = STARTED ∷ []
+start_texts (StartAnswer.Refused refusal) = refused_texts refusal
 
 abbrev pub offerTexts : OfferAnswer → List (List ℕ)
 offerTexts OfferAnswer.Taken = TAKEN ∷ []
-offerTexts (OfferAnswer.Refused refusal) = refusedTexts refusal
+offerTexts (OfferAnswer.Refused refusal) = refused_texts refusal
 
 -- "`offered`, and then for each packet, in their order, `taken` or `refused NUMBER 0`, as `offer` would answer it": an answer is a byte, 0 where the packet is taken,
 -- else its number of refusal
@@ -93,21 +93,21 @@ offersTexts answers = OFFERED ∷ answersTexts answers
 
 -- `sent HEX`, `nothing waiting`, `not operational` or `window shut`; the message stands at the start of the output
 abbrev pub nextTexts : NextAnswer → List ℕ → List (List ℕ)
-nextTexts (NextAnswer.Sent count) out = SENT ∷ (bytesText (take count.0 out) ∷ [])
+nextTexts (NextAnswer.Sent count) out = SENT ∷ (bytes_text (take count.0 out) ∷ [])
 nextTexts NextAnswer.NothingWaiting out = NOTHING-WAITING ∷ []
 nextTexts NextAnswer.NotOperational out = NOT-OPERATIONAL ∷ []
 nextTexts NextAnswer.WindowShut out = WINDOW-SHUT ∷ []
-nextTexts (NextAnswer.Refused refusal) out = refusedTexts refusal
+nextTexts (NextAnswer.Refused refusal) out = refused_texts refusal
 
 abbrev pub withdrawTexts : WithdrawAnswer → List (List ℕ)
 withdrawTexts WithdrawAnswer.Withdrawn = WITHDRAWN ∷ []
-withdrawTexts (WithdrawAnswer.Refused refusal) = refusedTexts refusal
+withdrawTexts (WithdrawAnswer.Refused refusal) = refused_texts refusal
 
 -- `accepted`, or `accepted due` where a mobility message is due
 abbrev pub radioTexts : RadioAnswer → List (List ℕ)
 radioTexts RadioAnswer.Accepted = ACCEPTED ∷ []
 radioTexts RadioAnswer.Due = ACCEPTED-DUE ∷ []
-radioTexts (RadioAnswer.Refused refusal) = refusedTexts refusal
+radioTexts (RadioAnswer.Refused refusal) = refused_texts refusal
 
 -- "`quiet`, `due` (a query is), `silent` (the radio is), `due silent`"
 abbrev pub paceTexts : PaceAnswer → List (List ℕ)
@@ -115,8 +115,8 @@ paceTexts PaceAnswer.Quiet = QUIET ∷ []
 paceTexts PaceAnswer.Due = DUE ∷ []
 paceTexts PaceAnswer.Silent = SILENT ∷ []
 paceTexts PaceAnswer.DueSilent = DUE-SILENT ∷ []
-paceTexts (PaceAnswer.Refused refusal) = refusedTexts refusal
+paceTexts (PaceAnswer.Refused refusal) = refused_texts refusal
 
 abbrev pub queryTexts : WriteAnswer → List ℕ → List (List ℕ)
-queryTexts (WriteAnswer.Wrote count) out = QUERY ∷ (bytesText (take count.0 out) ∷ [])
-queryTexts (WriteAnswer.Refused refusal) out = refusedTexts refusal
+queryTexts (WriteAnswer.Wrote count) out = QUERY ∷ (bytes_text (take count.0 out) ∷ [])
+queryTexts (WriteAnswer.Refused refusal) out = refused_texts refusal

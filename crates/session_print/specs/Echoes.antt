@@ -2,13 +2,13 @@
 use Rattle.std.specs.Prelude.{ℕ, List, [], ◌∷◌, Bool, length}
 use Rattle.quantity.specs.declared.count.DatalinkId.{DatalinkId}
 use Rattle.meaning.specs.declared.message.End.{End}
-use Rattle.text.specs.Strings.{bytesText}
+use Rattle.text.specs.Strings.{bytes_text}
 use Rattle.reader.specs.Readings.{ControlReading, DataReading}
-use Rattle.writable.specs.Allowed.{controlAllowed, dataAllowed}
+use Rattle.writable.specs.Allowed.{control_allowed, data_allowed}
 use Rattle.writer.specs.declared.answer.WriteAnswer.{WriteAnswer}
-use Rattle.writer.specs.Written.{controlWritten, dataWritten, answerTo}
-use Rattle.message_words.specs.Phrases.{refusedTexts}
-use Rattle.session_print.specs.Readings.{verdictTexts, byPlane}
+use Rattle.writer.specs.Written.{control_written, data_written, answer_to}
+use Rattle.message_words.specs.Phrases.{refused_texts}
+use Rattle.session_print.specs.Readings.{verdict_texts, by_plane}
 
 -- `written `
 abbrev pub WRITTEN : List ℕ
@@ -20,21 +20,21 @@ count_of (WriteAnswer.Wrote count) = count.0
 count_of (WriteAnswer.Refused refusal) = 0
 
 -- a writer's answer, with the message
-abbrev pub writtenTexts : WriteAnswer → List ℕ → List (List ℕ)
-writtenTexts (WriteAnswer.Wrote count) message = WRITTEN ∷ (bytesText message ∷ [])
-writtenTexts (WriteAnswer.Refused refusal) message = refusedTexts refusal
+abbrev pub written_texts : WriteAnswer → List ℕ → List (List ℕ)
+written_texts (WriteAnswer.Wrote count) message = WRITTEN ∷ (bytes_text message ∷ [])
+written_texts (WriteAnswer.Refused refusal) message = refused_texts refusal
 
 -- a message that is allowed or not, written into an output of n bytes
-abbrev pub outcomeTexts : Bool → List ℕ → ℕ → List (List ℕ)
-outcomeTexts allowed message room = writtenTexts (answerTo allowed message room) message
+abbrev pub outcome_texts : Bool → List ℕ → ℕ → List (List ℕ)
+outcome_texts allowed message room = written_texts (answer_to allowed message room) message
 
-abbrev pub controlEchoTexts : End → ℕ → ControlReading → List (List ℕ)
-controlEchoTexts other room reading = verdictTexts (outcomeTexts (controlAllowed other reading.message) (controlWritten reading.message) room) reading.verdict
+abbrev pub control_echo_texts : End → ℕ → ControlReading → List (List ℕ)
+control_echo_texts other room reading = verdict_texts (outcome_texts (control_allowed other reading.message) (control_written reading.message) room) reading.verdict
 
-abbrev pub dataEchoTexts : End → ℕ → DataReading → List ℕ → List (List ℕ)
-dataEchoTexts other room reading packet =
-    verdictTexts (outcomeTexts (dataAllowed other reading.message (length packet)) (dataWritten reading.message packet) room) reading.verdict
+abbrev pub data_echo_texts : End → ℕ → DataReading → List ℕ → List (List ℕ)
+data_echo_texts other room reading packet =
+    verdict_texts (outcome_texts (data_allowed other reading.message (length packet)) (data_written reading.message packet) room) reading.verdict
 
 -- read as a message of one end and written as one of the other
-abbrev pub echoingTexts : End → DatalinkId → List ℕ → End → ℕ → List (List ℕ)
-echoingTexts end id datagram other room = byPlane (λ reading. controlEchoTexts other room reading) (λ reading packet. dataEchoTexts other room reading packet) end id datagram
+abbrev pub echoing_texts : End → DatalinkId → List ℕ → End → ℕ → List (List ℕ)
+echoing_texts end id datagram other room = by_plane (λ reading. control_echo_texts other room reading) (λ reading packet. data_echo_texts other room reading packet) end id datagram

@@ -2,30 +2,30 @@
 use Rattle.std.specs.Prelude.{ℕ, List, []}
 use Rattle.quantity.specs.declared.count.DatalinkId.{DatalinkId}
 use Rattle.meaning.specs.declared.message.End.{End}
-use Rattle.reader.specs.Readings.{Verdict, ControlReading, DataReading, readControl, readData, packetOf, planeOf}
+use Rattle.reader.specs.Readings.{Verdict, ControlReading, DataReading, read_control, read_data, packet_of, plane_of}
 use Rattle.reader.specs.declared.answer.PlaneAnswer.{PlaneAnswer}
-use Rattle.message_words.specs.Phrases.{controlTexts, dataTexts, refusedTexts}
+use Rattle.message_words.specs.Phrases.{control_texts, data_texts, refused_texts}
 
 -- what an accepted message is answered, or the refusal; a reader is asked for a message of its plane only
-abbrev pub verdictTexts : List (List ℕ) → Verdict → List (List ℕ)
-verdictTexts accepted Verdict.Accepted = accepted
-verdictTexts accepted Verdict.OtherPlane = []
-verdictTexts accepted (Verdict.Refused refusal) = refusedTexts refusal
+abbrev pub verdict_texts : List (List ℕ) → Verdict → List (List ℕ)
+verdict_texts accepted Verdict.Accepted = accepted
+verdict_texts accepted Verdict.OtherPlane = []
+verdict_texts accepted (Verdict.Refused refusal) = refused_texts refusal
 
-abbrev pub planeTexts : List (List ℕ) → List (List ℕ) → PlaneAnswer → List (List ℕ)
-planeTexts onControl onData PlaneAnswer.Control = onControl
-planeTexts onControl onData PlaneAnswer.Data = onData
-planeTexts onControl onData (PlaneAnswer.Refused refusal) = refusedTexts refusal
+abbrev pub plane_texts : List (List ℕ) → List (List ℕ) → PlaneAnswer → List (List ℕ)
+plane_texts onControl onData PlaneAnswer.Control = onControl
+plane_texts onControl onData PlaneAnswer.Data = onData
+plane_texts onControl onData (PlaneAnswer.Refused refusal) = refused_texts refusal
 
-abbrev pub controlReadTexts : ControlReading → List (List ℕ)
-controlReadTexts reading = verdictTexts (controlTexts reading.message) reading.verdict
+abbrev pub control_read_texts : ControlReading → List (List ℕ)
+control_read_texts reading = verdict_texts (control_texts reading.message) reading.verdict
 
-abbrev pub dataReadTexts : DataReading → List ℕ → List (List ℕ)
-dataReadTexts reading packet = verdictTexts (dataTexts reading.message packet) reading.verdict
+abbrev pub data_read_texts : DataReading → List ℕ → List (List ℕ)
+data_read_texts reading packet = verdict_texts (data_texts reading.message packet) reading.verdict
 
 -- by the plane of a datagram, what a reader of that plane answers
-unfoldable pub byPlane : (ControlReading → List (List ℕ)) → (DataReading → List ℕ → List (List ℕ)) → End → DatalinkId → List ℕ → List (List ℕ)
-byPlane onControl onData end id datagram = planeTexts (onControl (readControl end id datagram)) (onData (readData end id datagram) (packetOf datagram)) (planeOf datagram)
+unfoldable pub by_plane : (ControlReading → List (List ℕ)) → (DataReading → List ℕ → List (List ℕ)) → End → DatalinkId → List ℕ → List (List ℕ)
+by_plane onControl onData end id datagram = plane_texts (onControl (read_control end id datagram)) (onData (read_data end id datagram) (packet_of datagram)) (plane_of datagram)
 
-abbrev pub readingTexts : End → DatalinkId → List ℕ → List (List ℕ)
-readingTexts end id datagram = byPlane controlReadTexts dataReadTexts end id datagram
+abbrev pub reading_texts : End → DatalinkId → List ℕ → List (List ℕ)
+reading_texts end id datagram = by_plane control_read_texts data_read_texts end id datagram

@@ -2,7 +2,7 @@
 -- reported; `FLOW` is `free`, `none` or the window's number." "`store CHANNEL`: `store HEX`, every byte of that channel's store".
 -- "`kept`: `kept`, and `link LEN VALUE` and `context HEX`, each where there is one". "`pacer`: `pacer CLOCK DUE HEARD`".
 use Rattle.std.specs.Prelude.{ℕ, List, [], ◌∷◌, ◌++◌}
-use Rattle.text.specs.Strings.{bytesText}
+use Rattle.text.specs.Strings.{bytes_text}
 use Rattle.meaning.specs.declared.message.Instance.{Instance}
 use Rattle.meaning.specs.declared.message.Context.{Context}
 use Rattle.meaning.specs.declared.message.Status.{Status}
@@ -12,7 +12,7 @@ use Rattle.store.specs.Waiting.{waiting}
 use Rattle.flow.specs.declared.Flow.{Flow}
 use Rattle.ips_channel.specs.declared.state.Channel.{Channel}
 use Rattle.pacer.specs.declared.Pacer.{Pacer}
-use Rattle.message_words.specs.Phrases.{SPACE, oneNumber, twoNumbers, instanceTexts, contextTexts}
+use Rattle.message_words.specs.Phrases.{SPACE, one_number, two_numbers, instance_texts, context_texts}
 
 -- ` -`
 abbrev pub NOT-REPORTED : List ℕ
@@ -42,33 +42,33 @@ KEPT = 107 ∷ 101 ∷ 112 ∷ 116 ∷ []
 abbrev pub PACER : List ℕ
 PACER = 112 ∷ 97 ∷ 99 ∷ 101 ∷ 114 ∷ 32 ∷ []
 
-abbrev pub statusTexts : Status → List (List ℕ)
-statusTexts Status.Absent = NOT-REPORTED ∷ []
-statusTexts (Status.Given status) = oneNumber SPACE status
+abbrev pub status_texts : Status → List (List ℕ)
+status_texts Status.Absent = NOT-REPORTED ∷ []
+status_texts (Status.Given status) = one_number SPACE status
 
-abbrev pub flowTexts : Flow → List (List ℕ)
-flowTexts Flow.Free = FREE ∷ []
-flowTexts Flow.NoWindow = NONE ∷ []
-flowTexts (Flow.InForce window) = oneNumber SPACE window.0
+abbrev pub flow_texts : Flow → List (List ℕ)
+flow_texts Flow.Free = FREE ∷ []
+flow_texts Flow.NoWindow = NONE ∷ []
+flow_texts (Flow.InForce window) = one_number SPACE window.0
 
-unfoldable pub entriesTexts : List Entry → List (List ℕ)
-entriesTexts [] = []
-entriesTexts (e ∷ es) = twoNumbers SPACE e.length.0 e.expiry ++ entriesTexts es
+unfoldable pub entries_texts : List Entry → List (List ℕ)
+entries_texts [] = []
+entries_texts (e ∷ es) = two_numbers SPACE e.length.0 e.expiry ++ entries_texts es
 
-abbrev pub waitingTexts : Queue → List (List ℕ)
-waitingTexts queue = oneNumber SPACE queue.count ++ entriesTexts (waiting queue)
+abbrev pub waiting_texts : Queue → List (List ℕ)
+waiting_texts queue = one_number SPACE queue.count ++ entries_texts (waiting queue)
 
-unfoldable pub channelTexts : Channel → List (List ℕ)
-channelTexts c =
-    oneNumber CHANNEL c.setting.id ++ (statusTexts c.status ++ (flowTexts c.flow ++ (oneNumber SPACE c.sequence.0 ++ (oneNumber SPACE c.latest ++ waitingTexts c.queue))))
+unfoldable pub channel_texts : Channel → List (List ℕ)
+channel_texts c =
+    one_number CHANNEL c.setting.id ++ (status_texts c.status ++ (flow_texts c.flow ++ (one_number SPACE c.sequence.0 ++ (one_number SPACE c.latest ++ waiting_texts c.queue))))
 
-abbrev pub storeTexts : List ℕ → List (List ℕ)
-storeTexts store = STORE ∷ (bytesText store ∷ [])
+abbrev pub store_texts : List ℕ → List (List ℕ)
+store_texts store = STORE ∷ (bytes_text store ∷ [])
 
 -- the Link Instance and the Context of a state, as `read` says those of a message
-unfoldable pub keptTexts : Instance → Context → List (List ℕ)
-keptTexts link context = KEPT ∷ (instanceTexts link ++ contextTexts context)
+unfoldable pub kept_texts : Instance → Context → List (List ℕ)
+kept_texts link context = KEPT ∷ (instance_texts link ++ context_texts context)
 
 -- "shows the pacer's clock, the time of the last query that was due, and that of the last accepted control message"
-unfoldable pub pacerTexts : Pacer → List (List ℕ)
-pacerTexts pacer = oneNumber PACER pacer.clock ++ twoNumbers SPACE pacer.due pacer.heard
+unfoldable pub pacer_texts : Pacer → List (List ℕ)
+pacer_texts pacer = one_number PACER pacer.clock ++ two_numbers SPACE pacer.due pacer.heard

@@ -1,8 +1,8 @@
 // One function an answer.
 ghost use Rattle.std.specs.Prelude.{[], ◌∷◌, take};
-ghost use Rattle.text.specs.Strings.{bytesText};
+ghost use Rattle.text.specs.Strings.{bytes_text};
 ghost use Rattle.message_words.specs.Saying.{Says};
-ghost use Rattle.session_print.specs.Answers.{startTexts, offerTexts, nextTexts, withdrawTexts, radioTexts, paceTexts, queryTexts};
+ghost use Rattle.session_print.specs.Answers.{start_texts, offerTexts, nextTexts, withdrawTexts, radioTexts, paceTexts, queryTexts};
 
 use ips_channel_calls::asking::NextAnswer;
 use ips_channel_calls::offering::{OfferAnswer, WithdrawAnswer};
@@ -15,7 +15,7 @@ use writer::answer::WriteAnswer;
 
 // The answer to `start`.
 pub fn started(out: &mut [u8], at: usize, answer: StartAnswer) -> usize
-    ensures { Says out.old at (startTexts answer) result out.new }
+    ensures { Says out.old at (start_texts answer) result out.new }
 {
     match answer {
         StartAnswer::Started => put(out, at, b"started"),
@@ -48,7 +48,7 @@ pub fn asked(out: &mut [u8], at: usize, answer: NextAnswer, lent: &[u8]) -> usiz
 
 // A label and n bytes of a lent output.
 fn message(out: &mut [u8], at: usize, label: &[u8], count: usize, lent: &[u8]) -> usize
-    ensures { Says out.old at (label.now ∷ (bytesText (take count lent.now) ∷ [])) result out.new }
+    ensures { Says out.old at (label.now ∷ (bytes_text (take count lent.now) ∷ [])) result out.new }
 {
     let behind = put(out, at, label);
     if count <= lent.len() {

@@ -1,9 +1,9 @@
 // What a datagram means, written as a message of an end into a lent output, said.
 ghost use Rattle.std.specs.Prelude.{◌≤◌, length, take};
 ghost use Rattle.message_words.specs.Saying.{Says};
-ghost use Rattle.writable.specs.Allowed.{controlAllowed, dataAllowed};
-ghost use Rattle.writer.specs.Written.{controlWritten, dataWritten};
-ghost use Rattle.session_print.specs.Echoes.{count_of, writtenTexts, outcomeTexts, controlEchoTexts, dataEchoTexts, echoingTexts};
+ghost use Rattle.writable.specs.Allowed.{control_allowed, data_allowed};
+ghost use Rattle.writer.specs.Written.{control_written, data_written};
+ghost use Rattle.session_print.specs.Echoes.{count_of, written_texts, outcome_texts, control_echo_texts, data_echo_texts, echoing_texts};
 
 use meaning::message::{Control, Data, End};
 use message_words::whole;
@@ -16,7 +16,7 @@ use writer::answer::WriteAnswer;
 // The answer of a writer; the message stands at the start of the lent output.
 fn outcome(answer: WriteAnswer, lent: &[u8], out: &mut [u8], at: usize) -> usize
     requires { count_of answer ≤ length lent.now }
-    ensures { Says out.old at (writtenTexts answer (take (count_of answer) lent.now)) result out.new }
+    ensures { Says out.old at (written_texts answer (take (count_of answer) lent.now)) result out.new }
 {
     match answer {
         WriteAnswer::Wrote(count) => {
@@ -29,7 +29,7 @@ fn outcome(answer: WriteAnswer, lent: &[u8], out: &mut [u8], at: usize) -> usize
 }
 
 fn control_written(message: Control, end: End, lent: &mut [u8], out: &mut [u8], at: usize) -> usize
-    ensures { Says out.old at (outcomeTexts (controlAllowed end message) (controlWritten message) (length lent.old)) result out.new }
+    ensures { Says out.old at (outcome_texts (control_allowed end message) (control_written message) (length lent.old)) result out.new }
 {
     let answer = writer::control::write(end, message, lent);
     outcome(answer, lent, out, at)
@@ -43,7 +43,7 @@ fn data_written(
     out: &mut [u8],
     at: usize,
 ) -> usize
-    ensures { Says out.old at (outcomeTexts (dataAllowed end message (length packet.now)) (dataWritten message packet.now) (length lent.old)) result out.new }
+    ensures { Says out.old at (outcome_texts (data_allowed end message (length packet.now)) (data_written message packet.now) (length lent.old)) result out.new }
 {
     let answer = writer::data::write(end, message, packet, lent);
     outcome(answer, lent, out, at)
@@ -56,7 +56,7 @@ fn control_echoed(
     out: &mut [u8],
     at: usize,
 ) -> usize
-    ensures { Says out.old at (controlEchoTexts end (length lent.old) reading) result out.new }
+    ensures { Says out.old at (control_echo_texts end (length lent.old) reading) result out.new }
 {
     let verdict = reading.verdict;
     match verdict {
@@ -75,7 +75,7 @@ fn data_echoed(
     out: &mut [u8],
     at: usize,
 ) -> usize
-    ensures { Says out.old at (dataEchoTexts end (length lent.old) reading packet.now) result out.new }
+    ensures { Says out.old at (data_echo_texts end (length lent.old) reading packet.now) result out.new }
 {
     let verdict = reading.verdict;
     match verdict {
@@ -95,7 +95,7 @@ pub(crate) fn echoing(
     out: &mut [u8],
     at: usize,
 ) -> usize
-    ensures { Says out.old at (echoingTexts end id datagram.now other (length lent.old)) result out.new }
+    ensures { Says out.old at (echoing_texts end id datagram.now other (length lent.old)) result out.new }
 {
     match header::plane(datagram) {
         PlaneAnswer::Control => control_echoed(

@@ -1,8 +1,8 @@
 // The answer to a line about messages.
 ghost use Rattle.std.specs.Prelude.{◌≡◌, [], ◌∷◌, min, length};
 ghost use Rattle.message_words.specs.Saying.{Says};
-ghost use Rattle.session_print.specs.Echoes.{echoingTexts};
-ghost use Rattle.session_print.specs.Messages.{BAD-LINE, messageTexts, aboutState};
+ghost use Rattle.session_print.specs.Echoes.{echoing_texts};
+ghost use Rattle.session_print.specs.Messages.{BAD-LINE, message_texts, about_state};
 
 use crate::echo::echoing;
 use crate::reading::reading;
@@ -13,7 +13,7 @@ use text::put;
 
 // Whether a line is about a state.
 pub fn about_state(asked: Asked) -> bool
-    ensures { result ≡ aboutState asked }
+    ensures { result ≡ about_state asked }
 {
     match asked {
         Asked::Bad => false,
@@ -47,7 +47,7 @@ fn echoed(
     output: &mut [u8],
     out: &mut [u8],
 ) -> usize
-    ensures { Says out.old 0 (echoingTexts end (record { 0 = id }) datagram.now other (min room (length output.old))) result out.new }
+    ensures { Says out.old 0 (echoing_texts end (record { 0 = id }) datagram.now other (min room (length output.old))) result out.new }
 {
     let size = least(room, output.len());
     echoing(
@@ -63,7 +63,7 @@ fn echoed(
 
 // `read`, `echo`, or a line that is no command.
 pub fn message(asked: Asked, datagram: &[u8], output: &mut [u8], out: &mut [u8]) -> usize
-    ensures { Says out.old 0 (messageTexts (length output.old) datagram.now asked) result out.new }
+    ensures { Says out.old 0 (message_texts (length output.old) datagram.now asked) result out.new }
 {
     match asked {
         Asked::Bad => bad_line(out),

@@ -1,6 +1,6 @@
 // What a datagram means to a reader, said.
 ghost use Rattle.message_words.specs.Saying.{Says};
-ghost use Rattle.session_print.specs.Readings.{controlReadTexts, dataReadTexts, readingTexts};
+ghost use Rattle.session_print.specs.Readings.{control_read_texts, data_read_texts, reading_texts};
 
 use meaning::message::End;
 use message_words::whole;
@@ -9,7 +9,7 @@ use reader::answer::{ControlReading, DataReading, PlaneAnswer, Verdict};
 use reader::{control, data, header, packet};
 
 fn control_said(reading: ControlReading, out: &mut [u8], at: usize) -> usize
-    ensures { Says out.old at (controlReadTexts reading) result out.new }
+    ensures { Says out.old at (control_read_texts reading) result out.new }
 {
     let verdict = reading.verdict;
     match verdict {
@@ -21,7 +21,7 @@ fn control_said(reading: ControlReading, out: &mut [u8], at: usize) -> usize
 }
 
 fn data_said(reading: DataReading, packet: &[u8], out: &mut [u8], at: usize) -> usize
-    ensures { Says out.old at (dataReadTexts reading packet.now) result out.new }
+    ensures { Says out.old at (data_read_texts reading packet.now) result out.new }
 {
     let verdict = reading.verdict;
     match verdict {
@@ -32,7 +32,7 @@ fn data_said(reading: DataReading, packet: &[u8], out: &mut [u8], at: usize) -> 
 }
 
 pub(crate) fn reading(end: End, id: DatalinkId, datagram: &[u8], out: &mut [u8], at: usize) -> usize
-    ensures { Says out.old at (readingTexts end id datagram.now) result out.new }
+    ensures { Says out.old at (reading_texts end id datagram.now) result out.new }
 {
     match header::plane(datagram) {
         PlaneAnswer::Control => control_said(control::read(datagram, end, id), out, at),

@@ -1,6 +1,6 @@
 // What a channel is, what its store holds, and what a state keeps beside its channels.
 ghost use Rattle.message_words.specs.Saying.{Says};
-ghost use Rattle.session_print.specs.Shown.{statusTexts, flowTexts, waitingTexts, channelTexts, storeTexts, keptTexts, pacerTexts};
+ghost use Rattle.session_print.specs.Shown.{status_texts, flow_texts, waiting_texts, channel_texts, store_texts, kept_texts, pacer_texts};
 
 use flow::Flow;
 use ips_channel::state::Channel;
@@ -12,7 +12,7 @@ use store::queue::Queue;
 use text::{put, put_bytes};
 
 fn status(out: &mut [u8], at: usize, status: Status) -> usize
-    ensures { Says out.old at (statusTexts status) result out.new }
+    ensures { Says out.old at (status_texts status) result out.new }
 {
     match status {
         Status::Absent => put(out, at, b" -"),
@@ -21,7 +21,7 @@ fn status(out: &mut [u8], at: usize, status: Status) -> usize
 }
 
 fn flow(out: &mut [u8], at: usize, flow: Flow) -> usize
-    ensures { Says out.old at (flowTexts flow) result out.new }
+    ensures { Says out.old at (flow_texts flow) result out.new }
 {
     match flow {
         Flow::Free => put(out, at, b" free"),
@@ -32,7 +32,7 @@ fn flow(out: &mut [u8], at: usize, flow: Flow) -> usize
 
 // The length and the expiry of each packet that waits.
 fn waiting(out: &mut [u8], at: usize, queue: Queue) -> usize
-    ensures { Says out.old at (waitingTexts queue) result out.new }
+    ensures { Says out.old at (waiting_texts queue) result out.new }
 {
     let count = queue.count;
     let mut behind = labelled(out, at, b" ", count as u64);
@@ -48,7 +48,7 @@ fn waiting(out: &mut [u8], at: usize, queue: Queue) -> usize
 
 // The answer to `show`.
 pub fn channel(out: &mut [u8], at: usize, channel: Channel) -> usize
-    ensures { Says out.old at (channelTexts channel) result out.new }
+    ensures { Says out.old at (channel_texts channel) result out.new }
 {
     let code = channel.status;
     let rule = channel.flow;
@@ -64,7 +64,7 @@ pub fn channel(out: &mut [u8], at: usize, channel: Channel) -> usize
 
 // The answer to `store`: every byte of it.
 pub fn held(out: &mut [u8], at: usize, store: &[u8]) -> usize
-    ensures { Says out.old at (storeTexts store.now) result out.new }
+    ensures { Says out.old at (store_texts store.now) result out.new }
 {
     let behind = put(out, at, b"store ");
     put_bytes(out, behind, store)
@@ -72,7 +72,7 @@ pub fn held(out: &mut [u8], at: usize, store: &[u8]) -> usize
 
 // The Link Instance and the Context, each where there is one.
 pub fn kept(out: &mut [u8], at: usize, link: Instance, place: Context) -> usize
-    ensures { Says out.old at (keptTexts link place) result out.new }
+    ensures { Says out.old at (kept_texts link place) result out.new }
 {
     let label = put(out, at, b"kept");
     let linked = instance(out, label, link);
@@ -81,7 +81,7 @@ pub fn kept(out: &mut [u8], at: usize, link: Instance, place: Context) -> usize
 
 // The answer to `pacer`: its three times.
 pub fn pacer(out: &mut [u8], at: usize, pacer: Pacer) -> usize
-    ensures { Says out.old at (pacerTexts pacer) result out.new }
+    ensures { Says out.old at (pacer_texts pacer) result out.new }
 {
     let clock = labelled(out, at, b"pacer ", pacer.clock);
     paired(out, clock, b" ", pacer.due, pacer.heard)

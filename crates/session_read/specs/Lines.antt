@@ -1,110 +1,110 @@
 -- The lines of docs/SESSION.md, in its order: for each command its first word and its row, and what its numbers ask for.
 use Rattle.std.specs.Prelude.{cond, List, [], ◌∷◌, ◌++◌, ◌≡◌, ℕ, ◌-◌, ◌*◌, ◌^◌, ◌<◌, ◌≤◌, eqb, ltb, length, get_or, replicate}
 use Rattle.quantity.specs.Limits.{MOST-CHANNELS, LARGEST-STORE}
-use Rattle.line_rows.specs.Rows.{NUMBER, BYTES, LIST, OPTIONAL, keyText, Said, over}
-use Rattle.line_rows.specs.Tables.{command, saidIn, keyIn}
-use Rattle.line_rows.specs.Places.{rowOfKey, writtenOut, Within}
+use Rattle.line_rows.specs.Rows.{NUMBER, BYTES, LIST, OPTIONAL, key_text, Said, over}
+use Rattle.line_rows.specs.Tables.{command, said_in, key_in}
+use Rattle.line_rows.specs.Places.{row_of_key, written_out, Within}
 use Rattle.meaning.specs.declared.message.End.{End}
 use Rattle.session_read.specs.declared.asked.Asked.{Asked}
 use Rattle.session_read.specs.declared.asked.Command.{Command}
 use Rattle.session_read.specs.declared.start.StartWords.{StartWords}
 use Rattle.session_read.specs.declared.line.Line.{Line}
-use Rattle.ips_words_start.specs.Start.{configurationLength}
-use Rattle.session_read.specs.Start.{SAID-COUNT, storeSaid, startFrom, noStart, configurationFrom}
-use Rattle.session_read.specs.Offers.{SAID-TIME, channelCount, expiryCount, lengthCount, countsFrom, listsFrom}
+use Rattle.ips_words_start.specs.Start.{configuration_length}
+use Rattle.session_read.specs.Start.{SAID-COUNT, store_said, start_from, no_start, configuration_from}
+use Rattle.session_read.specs.Offers.{SAID-TIME, channel_count, expiry_count, length_count, counts_from, lists_from}
 
 -- ---- the words that a line may have
 -- `ips`
 abbrev pub IPS : ℕ
-IPS = keyText (105 ∷ 112 ∷ 115 ∷ [])
+IPS = key_text (105 ∷ 112 ∷ 115 ∷ [])
 
 -- `radio`
 abbrev pub RADIO : ℕ
-RADIO = keyText (114 ∷ 97 ∷ 100 ∷ 105 ∷ 111 ∷ [])
+RADIO = key_text (114 ∷ 97 ∷ 100 ∷ 105 ∷ 111 ∷ [])
 
 -- `plain`
 abbrev pub PLAIN : ℕ
-PLAIN = keyText (112 ∷ 108 ∷ 97 ∷ 105 ∷ 110 ∷ [])
+PLAIN = key_text (112 ∷ 108 ∷ 97 ∷ 105 ∷ 110 ∷ [])
 
 -- `flow`
 abbrev pub FLOW : ℕ
-FLOW = keyText (102 ∷ 108 ∷ 111 ∷ 119 ∷ [])
+FLOW = key_text (102 ∷ 108 ∷ 111 ∷ 119 ∷ [])
 
 -- `memory`
 abbrev pub MEMORY : ℕ
-MEMORY = keyText (109 ∷ 101 ∷ 109 ∷ 111 ∷ 114 ∷ 121 ∷ [])
+MEMORY = key_text (109 ∷ 101 ∷ 109 ∷ 111 ∷ 114 ∷ 121 ∷ [])
 
 -- `codes`
 abbrev pub CODES : ℕ
-CODES = keyText (99 ∷ 111 ∷ 100 ∷ 101 ∷ 115 ∷ [])
+CODES = key_text (99 ∷ 111 ∷ 100 ∷ 101 ∷ 115 ∷ [])
 
 -- `channels`
 abbrev pub CHANNELS : ℕ
-CHANNELS = keyText (99 ∷ 104 ∷ 97 ∷ 110 ∷ 110 ∷ 101 ∷ 108 ∷ 115 ∷ [])
+CHANNELS = key_text (99 ∷ 104 ∷ 97 ∷ 110 ∷ 110 ∷ 101 ∷ 108 ∷ 115 ∷ [])
 
 -- `expiries`
 abbrev pub EXPIRIES : ℕ
-EXPIRIES = keyText (101 ∷ 120 ∷ 112 ∷ 105 ∷ 114 ∷ 105 ∷ 101 ∷ 115 ∷ [])
+EXPIRIES = key_text (101 ∷ 120 ∷ 112 ∷ 105 ∷ 114 ∷ 105 ∷ 101 ∷ 115 ∷ [])
 
 -- `lengths`
 abbrev pub LENGTHS : ℕ
-LENGTHS = keyText (108 ∷ 101 ∷ 110 ∷ 103 ∷ 116 ∷ 104 ∷ 115 ∷ [])
+LENGTHS = key_text (108 ∷ 101 ∷ 110 ∷ 103 ∷ 116 ∷ 104 ∷ 115 ∷ [])
 
 -- `answers`
 abbrev pub ANSWERS : ℕ
-ANSWERS = keyText (97 ∷ 110 ∷ 115 ∷ 119 ∷ 101 ∷ 114 ∷ 115 ∷ [])
+ANSWERS = key_text (97 ∷ 110 ∷ 115 ∷ 119 ∷ 101 ∷ 114 ∷ 115 ∷ [])
 
 -- `read`
 abbrev pub READ : ℕ
-READ = keyText (114 ∷ 101 ∷ 97 ∷ 100 ∷ [])
+READ = key_text (114 ∷ 101 ∷ 97 ∷ 100 ∷ [])
 
 -- `echo`
 abbrev pub ECHO : ℕ
-ECHO = keyText (101 ∷ 99 ∷ 104 ∷ 111 ∷ [])
+ECHO = key_text (101 ∷ 99 ∷ 104 ∷ 111 ∷ [])
 
 -- `start`
 abbrev pub START : ℕ
-START = keyText (115 ∷ 116 ∷ 97 ∷ 114 ∷ 116 ∷ [])
+START = key_text (115 ∷ 116 ∷ 97 ∷ 114 ∷ 116 ∷ [])
 
 -- `offer`
 abbrev pub OFFER : ℕ
-OFFER = keyText (111 ∷ 102 ∷ 102 ∷ 101 ∷ 114 ∷ [])
+OFFER = key_text (111 ∷ 102 ∷ 102 ∷ 101 ∷ 114 ∷ [])
 
 -- `offers`
 abbrev pub OFFERS : ℕ
-OFFERS = keyText (111 ∷ 102 ∷ 102 ∷ 101 ∷ 114 ∷ 115 ∷ [])
+OFFERS = key_text (111 ∷ 102 ∷ 102 ∷ 101 ∷ 114 ∷ 115 ∷ [])
 
 -- `next`
 abbrev pub NEXT : ℕ
-NEXT = keyText (110 ∷ 101 ∷ 120 ∷ 116 ∷ [])
+NEXT = key_text (110 ∷ 101 ∷ 120 ∷ 116 ∷ [])
 
 -- `withdraw`
 abbrev pub WITHDRAW : ℕ
-WITHDRAW = keyText (119 ∷ 105 ∷ 116 ∷ 104 ∷ 100 ∷ 114 ∷ 97 ∷ 119 ∷ [])
+WITHDRAW = key_text (119 ∷ 105 ∷ 116 ∷ 104 ∷ 100 ∷ 114 ∷ 97 ∷ 119 ∷ [])
 
 -- `query`
 abbrev pub QUERY : ℕ
-QUERY = keyText (113 ∷ 117 ∷ 101 ∷ 114 ∷ 121 ∷ [])
+QUERY = key_text (113 ∷ 117 ∷ 101 ∷ 114 ∷ 121 ∷ [])
 
 -- `show`
 abbrev pub SHOW : ℕ
-SHOW = keyText (115 ∷ 104 ∷ 111 ∷ 119 ∷ [])
+SHOW = key_text (115 ∷ 104 ∷ 111 ∷ 119 ∷ [])
 
 -- `store`
 abbrev pub STORE : ℕ
-STORE = keyText (115 ∷ 116 ∷ 111 ∷ 114 ∷ 101 ∷ [])
+STORE = key_text (115 ∷ 116 ∷ 111 ∷ 114 ∷ 101 ∷ [])
 
 -- `kept`
 abbrev pub KEPT : ℕ
-KEPT = keyText (107 ∷ 101 ∷ 112 ∷ 116 ∷ [])
+KEPT = key_text (107 ∷ 101 ∷ 112 ∷ 116 ∷ [])
 
 -- `pace`
 abbrev pub PACE : ℕ
-PACE = keyText (112 ∷ 97 ∷ 99 ∷ 101 ∷ [])
+PACE = key_text (112 ∷ 97 ∷ 99 ∷ 101 ∷ [])
 
 -- `pacer`
 abbrev pub PACER : ℕ
-PACER = keyText (112 ∷ 97 ∷ 99 ∷ 101 ∷ 114 ∷ [])
+PACER = key_text (112 ∷ 97 ∷ 99 ∷ 101 ∷ 114 ∷ [])
 
 -- ---- "the values"
 
@@ -138,7 +138,7 @@ PLACES = 329
 
 -- the words of the configuration of as many channels
 abbrev pub CONFIGURATION-WORDS : ℕ
-CONFIGURATION-WORDS = configurationLength MOST-SETTINGS
+CONFIGURATION-WORDS = configuration_length MOST-SETTINGS
 
 -- "It may be 140,000 bytes long": a longer one is read as an empty line, which is no command
 abbrev pub LONGEST-LINE : ℕ
@@ -190,13 +190,13 @@ COMMANDS = ABOUT-MESSAGES ++ ABOUT-A-STATE
 unfoldable pub end_of : ℕ → End
 end_of n = cond (eqb n 0) End.Ips End.Radio
 
-unfoldable pub askedBy : ℕ → (ℕ → ℕ) → Asked
-askedBy key n =
+unfoldable pub asked_by : ℕ → (ℕ → ℕ) → Asked
+asked_by key n =
     cond (eqb key READ) (Asked.Read (end_of (n 0)) (n 1))
     (cond (eqb key ECHO) (Asked.Echo (end_of (n 0)) (n 1) (end_of (n 3)) (n 4))
     (cond (eqb key START) Asked.Start
     (cond (eqb key OFFER) (Asked.State (Command.Offer (n 0) (n 1) (n 2)))
-    (cond (eqb key OFFERS) (Asked.State (Command.Offers (n SAID-TIME) (countsFrom n)))
+    (cond (eqb key OFFERS) (Asked.State (Command.Offers (n SAID-TIME) (counts_from n)))
     (cond (eqb key NEXT) (Asked.State (Command.Next (n 0) (n 1) (n 2)))
     (cond (eqb key WITHDRAW) (Asked.State (Command.Withdraw (n 0)))
     (cond (eqb key RADIO) (Asked.State (Command.Radio (n 0)))
@@ -210,49 +210,49 @@ askedBy key n =
 
 -- what the numbers of a `start` are; nothing for another line
 unfoldable pub start_by : ℕ → (ℕ → ℕ) → StartWords
-start_by key n = cond (eqb key START) (startFrom n) noStart
+start_by key n = cond (eqb key START) (start_from n) no_start
 
 -- the words that a line says: the configuration of a `start`, the three lists of an `offers`; none for another line
-unfoldable pub wordsBy : ℕ → (ℕ → ℕ) → List ℕ
-wordsBy key n = cond (eqb key START) (configurationFrom n) (cond (eqb key OFFERS) (listsFrom n) [])
+unfoldable pub words_by : ℕ → (ℕ → ℕ) → List ℕ
+words_by key n = cond (eqb key START) (configuration_from n) (cond (eqb key OFFERS) (lists_from n) [])
 
-abbrev pub numbersIn : List ℕ → ℕ → ℕ
-numbersIn numbers = λ i. get_or numbers i 0
+abbrev pub numbers_in : List ℕ → ℕ → ℕ
+numbers_in numbers = λ i. get_or numbers i 0
 
 -- ---- a line, with room for n bytes
-abbrev pub saidBy : ℕ → List ℕ → Said
-saidBy size line = saidIn PLACES size COMMANDS (shortened line)
+abbrev pub said_by : ℕ → List ℕ → Said
+said_by size line = said_in PLACES size COMMANDS (shortened line)
 
-abbrev pub keyBy : ℕ → List ℕ → ℕ
-keyBy size line = keyIn PLACES size COMMANDS (shortened line)
+abbrev pub key_by : ℕ → List ℕ → ℕ
+key_by size line = key_in PLACES size COMMANDS (shortened line)
 
 unfoldable pub asked_of : ℕ → List ℕ → Asked
-asked_of size line = askedBy (keyBy size line) (numbersIn (saidBy size line).numbers)
+asked_of size line = asked_by (key_by size line) (numbers_in (said_by size line).numbers)
 
 unfoldable pub start_of : ℕ → List ℕ → StartWords
-start_of size line = start_by (keyBy size line) (numbersIn (saidBy size line).numbers)
+start_of size line = start_by (key_by size line) (numbers_in (said_by size line).numbers)
 
 unfoldable pub words_of : ℕ → List ℕ → List ℕ
-words_of size line = wordsBy (keyBy size line) (numbersIn (saidBy size line).numbers)
+words_of size line = words_by (key_by size line) (numbers_in (said_by size line).numbers)
 
 -- what a line asks for; the words that it says stand at the start of the lent words, with zeros behind them, and the bytes at the start of the lent memory, which
 -- is as it was behind them
 pub record Asks (lent line : List ℕ) (r : Line) (words' lent' : List ℕ) : Type 0 where
   pub asked : r.asked ≡ asked_of (length lent) line
-  pub count : r.bytes ≡ length (saidBy (length lent) line).bytes
+  pub count : r.bytes ≡ length (said_by (length lent) line).bytes
   pub start : r.start ≡ start_of (length lent) line
   pub words : words' ≡ over (words_of (length lent) line) (replicate CONFIGURATION-WORDS 0)
-  pub bytes : lent' ≡ over (saidBy (length lent) line).bytes lent
+  pub bytes : lent' ≡ over (said_by (length lent) line).bytes lent
 
 -- the numbers of a command are within their bounds
 pub record Bounded (key : ℕ) (numbers : List ℕ) : Type 0 where
-  pub within : Within (writtenOut 0 0 (rowOfKey key COMMANDS) (numbersIn numbers)) (numbersIn numbers)
+  pub within : Within (written_out 0 0 (row_of_key key COMMANDS) (numbers_in numbers)) (numbers_in numbers)
 
 pub record StartFits (n : ℕ → ℕ) : Type 0 where
   pub few : n SAID-COUNT ≤ MOST-SETTINGS
-  pub each : (index : ℕ) → index < n SAID-COUNT → storeSaid n index ≤ MOST-ROOM
+  pub each : (index : ℕ) → index < n SAID-COUNT → store_said n index ≤ MOST-ROOM
 
 pub record OffersFit (n : ℕ → ℕ) : Type 0 where
-  pub channels : channelCount n ≤ MOST-SETTINGS
-  pub expiries : expiryCount n ≤ MOST-SETTINGS
-  pub lengths : lengthCount n ≤ MOST-SETTINGS
+  pub channels : channel_count n ≤ MOST-SETTINGS
+  pub expiries : expiry_count n ≤ MOST-SETTINGS
+  pub lengths : length_count n ≤ MOST-SETTINGS

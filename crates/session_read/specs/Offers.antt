@@ -3,7 +3,7 @@
 -- 0 for `answers`, N and the length of HEX.
 use Rattle.std.specs.Prelude.{List, ◌++◌, ℕ, ◌+◌}
 use Rattle.session_read.specs.declared.offers.ListCounts.{ListCounts}
-use Rattle.session_read.specs.Words.{saidFrom}
+use Rattle.session_read.specs.Words.{said_from}
 
 abbrev pub SAID-TIME : ℕ
 SAID-TIME = 0
@@ -22,30 +22,30 @@ abbrev pub SAID-ANSWERS : ℕ
 SAID-ANSWERS = 8
 
 -- "Each `N` is .. its own"
-unfoldable pub channelCount : (ℕ → ℕ) → ℕ
-channelCount n = n SAID-CHANNELS
+unfoldable pub channel_count : (ℕ → ℕ) → ℕ
+channel_count n = n SAID-CHANNELS
 
-unfoldable pub expiryCount : (ℕ → ℕ) → ℕ
-expiryCount n = n (SAID-EXPIRIES + channelCount n)
+unfoldable pub expiry_count : (ℕ → ℕ) → ℕ
+expiry_count n = n (SAID-EXPIRIES + channel_count n)
 
-unfoldable pub lengthCount : (ℕ → ℕ) → ℕ
-lengthCount n = n (SAID-LENGTHS + channelCount n + expiryCount n)
+unfoldable pub length_count : (ℕ → ℕ) → ℕ
+length_count n = n (SAID-LENGTHS + channel_count n + expiry_count n)
 
-unfoldable pub answerCount : (ℕ → ℕ) → ℕ
-answerCount n = n (SAID-ANSWERS + channelCount n + expiryCount n + lengthCount n)
+unfoldable pub answer_count : (ℕ → ℕ) → ℕ
+answer_count n = n (SAID-ANSWERS + channel_count n + expiry_count n + length_count n)
 
-unfoldable pub countsFrom : (ℕ → ℕ) → ListCounts
-countsFrom n = record { channels = channelCount n; expiries = expiryCount n; lengths = lengthCount n; answers = answerCount n }
+unfoldable pub counts_from : (ℕ → ℕ) → ListCounts
+counts_from n = record { channels = channel_count n; expiries = expiry_count n; lengths = length_count n; answers = answer_count n }
 
 -- the three lists, each behind its N; as words they stand one behind the other
-abbrev pub channelsOffered : (ℕ → ℕ) → List ℕ
-channelsOffered n = saidFrom n (SAID-CHANNELS + 1) (channelCount n)
+abbrev pub channels_offered : (ℕ → ℕ) → List ℕ
+channels_offered n = said_from n (SAID-CHANNELS + 1) (channel_count n)
 
-abbrev pub expiriesOffered : (ℕ → ℕ) → List ℕ
-expiriesOffered n = saidFrom n (SAID-EXPIRIES + channelCount n + 1) (expiryCount n)
+abbrev pub expiries_offered : (ℕ → ℕ) → List ℕ
+expiries_offered n = said_from n (SAID-EXPIRIES + channel_count n + 1) (expiry_count n)
 
-abbrev pub lengthsOffered : (ℕ → ℕ) → List ℕ
-lengthsOffered n = saidFrom n (SAID-LENGTHS + channelCount n + expiryCount n + 1) (lengthCount n)
+abbrev pub lengths_offered : (ℕ → ℕ) → List ℕ
+lengths_offered n = said_from n (SAID-LENGTHS + channel_count n + expiry_count n + 1) (length_count n)
 
-unfoldable pub listsFrom : (ℕ → ℕ) → List ℕ
-listsFrom n = channelsOffered n ++ expiriesOffered n ++ lengthsOffered n
+unfoldable pub lists_from : (ℕ → ℕ) → List ℕ
+lists_from n = channels_offered n ++ expiries_offered n ++ lengths_offered n

@@ -1,7 +1,7 @@
 // What a line asks for.
 ghost use Rattle.std.specs.Prelude.{◌≡◌, ◌<◌, get_or};
-ghost use Rattle.session_read.specs.Lines.{end_of, askedBy, numbersIn, Bounded, OffersFit};
-ghost use Rattle.session_read.specs.Offers.{countsFrom};
+ghost use Rattle.session_read.specs.Lines.{end_of, asked_by, numbers_in, Bounded, OffersFit};
+ghost use Rattle.session_read.specs.Offers.{counts_from};
 ghost use Rattle.session_read.specs.declared.asked.Asked.{Asked};
 ghost use Rattle.session_read.specs.declared.asked.Command.{Command};
 
@@ -69,8 +69,8 @@ fn offer(n: &[u64; PLACES]) -> Asked
 }
 
 fn offers(n: &[u64; PLACES]) -> Asked
-    requires { OffersFit (numbersIn n.now) }
-    ensures { result ≡ Asked.State (Command.Offers (get_or n.now 0 0) (countsFrom (numbersIn n.now))) }
+    requires { OffersFit (numbers_in n.now) }
+    ensures { result ≡ Asked.State (Command.Offers (get_or n.now 0 0) (counts_from (numbers_in n.now))) }
 {
     Asked::State(Command::Offers(n[SAID_TIME], counts(n)))
 }
@@ -100,7 +100,7 @@ fn room(n: &[u64; PLACES]) -> usize
 // What a command asks for with its numbers.
 pub(crate) fn asks(key: u64, n: &[u64; PLACES]) -> Asked
     requires { Bounded key n.now }
-    ensures { result ≡ askedBy key (numbersIn n.now) }
+    ensures { result ≡ asked_by key (numbers_in n.now) }
 {
     match key {
         READ => read(n),

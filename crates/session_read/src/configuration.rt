@@ -2,8 +2,8 @@
 ghost use Rattle.std.specs.Prelude.{◌≡◌, ◌+◌, ◌<◌, [], ◌∷◌, ◌++◌, length, drop};
 ghost use Rattle.line_rows.specs.Rows.{over};
 ghost use Rattle.ips_words_start.specs.Start.{CONFIGURATION-HEAD};
-ghost use Rattle.session_read.specs.Lines.{PLACES, CONFIGURATION-WORDS, numbersIn, StartFits};
-ghost use Rattle.session_read.specs.Start.{behindKeyword, pacePlace, codes_of, configurationFrom};
+ghost use Rattle.session_read.specs.Lines.{PLACES, CONFIGURATION-WORDS, numbers_in, StartFits};
+ghost use Rattle.session_read.specs.Start.{behind_keyword, pace_place, codes_of, configuration_from};
 
 use crate::start::{SAID_CHANNELS, SAID_COUNT, SAID_ID, memory_place, perhaps};
 use crate::table::{MOST_SETTINGS, PLACES};
@@ -28,7 +28,7 @@ const USUAL_CODES: u64 = 0;
 // The place behind a keyword, and behind so many numbers where it is said.
 fn behind(n: &[u64; PLACES], keyword: usize, numbers: usize) -> usize
     requires { keyword + 1 + numbers < PLACES }
-    ensures { result ≡ behindKeyword (numbersIn n.now) keyword numbers }
+    ensures { result ≡ behind_keyword (numbers_in n.now) keyword numbers }
 {
     if n[keyword] == 1 {
         return keyword + 1 + numbers;
@@ -38,16 +38,16 @@ fn behind(n: &[u64; PLACES], keyword: usize, numbers: usize) -> usize
 
 // Where `pace` is said or not: behind `memory`, and behind its length where that is said.
 fn pace_place(n: &[u64; PLACES]) -> usize
-    requires { StartFits (numbersIn n.now) }
-    ensures { result ≡ pacePlace (numbersIn n.now) }
+    requires { StartFits (numbers_in n.now) }
+    ensures { result ≡ pace_place (numbers_in n.now) }
 {
     behind(n, memory_place(n), 1)
 }
 
 // Which of the statuses 8 to 15 are operational: said behind `pace` and its two numbers.
 fn codes(n: &[u64; PLACES]) -> u64
-    requires { StartFits (numbersIn n.now) }
-    ensures { result ≡ codes_of (numbersIn n.now) }
+    requires { StartFits (numbers_in n.now) }
+    ensures { result ≡ codes_of (numbers_in n.now) }
 {
     let place = behind(n, pace_place(n), 2);
     perhaps(n, place, 1, USUAL_CODES)
@@ -73,9 +73,9 @@ fn write_head(
 
 // The configuration stands at the start of the lent words, which are as they were behind it.
 pub(crate) fn configure(n: &[u64; PLACES], words: &mut [u64; CONFIGURATION_WORDS])
-    requires start_fits { StartFits (numbersIn n.now) }
+    requires start_fits { StartFits (numbers_in n.now) }
     requires words_len { length words.old ≡ CONFIGURATION-WORDS }
-    ensures { words.new ≡ over (configurationFrom (numbersIn n.now)) words.old }
+    ensures { words.new ≡ over (configuration_from (numbers_in n.now)) words.old }
 {
     let codes = codes(n);
     let pace = pace_place(n);

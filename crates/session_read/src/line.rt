@@ -1,7 +1,7 @@
 // A line, read.
 ghost use Rattle.std.specs.Prelude.{◌≡◌, length};
 ghost use Rattle.line_rows.specs.Rows.{over};
-ghost use Rattle.session_read.specs.Lines.{CONFIGURATION-WORDS, shortened, wordsBy, numbersIn, Asks, Bounded};
+ghost use Rattle.session_read.specs.Lines.{CONFIGURATION-WORDS, shortened, words_by, numbers_in, Asks, Bounded};
 
 use crate::asked::{Asked, asks};
 use crate::configuration::{CONFIGURATION_WORDS, configure};
@@ -34,7 +34,7 @@ fn short(line: &[u8]) -> &[u8]
 fn lay_words(key: u64, n: &[u64; PLACES], words: &mut [u64; CONFIGURATION_WORDS])
     requires bounded { Bounded key n.now }
     requires words_len { length words.old ≡ CONFIGURATION-WORDS }
-    ensures { words.new ≡ over (wordsBy key (numbersIn n.now)) words.old }
+    ensures { words.new ≡ over (words_by key (numbers_in n.now)) words.old }
 {
     if key == START {
         return configure(n, words);

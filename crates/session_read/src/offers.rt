@@ -1,8 +1,8 @@
 // What the numbers of an `offers` line are: how long each of its lists is, and the three lists of numbers.
 ghost use Rattle.std.specs.Prelude.{◌≡◌, length};
 ghost use Rattle.line_rows.specs.Rows.{over};
-ghost use Rattle.session_read.specs.Lines.{CONFIGURATION-WORDS, numbersIn, OffersFit};
-ghost use Rattle.session_read.specs.Offers.{countsFrom, listsFrom};
+ghost use Rattle.session_read.specs.Lines.{CONFIGURATION-WORDS, numbers_in, OffersFit};
+ghost use Rattle.session_read.specs.Offers.{counts_from, lists_from};
 
 use crate::configuration::CONFIGURATION_WORDS;
 use crate::table::{MOST_SETTINGS, PLACES};
@@ -32,8 +32,8 @@ pub struct ListCounts {
 }
 
 pub(crate) fn counts(n: &[u64; PLACES]) -> ListCounts
-    requires { OffersFit (numbersIn n.now) }
-    ensures { result ≡ countsFrom (numbersIn n.now) }
+    requires { OffersFit (numbers_in n.now) }
+    ensures { result ≡ counts_from (numbers_in n.now) }
 {
     let channels = n[SAID_CHANNELS] as usize;
     let expiries = n[SAID_EXPIRIES + channels] as usize;
@@ -49,9 +49,9 @@ pub(crate) fn counts(n: &[u64; PLACES]) -> ListCounts
 
 // The lists stand at the start of the lent words, which are as they were behind them.
 pub(crate) fn lay_lists(n: &[u64; PLACES], words: &mut [u64; CONFIGURATION_WORDS])
-    requires offers_fit { OffersFit (numbersIn n.now) }
+    requires offers_fit { OffersFit (numbers_in n.now) }
     requires words_len { length words.old ≡ CONFIGURATION-WORDS }
-    ensures { words.new ≡ over (listsFrom (numbersIn n.now)) words.old }
+    ensures { words.new ≡ over (lists_from (numbers_in n.now)) words.old }
 {
     let counts = counts(n);
     let two = counts.channels + counts.expiries;

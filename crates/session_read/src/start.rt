@@ -1,7 +1,7 @@
 // What the numbers of a `start` line are: how long the lent memory is, and how many words its configuration has.
 ghost use Rattle.std.specs.Prelude.{◌≡◌, ◌+◌, ◌<◌};
-ghost use Rattle.session_read.specs.Lines.{PLACES, numbersIn, start_by, Bounded, StartFits};
-ghost use Rattle.session_read.specs.Start.{SAID-COUNT, perhaps, stores_of, memoryPlace, memoryOf, startFrom, noStart};
+ghost use Rattle.session_read.specs.Lines.{PLACES, numbers_in, start_by, Bounded, StartFits};
+ghost use Rattle.session_read.specs.Start.{SAID-COUNT, perhaps, stores_of, memory_place, memory_of, start_from, no_start};
 
 use crate::table::{PLACES, START};
 use ips_words_start::layout::{CONFIGURATION_HEAD, CONFIGURATION_SLOT, START_SIZE};
@@ -24,7 +24,7 @@ pub struct StartWords {
 // The number so far behind a keyword that the line may say or not, or the usual one.
 pub(crate) fn perhaps(n: &[u64; PLACES], keyword: usize, behind: usize, usual: u64) -> u64
     requires { keyword + behind < PLACES }
-    ensures { result ≡ perhaps (numbersIn n.now) keyword behind usual }
+    ensures { result ≡ perhaps (numbers_in n.now) keyword behind usual }
 {
     if n[keyword] == 1 {
         return n[keyword + behind];
@@ -34,16 +34,16 @@ pub(crate) fn perhaps(n: &[u64; PLACES], keyword: usize, behind: usize, usual: u
 
 // Where `memory` is said or not: behind the channels.
 pub(crate) fn memory_place(n: &[u64; PLACES]) -> usize
-    requires { StartFits (numbersIn n.now) }
-    ensures { result ≡ memoryPlace (numbersIn n.now) }
+    requires { StartFits (numbers_in n.now) }
+    ensures { result ≡ memory_place (numbers_in n.now) }
 {
     SAID_CHANNELS + CONFIGURATION_SLOT * n[SAID_COUNT] as usize
 }
 
 // The length of all stores together.
 fn stores(n: &[u64; PLACES]) -> usize
-    requires { StartFits (numbersIn n.now) }
-    ensures { result ≡ stores_of (numbersIn n.now) (numbersIn n.now SAID-COUNT) }
+    requires { StartFits (numbers_in n.now) }
+    ensures { result ≡ stores_of (numbers_in n.now) (numbers_in n.now SAID-COUNT) }
 {
     let count = n[SAID_COUNT] as usize;
     let mut total: usize = 0;
@@ -58,15 +58,15 @@ fn stores(n: &[u64; PLACES]) -> usize
 
 // The length of the lent memory.
 fn memory(n: &[u64; PLACES]) -> usize
-    requires { StartFits (numbersIn n.now) }
-    ensures { result ≡ memoryOf (numbersIn n.now) }
+    requires { StartFits (numbers_in n.now) }
+    ensures { result ≡ memory_of (numbers_in n.now) }
 {
     perhaps(n, memory_place(n), 1, stores(n) as u64) as usize
 }
 
 fn started(n: &[u64; PLACES]) -> StartWords
-    requires { StartFits (numbersIn n.now) }
-    ensures { result ≡ startFrom (numbersIn n.now) }
+    requires { StartFits (numbers_in n.now) }
+    ensures { result ≡ start_from (numbers_in n.now) }
 {
     let channels = n[SAID_COUNT] as usize;
     StartWords {
@@ -77,7 +77,7 @@ fn started(n: &[u64; PLACES]) -> StartWords
 }
 
 fn not_started() -> StartWords
-    ensures { result ≡ noStart }
+    ensures { result ≡ no_start }
 {
     StartWords {
         words: 0,
@@ -89,7 +89,7 @@ fn not_started() -> StartWords
 // What `start` says with its numbers; nothing for another command.
 pub(crate) fn starts(key: u64, n: &[u64; PLACES]) -> StartWords
     requires { Bounded key n.now }
-    ensures { result ≡ start_by key (numbersIn n.now) }
+    ensures { result ≡ start_by key (numbers_in n.now) }
 {
     if key == START {
         return started(n);

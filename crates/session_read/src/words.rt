@@ -1,8 +1,8 @@
 // Numbers of a line, laid as words into the lent ones.
 ghost use Rattle.std.specs.Prelude.{◌≡◌, ◌+◌, ◌≤◌, length};
 ghost use Rattle.std.proofs.Math.Seq.{paste};
-ghost use Rattle.session_read.specs.Lines.{PLACES, CONFIGURATION-WORDS, numbersIn};
-ghost use Rattle.session_read.specs.Words.{saidFrom};
+ghost use Rattle.session_read.specs.Lines.{PLACES, CONFIGURATION-WORDS, numbers_in};
+ghost use Rattle.session_read.specs.Words.{said_from};
 
 use crate::configuration::CONFIGURATION_WORDS;
 use crate::table::PLACES;
@@ -18,7 +18,7 @@ pub(crate) fn lay(
     requires count_bound { to + count ≤ CONFIGURATION-WORDS }
     requires count_bound_2 { from + count ≤ PLACES }
     requires words_len { length words.old ≡ CONFIGURATION-WORDS }
-    ensures { words.new ≡ paste words.old to (saidFrom (numbersIn n.now) from count) count }
+    ensures { words.new ≡ paste words.old to (said_from (numbers_in n.now) from count) count }
 {
     let mut at = 0;
     while at < count {

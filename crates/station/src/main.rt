@@ -1,11 +1,11 @@
 // The station script, the radio's end: reads a line, writes its answer, and stops early only where reading or writing fails. A command is a row of `station_read`'s table and a call here.
 ghost use Rattle.std.specs.Prelude.{◌≡◌, [], ◌≤◌, min, length, take};
 ghost use Rattle.message_words.specs.Saying.{Says};
-ghost use Rattle.radio_end_state.specs.Calls.{heard, statusTold, queuedTold, contextTold, linkTold, told};
-ghost use Rattle.radio_end_words.specs.Words.{stateIn};
-ghost use Rattle.station_read.specs.Lines.{contextSaid};
+ghost use Rattle.radio_end_state.specs.Calls.{heard, status_told, queued_told, context_told, link_told, told};
+ghost use Rattle.radio_end_words.specs.Words.{state_in};
+ghost use Rattle.station_read.specs.Lines.{context_said};
 ghost use Rattle.station_print.specs.Answers.{ANSWER, UNASKED, TELL, HEARD, UNCHANGED, KEPT};
-ghost use Rattle.station.specs.Turns.{linkSaid, showTexts, called, commanded, stated, begun, asking, answered, Turns, Calls};
+ghost use Rattle.station.specs.Turns.{link_said, show_texts, called, commanded, stated, begun, asking, answered, Turns, Calls};
 
 use libc::{STDERR_FILENO, STDOUT_FILENO};
 use lines::Found;
@@ -60,7 +60,7 @@ fn least(a: usize, b: usize) -> usize
 
 // `hear ROOM HEX`
 fn hear_line(words: &mut [u64], datagram: &[u8], output: &mut [u8], out: &mut [u8]) -> usize
-    ensures { Calls (called ANSWER HEARD words.old (heard (stateIn words.old) datagram.now output.old)) out.old result words.new out.new }
+    ensures { Calls (called ANSWER HEARD words.old (heard (state_in words.old) datagram.now output.old)) out.old result words.new out.new }
 {
     let answer = radio_end::hear(words, datagram, output);
     station_print::answered(out, answer, output, b"answer ", b"heard")
@@ -68,7 +68,7 @@ fn hear_line(words: &mut [u64], datagram: &[u8], output: &mut [u8], out: &mut [u
 
 // `status CHANNEL VALUE ROOM`
 fn status_line(words: &mut [u64], id: u8, value: u8, output: &mut [u8], out: &mut [u8]) -> usize
-    ensures { Calls (called UNASKED UNCHANGED words.old (statusTold (stateIn words.old) id value output.old)) out.old result words.new out.new }
+    ensures { Calls (called UNASKED UNCHANGED words.old (status_told (state_in words.old) id value output.old)) out.old result words.new out.new }
 {
     let answer = radio_end::tell_status(words, id, value, output);
     station_print::answered(out, answer, output, b"unasked ", b"unchanged")
@@ -76,7 +76,7 @@ fn status_line(words: &mut [u64], id: u8, value: u8, output: &mut [u8], out: &mu
 
 // `context HEX ROOM`
 fn context_line(words: &mut [u64], bytes: &[u8], output: &mut [u8], out: &mut [u8]) -> usize
-    ensures { Calls (called UNASKED UNCHANGED words.old (contextTold (stateIn words.old) (contextSaid bytes.now) output.old)) out.old result words.new out.new }
+    ensures { Calls (called UNASKED UNCHANGED words.old (context_told (state_in words.old) (context_said bytes.now) output.old)) out.old result words.new out.new }
 {
     let answer = radio_end::tell_context(words, station_read::context_said(bytes), output);
     station_print::answered(out, answer, output, b"unasked ", b"unchanged")
@@ -84,7 +84,7 @@ fn context_line(words: &mut [u64], bytes: &[u8], output: &mut [u8], out: &mut [u
 
 // `queued CHANNEL BYTES ROOM`
 fn queued_line(words: &mut [u64], id: u8, bytes: u64, output: &mut [u8], out: &mut [u8]) -> usize
-    ensures { Calls (called UNASKED UNCHANGED words.old (queuedTold (stateIn words.old) id (record { 0 = bytes }) output.old)) out.old result words.new out.new }
+    ensures { Calls (called UNASKED UNCHANGED words.old (queued_told (state_in words.old) id (record { 0 = bytes }) output.old)) out.old result words.new out.new }
 {
     let answer = radio_end::tell_queued(words, id, ByteCount(bytes as usize), output);
     station_print::answered(out, answer, output, b"unasked ", b"unchanged")
@@ -92,7 +92,7 @@ fn queued_line(words: &mut [u64], id: u8, bytes: u64, output: &mut [u8], out: &m
 
 // `link LEN VALUE`
 fn link_line(words: &mut [u64], length: u8, value: u64, out: &mut [u8]) -> usize
-    ensures { Calls (called UNASKED KEPT words.old (linkTold (stateIn words.old) (linkSaid length value) [])) out.old result words.new out.new }
+    ensures { Calls (called UNASKED KEPT words.old (link_told (state_in words.old) (link_said length value) [])) out.old result words.new out.new }
 {
     let instance = Instance::Given(LinkInstanceId(value), length as usize);
     let answer = radio_end::tell_link(words, instance);
@@ -101,7 +101,7 @@ fn link_line(words: &mut [u64], length: u8, value: u64, out: &mut [u8]) -> usize
 
 // `tell ROOM`
 fn tell_line(words: &[u64], output: &mut [u8], out: &mut [u8]) -> usize
-    ensures { Calls (called TELL UNCHANGED words.now (told (stateIn words.now) output.old)) out.old result words.now out.new }
+    ensures { Calls (called TELL UNCHANGED words.now (told (state_in words.now) output.old)) out.old result words.now out.new }
 {
     let answer = radio_end::tell(words, output);
     station_print::answered(out, answer, output, b"tell ", b"unchanged")
@@ -109,7 +109,7 @@ fn tell_line(words: &[u64], output: &mut [u8], out: &mut [u8]) -> usize
 
 // `show CHANNEL`
 fn show_line(words: &[u64], id: u8, out: &mut [u8]) -> usize
-    ensures { Says out.old 0 (showTexts (stateIn words.now) id) result out.new }
+    ensures { Says out.old 0 (show_texts (state_in words.now) id) result out.new }
 {
     match radio_end::show(words, id) {
         ShowAnswer::Shown(channel) => station_print::channel(out, channel),

@@ -1,7 +1,7 @@
 -- docs/STATION.md: the answers, as texts one behind another.
 use Rattle.std.specs.Prelude.{ℕ, List, [], ◌∷◌, take}
-use Rattle.text.specs.Strings.{bytesText}
-use Rattle.message_words.specs.Phrases.{refusedTexts}
+use Rattle.text.specs.Strings.{bytes_text}
+use Rattle.message_words.specs.Phrases.{refused_texts}
 use Rattle.radio_end_state.specs.declared.answer.Answer.{Answer}
 
 -- `bad line`
@@ -37,8 +37,8 @@ abbrev pub KEPT : List ℕ
 KEPT = 107 ∷ 101 ∷ 112 ∷ 116 ∷ []
 
 -- a message behind the word of the line that asked for it, or behind `unasked`; the line's word where there is none. The message stands at the start of the output
-abbrev pub answerTexts : (asked quiet : List ℕ) → Answer → List ℕ → List (List ℕ)
-answerTexts asked quiet (Answer.Answered count) out = asked ∷ (bytesText (take count.0 out) ∷ [])
-answerTexts asked quiet (Answer.Unasked count) out = UNASKED ∷ (bytesText (take count.0 out) ∷ [])
-answerTexts asked quiet Answer.Quiet out = quiet ∷ []
-answerTexts asked quiet (Answer.Refused refusal) out = refusedTexts refusal
+abbrev pub answer_texts : (asked quiet : List ℕ) → Answer → List ℕ → List (List ℕ)
+answer_texts asked quiet (Answer.Answered count) out = asked ∷ (bytes_text (take count.0 out) ∷ [])
+answer_texts asked quiet (Answer.Unasked count) out = UNASKED ∷ (bytes_text (take count.0 out) ∷ [])
+answer_texts asked quiet Answer.Quiet out = quiet ∷ []
+answer_texts asked quiet (Answer.Refused refusal) out = refused_texts refusal

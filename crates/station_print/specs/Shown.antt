@@ -4,8 +4,8 @@ use Rattle.std.specs.Prelude.{ℕ, List, [], ◌∷◌, ◌++◌}
 use Rattle.meaning.specs.declared.message.Window.{Window}
 use Rattle.radio_flow.specs.declared.Highest.{Highest}
 use Rattle.radio_end_state.specs.declared.channel.Channel.{Channel}
-use Rattle.radio_end_state.specs.Channel.{windowNow}
-use Rattle.message_words.specs.Phrases.{SPACE, oneNumber}
+use Rattle.radio_end_state.specs.Channel.{window_now}
+use Rattle.message_words.specs.Phrases.{SPACE, one_number}
 
 -- `channel `
 abbrev pub CHANNEL : List ℕ
@@ -19,15 +19,15 @@ ABSENT = 32 ∷ 45 ∷ []
 abbrev pub NONE : List ℕ
 NONE = 32 ∷ 110 ∷ 111 ∷ 110 ∷ 101 ∷ []
 
-abbrev pub windowTexts : Window → List (List ℕ)
-windowTexts Window.Absent = ABSENT ∷ []
-windowTexts Window.Empty = NONE ∷ []
-windowTexts (Window.Given window) = oneNumber SPACE window.0
+abbrev pub window_texts : Window → List (List ℕ)
+window_texts Window.Absent = ABSENT ∷ []
+window_texts Window.Empty = NONE ∷ []
+window_texts (Window.Given window) = one_number SPACE window.0
 
-abbrev pub highestTexts : Highest → List (List ℕ)
-highestTexts Highest.Unheard = ABSENT ∷ []
-highestTexts (Highest.At sequence) = oneNumber SPACE sequence.0
+abbrev pub highest_texts : Highest → List (List ℕ)
+highest_texts Highest.Unheard = ABSENT ∷ []
+highest_texts (Highest.At sequence) = one_number SPACE sequence.0
 
-unfoldable pub channelTexts : Channel → List (List ℕ)
-channelTexts c =
-    oneNumber CHANNEL c.setting.id ++ (oneNumber SPACE c.status ++ (windowTexts (windowNow c) ++ (highestTexts c.highest ++ oneNumber SPACE c.queued.0)))
+unfoldable pub channel_texts : Channel → List (List ℕ)
+channel_texts c =
+    one_number CHANNEL c.setting.id ++ (one_number SPACE c.status ++ (window_texts (window_now c) ++ (highest_texts c.highest ++ one_number SPACE c.queued.0)))

@@ -1,8 +1,8 @@
 // The answers to a line, but for what is shown.
 ghost use Rattle.std.specs.Prelude.{[], ◌∷◌, take};
-ghost use Rattle.text.specs.Strings.{bytesText};
+ghost use Rattle.text.specs.Strings.{bytes_text};
 ghost use Rattle.message_words.specs.Saying.{Says};
-ghost use Rattle.station_print.specs.Answers.{BAD-LINE, STARTED, answerTexts};
+ghost use Rattle.station_print.specs.Answers.{BAD-LINE, STARTED, answer_texts};
 
 use message_words::whole;
 use radio_end_state::answer::Answer;
@@ -24,7 +24,7 @@ pub fn started(out: &mut [u8]) -> usize
 
 // A label and n bytes of a lent output; of an output that is too short, all of it is shown.
 fn message(out: &mut [u8], label: &[u8], count: usize, lent: &[u8]) -> usize
-    ensures { Says out.old 0 (label.now ∷ (bytesText (take count lent.now) ∷ [])) result out.new }
+    ensures { Says out.old 0 (label.now ∷ (bytes_text (take count lent.now) ∷ [])) result out.new }
 {
     let behind = put(out, 0, label);
     if count <= lent.len() {
@@ -35,7 +35,7 @@ fn message(out: &mut [u8], label: &[u8], count: usize, lent: &[u8]) -> usize
 
 // What a call came to: a message, which stands at the start of the lent output, behind a word; a word where there is none; a refusal.
 pub fn answered(out: &mut [u8], answer: Answer, lent: &[u8], asked: &[u8], quiet: &[u8]) -> usize
-    ensures { Says out.old 0 (answerTexts asked.now quiet.now answer lent.now) result out.new }
+    ensures { Says out.old 0 (answer_texts asked.now quiet.now answer lent.now) result out.new }
 {
     match answer {
         Answer::Answered(count) => message(out, asked, count.0, lent),

@@ -1,6 +1,6 @@
 // What a channel is.
 ghost use Rattle.message_words.specs.Saying.{Says};
-ghost use Rattle.station_print.specs.Shown.{windowTexts, highestTexts, channelTexts};
+ghost use Rattle.station_print.specs.Shown.{window_texts, highest_texts, channel_texts};
 
 use meaning::message::Window;
 use message_words::part::labelled;
@@ -10,7 +10,7 @@ use radio_flow::Highest;
 use text::put;
 
 fn window(out: &mut [u8], at: usize, window: Window) -> usize
-    ensures { Says out.old at (windowTexts window) result out.new }
+    ensures { Says out.old at (window_texts window) result out.new }
 {
     match window {
         Window::Absent => put(out, at, b" -"),
@@ -20,7 +20,7 @@ fn window(out: &mut [u8], at: usize, window: Window) -> usize
 }
 
 fn highest(out: &mut [u8], at: usize, highest: Highest) -> usize
-    ensures { Says out.old at (highestTexts highest) result out.new }
+    ensures { Says out.old at (highest_texts highest) result out.new }
 {
     match highest {
         Highest::Unheard => put(out, at, b" -"),
@@ -30,7 +30,7 @@ fn highest(out: &mut [u8], at: usize, highest: Highest) -> usize
 
 // The answer to `show`.
 pub fn channel(out: &mut [u8], channel: Channel) -> usize
-    ensures { Says out.old 0 (channelTexts channel) result out.new }
+    ensures { Says out.old 0 (channel_texts channel) result out.new }
 {
     let sequence = channel.highest;
     let queued = channel.queued;

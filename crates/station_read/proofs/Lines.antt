@@ -7,45 +7,45 @@ use native.Mathlib.Omega.{arith}
 use lib.ListN.{length, get_or, take, drop, replicate, length-replicate, get_or-replicate, get_or-eq_default}
 use lib.Seq.{take_all}
 use Rattle.line_rows.specs.declared.table.Told.{Told}
-use Rattle.line_rows.specs.Tables.{itemsBehind, Reads}
-use Rattle.line_rows.specs.Places.{keyed_of, rowOfKey, writtenOut, Within}
-use Rattle.line_rows.proofs.Places.{reads-within, reads-numbers}
+use Rattle.line_rows.specs.Tables.{items_behind, Reads}
+use Rattle.line_rows.specs.Places.{keyed_of, row_of_key, written_out, Within}
+use Rattle.line_rows.proofs.Places.{reads_within, reads_numbers}
 use Rattle.station_read.specs.declared.asked.Asked.{Asked}
-use Rattle.station_read.specs.Lines.{PLACES, COMMANDS, shortened, askedBy, numbersIn, saidBy, keyBy, asked_of, Asks, Bounded}
+use Rattle.station_read.specs.Lines.{PLACES, COMMANDS, shortened, asked_by, numbers_in, said_by, key_by, asked_of, Asks, Bounded}
 
 -- numbers that are all 0 before a line is read
 abbrev blank : List ℕ
 blank = replicate PLACES 0
 
-blank-at : (i : ℕ) → get_or blank i 0 ≡ 0
-blank-at i = elim (dec_le PLACES i) [
+blank_at : (i : ℕ) → get_or blank i 0 ≡ 0
+blank_at i = elim (dec_le PLACES i) [
   | yes h ↦ let size : length blank ≡ PLACES = length-replicate {A = ℕ} PLACES 0 in get_or-eq_default blank 0 {n = i} (omega arith)
   | no h ↦ get_or-replicate PLACES i 0 0 (omega arith)
 ]
 
-no-command : rowOfKey 0 COMMANDS ≡ []
-unfolding rowOfKey keyed_of itemsBehind
-no-command = refl
+no_command : row_of_key 0 COMMANDS ≡ []
+unfolding row_of_key keyed_of items_behind
+no_command = refl
 
 module _ (line : List ℕ) {given lent : List ℕ} {told : Told} {numbers lent' : List ℕ} (e : given ≡ shortened line) (k : Reads COMMANDS given blank lent told numbers lent') where
-  read_as : Reads COMMANDS (shortened line) blank lent told numbers lent'
-  read_as = rw e at k
+  read_as_lem : Reads COMMANDS (shortened line) blank lent told numbers lent'
+  read_as_lem = rw e at k
 
-  said-as : numbersIn numbers ≡ numbersIn (saidBy (length lent) line).numbers
-  said-as = reads-numbers read_as refl blank-at
+  said_as_lem : numbers_in numbers ≡ numbers_in (said_by (length lent) line).numbers
+  said_as_lem = reads_numbers read_as_lem refl blank_at
 
-  pub read-bounded : Bounded told.key numbers
-  read-bounded = record { within = subst (λ (n : ℕ → ℕ). Within (writtenOut 0 0 (rowOfKey told.key COMMANDS) n) n) (sym said-as) (reads-within read_as refl no-command) }
+  pub read_bounded : Bounded told.key numbers
+  read_bounded = record { within = subst (λ (n : ℕ → ℕ). Within (written_out 0 0 (row_of_key told.key COMMANDS) n) n) (sym said_as_lem) (reads_within read_as_lem refl no_command) }
 
-  pub read-asks : {asked : Asked} → asked ≡ askedBy told.key (numbersIn numbers) → Asks lent line (record { asked = asked; bytes = told.bytes }) numbers lent'
+  pub read_asks : {asked : Asked} → asked ≡ asked_by told.key (numbers_in numbers) → Asks lent line (record { asked = asked; bytes = told.bytes }) numbers lent'
   unfolding asked_of
-  read-asks f =
-      let key : told.key ≡ keyBy (length lent) line = read_as.key in
-      record { asked = rw (said-as, key) at f; count = read_as.count; numbers = read_as.numbers; bytes = read_as.bytes }
+  read_asks f =
+      let key : told.key ≡ key_by (length lent) line = read_as_lem.key in
+      record { asked = rw (said_as_lem, key) at f; count = read_as_lem.count; numbers = read_as_lem.numbers; bytes = read_as_lem.bytes }
 
 -- a part from the start: all of the numbers where they are no more, else as many as were asked for
-pub all-numbers : (numbers : List ℕ) (n : ℕ) → length numbers ≤ n → take (length numbers - 0) (drop 0 numbers) ≡ take n numbers
-all-numbers numbers n h = rw (take_all n numbers h, take_all (length numbers - 0) numbers (omega arith))
+pub all_numbers : (numbers : List ℕ) (n : ℕ) → length numbers ≤ n → take (length numbers - 0) (drop 0 numbers) ≡ take n numbers
+all_numbers numbers n h = rw (take_all n numbers h, take_all (length numbers - 0) numbers (omega arith))
 
-pub first-numbers : (numbers : List ℕ) (n : ℕ) → take (n - 0) (drop 0 numbers) ≡ take n numbers
-first-numbers numbers n = let z : n - 0 ≡ n = omega arith in rw z
+pub first_numbers : (numbers : List ℕ) (n : ℕ) → take (n - 0) (drop 0 numbers) ≡ take n numbers
+first_numbers numbers n = let z : n - 0 ≡ n = omega arith in rw z

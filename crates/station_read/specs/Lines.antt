@@ -1,11 +1,11 @@
 -- The lines of docs/STATION.md, in its order: for each command its first word and its row, and what its numbers ask for.
 use Rattle.std.specs.Prelude.{cond, List, [], ◌∷◌, ◌++◌, ◌≡◌, ℕ, ◌+◌, ◌-◌, ◌*◌, ◌^◌, eqb, leb, ltb, length, get_or, take, replicate}
 use Rattle.quantity.specs.Limits.{MOST-CHANNELS, LARGEST-STORE, LONGEST-NAME}
-use Rattle.wire.specs.Numbers.{bigEndian}
+use Rattle.wire.specs.Numbers.{big_endian}
 use Rattle.meaning.specs.declared.message.Context.{Context}
-use Rattle.line_rows.specs.Rows.{NUMBER, BYTES, LIST, keyText, Said, over}
-use Rattle.line_rows.specs.Tables.{command, saidIn, keyIn}
-use Rattle.line_rows.specs.Places.{rowOfKey, writtenOut, Within}
+use Rattle.line_rows.specs.Rows.{NUMBER, BYTES, LIST, key_text, Said, over}
+use Rattle.line_rows.specs.Tables.{command, said_in, key_in}
+use Rattle.line_rows.specs.Places.{row_of_key, written_out, Within}
 use Rattle.station_read.specs.declared.asked.Asked.{Asked}
 use Rattle.station_read.specs.declared.asked.Command.{Command}
 use Rattle.station_read.specs.declared.line.Line.{Line}
@@ -13,43 +13,43 @@ use Rattle.station_read.specs.declared.line.Line.{Line}
 -- ---- the words that a line may have
 -- `plain`
 abbrev pub PLAIN : ℕ
-PLAIN = keyText (112 ∷ 108 ∷ 97 ∷ 105 ∷ 110 ∷ [])
+PLAIN = key_text (112 ∷ 108 ∷ 97 ∷ 105 ∷ 110 ∷ [])
 
 -- `flow`
 abbrev pub FLOW : ℕ
-FLOW = keyText (102 ∷ 108 ∷ 111 ∷ 119 ∷ [])
+FLOW = key_text (102 ∷ 108 ∷ 111 ∷ 119 ∷ [])
 
 -- `start`
 abbrev pub START : ℕ
-START = keyText (115 ∷ 116 ∷ 97 ∷ 114 ∷ 116 ∷ [])
+START = key_text (115 ∷ 116 ∷ 97 ∷ 114 ∷ 116 ∷ [])
 
 -- `hear`
 abbrev pub HEAR : ℕ
-HEAR = keyText (104 ∷ 101 ∷ 97 ∷ 114 ∷ [])
+HEAR = key_text (104 ∷ 101 ∷ 97 ∷ 114 ∷ [])
 
 -- `status`
 abbrev pub STATUS : ℕ
-STATUS = keyText (115 ∷ 116 ∷ 97 ∷ 116 ∷ 117 ∷ 115 ∷ [])
+STATUS = key_text (115 ∷ 116 ∷ 97 ∷ 116 ∷ 117 ∷ 115 ∷ [])
 
 -- `context`
 abbrev pub CONTEXT : ℕ
-CONTEXT = keyText (99 ∷ 111 ∷ 110 ∷ 116 ∷ 101 ∷ 120 ∷ 116 ∷ [])
+CONTEXT = key_text (99 ∷ 111 ∷ 110 ∷ 116 ∷ 101 ∷ 120 ∷ 116 ∷ [])
 
 -- `queued`
 abbrev pub QUEUED : ℕ
-QUEUED = keyText (113 ∷ 117 ∷ 101 ∷ 117 ∷ 101 ∷ 100 ∷ [])
+QUEUED = key_text (113 ∷ 117 ∷ 101 ∷ 117 ∷ 101 ∷ 100 ∷ [])
 
 -- `link`
 abbrev pub LINK : ℕ
-LINK = keyText (108 ∷ 105 ∷ 110 ∷ 107 ∷ [])
+LINK = key_text (108 ∷ 105 ∷ 110 ∷ 107 ∷ [])
 
 -- `tell`
 abbrev pub TELL : ℕ
-TELL = keyText (116 ∷ 101 ∷ 108 ∷ 108 ∷ [])
+TELL = key_text (116 ∷ 101 ∷ 108 ∷ 108 ∷ [])
 
 -- `show`
 abbrev pub SHOW : ℕ
-SHOW = keyText (115 ∷ 104 ∷ 111 ∷ 119 ∷ [])
+SHOW = key_text (115 ∷ 104 ∷ 111 ∷ 119 ∷ [])
 
 -- ---- "the values"
 
@@ -96,8 +96,8 @@ COMMANDS =
     ++ command SHOW (NUMBER ∷ HIGHEST-BYTE ∷ [])
 
 -- ---- what the numbers of a command ask for, by their places; a byte string has a place too, with its length. A command for a state is asked with the room of its output
-unfoldable pub askedBy : ℕ → (ℕ → ℕ) → Asked
-askedBy key n =
+unfoldable pub asked_by : ℕ → (ℕ → ℕ) → Asked
+asked_by key n =
     cond (eqb key START) (Asked.Start (n 1))
     (cond (eqb key HEAR) (Asked.State Command.Hear (n 0))
     (cond (eqb key STATUS) (Asked.State (Command.Status (n 0) (n 1)) (n 2))
@@ -108,36 +108,36 @@ askedBy key n =
     (cond (eqb key SHOW) (Asked.State (Command.Show (n 0)) 0)
     Asked.Bad)))))))
 
-abbrev pub numbersIn : List ℕ → ℕ → ℕ
-numbersIn numbers = λ i. get_or numbers i 0
+abbrev pub numbers_in : List ℕ → ℕ → ℕ
+numbers_in numbers = λ i. get_or numbers i 0
 
 -- the numbers of a `start` of so many channels are the words of its configuration: `plain` is 0 and `flow` is 1
-abbrev pub configurationIn : List ℕ → ℕ → List ℕ
-configurationIn numbers count = take (2 + 4 * count) numbers
+abbrev pub configuration_in : List ℕ → ℕ → List ℕ
+configuration_in numbers count = take (2 + 4 * count) numbers
 
 -- "`-`: none"; of a byte string that is too long only its length counts, which is refused
-unfoldable pub contextSaid : List ℕ → Context
-contextSaid bytes =
-    cond (eqb (length bytes) 0) Context.Absent (Context.Given (record { 0 = cond (leb (length bytes) LONGEST-NAME) (bigEndian bytes) 0 }) (length bytes))
+unfoldable pub context_said : List ℕ → Context
+context_said bytes =
+    cond (eqb (length bytes) 0) Context.Absent (Context.Given (record { 0 = cond (leb (length bytes) LONGEST-NAME) (big_endian bytes) 0 }) (length bytes))
 
 -- ---- a line, with room for n bytes
-abbrev pub saidBy : ℕ → List ℕ → Said
-saidBy size line = saidIn PLACES size COMMANDS (shortened line)
+abbrev pub said_by : ℕ → List ℕ → Said
+said_by size line = said_in PLACES size COMMANDS (shortened line)
 
-abbrev pub keyBy : ℕ → List ℕ → ℕ
-keyBy size line = keyIn PLACES size COMMANDS (shortened line)
+abbrev pub key_by : ℕ → List ℕ → ℕ
+key_by size line = key_in PLACES size COMMANDS (shortened line)
 
 unfoldable pub asked_of : ℕ → List ℕ → Asked
-asked_of size line = askedBy (keyBy size line) (numbersIn (saidBy size line).numbers)
+asked_of size line = asked_by (key_by size line) (numbers_in (said_by size line).numbers)
 
 -- what a line asks for; the numbers that it says stand at the start of the lent words, with zeros behind them, and the bytes at the start of the lent memory, which
 -- is as it was behind them
 pub record Asks (lent line : List ℕ) (r : Line) (numbers' lent' : List ℕ) : Type 0 where
   pub asked : r.asked ≡ asked_of (length lent) line
-  pub count : r.bytes ≡ length (saidBy (length lent) line).bytes
-  pub numbers : numbers' ≡ over (saidBy (length lent) line).numbers (replicate PLACES 0)
-  pub bytes : lent' ≡ over (saidBy (length lent) line).bytes lent
+  pub count : r.bytes ≡ length (said_by (length lent) line).bytes
+  pub numbers : numbers' ≡ over (said_by (length lent) line).numbers (replicate PLACES 0)
+  pub bytes : lent' ≡ over (said_by (length lent) line).bytes lent
 
 -- the numbers of a command are within their bounds
 pub record Bounded (key : ℕ) (numbers : List ℕ) : Type 0 where
-  pub within : Within (writtenOut 0 0 (rowOfKey key COMMANDS) (numbersIn numbers)) (numbersIn numbers)
+  pub within : Within (written_out 0 0 (row_of_key key COMMANDS) (numbers_in numbers)) (numbers_in numbers)

@@ -1,6 +1,6 @@
 // What a line asks for.
 ghost use Rattle.std.specs.Prelude.{◌≡◌, ◌<◌, get_or};
-ghost use Rattle.station_read.specs.Lines.{askedBy, numbersIn, Bounded};
+ghost use Rattle.station_read.specs.Lines.{asked_by, numbers_in, Bounded};
 ghost use Rattle.station_read.specs.declared.asked.Asked.{Asked};
 ghost use Rattle.station_read.specs.declared.asked.Command.{Command};
 
@@ -58,7 +58,7 @@ fn show(n: &[u64; PLACES]) -> Asked
 // What a command asks for with its numbers.
 pub(crate) fn asks(key: u64, n: &[u64; PLACES]) -> Asked
     requires { Bounded key n.now }
-    ensures { result ≡ askedBy key (numbersIn n.now) }
+    ensures { result ≡ asked_by key (numbers_in n.now) }
 {
     match key {
         START => Asked::Start(n[1] as usize),

@@ -1,6 +1,6 @@
 // A line, read.
 ghost use Rattle.std.specs.Prelude.{◌≡◌};
-ghost use Rattle.station_read.specs.Lines.{shortened, configurationIn, Asks};
+ghost use Rattle.station_read.specs.Lines.{shortened, configuration_in, Asks};
 
 use crate::asked::{Asked, asks};
 use crate::table::{COMMANDS, PLACES};
@@ -40,7 +40,7 @@ pub fn read(line: &[u8], numbers: &mut [u64; PLACES], lent: &mut [u8]) -> Line
 
 // The words of the configuration that a `start` of so many channels says: its first numbers, or all where they are fewer.
 pub fn configuration(numbers: &[u64], channels: usize) -> &[u64]
-    ensures { result.now ≡ configurationIn numbers.now channels }
+    ensures { result.now ≡ configuration_in numbers.now channels }
 {
     if numbers.len() < 2 {
         return &numbers[0..];

@@ -1,9 +1,9 @@
 // The waiting queue of one channel: the length and the expiry of each packet, in the order of the store.
 ghost use Rattle.std.specs.Prelude.{[], ◌≡◌, ◌≤◌, ◌<◌, drop};
 ghost use Rattle.quantity.specs.Limits.{MOST-WAITING};
-ghost use Rattle.store.specs.Packets.{lastsAt};
-ghost use Rattle.store.specs.Waiting.{waiting, listed, queueOf};
-ghost use Rattle.store.specs.Parts.{kept, appended, amountOf, Countable, IsFirst};
+ghost use Rattle.store.specs.Packets.{lasts_at};
+ghost use Rattle.store.specs.Waiting.{waiting, listed, queue_of};
+ghost use Rattle.store.specs.Parts.{kept, appended, amount_of, Countable, IsFirst};
 
 use quantity::count::ByteCount;
 use quantity::limit::MOST_WAITING;
@@ -37,7 +37,7 @@ pub(crate) struct Front {
 
 // The queue with nothing waiting.
 pub fn empty() -> Queue
-    ensures { result ≡ queueOf [] }
+    ensures { result ≡ queue_of [] }
 {
     let none = Entry {
         length: ByteCount(0),
@@ -49,7 +49,7 @@ pub fn empty() -> Queue
 
 // Whether a packet is not expired yet.
 pub(crate) fn lasts(entry: Entry, time: u64) -> bool
-    ensures { result ≡ lastsAt time entry.expiry }
+    ensures { result ≡ lasts_at time entry.expiry }
 {
     time < entry.expiry
 }
@@ -90,7 +90,7 @@ pub(crate) fn keep(queue: Queue, index: usize, time: u64) -> Queue
 // How many packets wait that are not expired, and their bytes.
 pub fn load(queue: Queue, time: u64) -> Amount
     requires { Countable queue }
-    ensures { result ≡ amountOf (kept time (waiting queue)) }
+    ensures { result ≡ amount_of (kept time (waiting queue)) }
 {
     let count = queue.count;
     let mut packets = 0;

@@ -2,10 +2,10 @@
 ghost use mathlib.Core.List.{[], tail};
 ghost use Rattle.std.specs.Prelude.{◌≡◌, ◌+◌, ◌≤◌, ◌<◌, ◌^◌, length, take, drop};
 ghost use Rattle.quantity.specs.Limits.{MOST-WAITING};
-ghost use Rattle.store.specs.Packets.{alive, firstBytes, full, joined, packetFor};
+ghost use Rattle.store.specs.Packets.{alive, first_bytes, full, joined, packet_for};
 ghost use Rattle.store.specs.Moves.{displaced, expiring, sending, offering};
-ghost use Rattle.store.specs.Waiting.{waiting, packetsOf, Sound, Holds, Offering};
-ghost use Rattle.store.specs.Parts.{pasted, appended, entryFor, packetsFrom, displacedBetween, leaving, Left};
+ghost use Rattle.store.specs.Waiting.{waiting, packets_of, Sound, Holds, Offering};
+ghost use Rattle.store.specs.Parts.{pasted, appended, entry_for, packets_from, displaced_between, leaving, Left};
 
 use crate::queue::{Amount, Entry, Queue};
 use crate::{queue, stretch};
@@ -37,8 +37,8 @@ struct Compacted {
 // The bytes of the packets from an index on that are not expired, moved to the store's start.
 fn compact(queue: Queue, store: &mut [u8], index: usize, start: usize, time: u64) -> Compacted
     requires { Left queue store.old index start }
-    ensures end_in_bounds { (result.end ≤ length store.old) × (take result.end store.new ≡ joined (alive time (packetsFrom queue store.old index start))) }
-    ensures moved_value { result.moved ≡ record { 0 = displacedBetween start 0 (leaving time (drop index (waiting queue))) } }
+    ensures end_in_bounds { (result.end ≤ length store.old) × (take result.end store.new ≡ joined (alive time (packets_from queue store.old index start))) }
+    ensures moved_value { result.moved ≡ record { 0 = displaced_between start 0 (leaving time (drop index (waiting queue))) } }
 {
     let count = queue.count;
     let mut from = start;
@@ -65,8 +65,8 @@ fn compact(queue: Queue, store: &mut [u8], index: usize, start: usize, time: u64
 // The packets from an index on stay that are not expired, all others leave.
 fn retain(queue: Queue, store: &mut [u8], index: usize, start: usize, time: u64) -> Remaining
     requires { Left queue store.old index start }
-    ensures holds { Holds (length store.old) (alive time (packetsFrom queue store.old index start)) result.queue store.new }
-    ensures moved_value { result.moved ≡ record { 0 = displacedBetween start 0 (expiring time (packetsFrom queue store.old index start)) } }
+    ensures holds { Holds (length store.old) (alive time (packets_from queue store.old index start)) result.queue store.new }
+    ensures moved_value { result.moved ≡ record { 0 = displaced_between start 0 (expiring time (packets_from queue store.old index start)) } }
 {
     let compacted = compact(queue, store, index, start, time);
     let end = compacted.end;
@@ -79,8 +79,8 @@ fn retain(queue: Queue, store: &mut [u8], index: usize, start: usize, time: u64)
 // Every packet leaves whose expiry is at or before the time.
 pub fn expire(queue: Queue, store: &mut [u8], time: u64) -> Remaining
     requires { Sound queue store.old }
-    ensures holds { Holds (length store.old) (alive time (packetsOf queue store.old)) result.queue store.new }
-    ensures moved_value { result.moved ≡ record { 0 = displaced (expiring time (packetsOf queue store.old)) } }
+    ensures holds { Holds (length store.old) (alive time (packets_of queue store.old)) result.queue store.new }
+    ensures moved_value { result.moved ≡ record { 0 = displaced (expiring time (packets_of queue store.old)) } }
 {
     retain(queue, store, 0, 0, time)
 }
@@ -88,8 +88,8 @@ pub fn expire(queue: Queue, store: &mut [u8], time: u64) -> Remaining
 // The expired packets leave, and the first of the others too.
 pub fn pop(queue: Queue, store: &mut [u8], time: u64) -> Remaining
     requires { Sound queue store.old }
-    ensures holds { Holds (length store.old) (tail (alive time (packetsOf queue store.old))) result.queue store.new }
-    ensures moved_value { result.moved ≡ record { 0 = displaced (sending time (packetsOf queue store.old)) } }
+    ensures holds { Holds (length store.old) (tail (alive time (packets_of queue store.old))) result.queue store.new }
+    ensures moved_value { result.moved ≡ record { 0 = displaced (sending time (packets_of queue store.old)) } }
 {
     let front = queue::first(queue, time);
     retain(queue, store, front.behind, front.end, time)
@@ -98,7 +98,7 @@ pub fn pop(queue: Queue, store: &mut [u8], time: u64) -> Remaining
 // The first packet that is not expired, as a stretch of the store; none: an empty stretch.
 pub fn peek(queue: Queue, store: &[u8], time: u64) -> &[u8]
     requires { Sound queue store.now }
-    ensures { result.now ≡ firstBytes (alive time (packetsOf queue store.now)) }
+    ensures { result.now ≡ first_bytes (alive time (packets_of queue store.now)) }
 {
     let front = queue::first(queue, time);
     let start = front.start;
@@ -130,7 +130,7 @@ fn is_full(amount: Amount, bytes: ByteCount, size: ByteCount) -> bool
 // A packet joins the end of those that wait.
 fn join(queue: Queue, store: &mut [u8], used: ByteCount, packet: &[u8], expiry: u64) -> Queue
     requires { (queue.count < MOST-WAITING) × (used.0 + length packet.now ≤ length store.old) }
-    ensures value { result ≡ appended queue (entryFor (length packet.now) expiry) }
+    ensures value { result ≡ appended queue (entry_for (length packet.now) expiry) }
     ensures store_after { store.new ≡ pasted store.old used.0 packet.now (length packet.now) }
 {
     let start = used.0;
@@ -142,8 +142,8 @@ fn join(queue: Queue, store: &mut [u8], used: ByteCount, packet: &[u8], expiry: 
 // The expired packets leave and the packet joins the end, where there is room then; else nothing changes.
 pub fn offer(queue: Queue, store: &mut [u8], packet: &[u8], expiry: u64, time: u64) -> Offered
     requires { Sound queue store.old }
-    ensures offering { Offering queue store.old (alive time (packetsOf queue store.old)) (packetFor packet.now expiry) result store.new }
-    ensures moved_value { result.moved ≡ record { 0 = displaced (offering (length store.old) (packetFor packet.now expiry) time (packetsOf queue store.old)) } }
+    ensures offering { Offering queue store.old (alive time (packets_of queue store.old)) (packet_for packet.now expiry) result store.new }
+    ensures moved_value { result.moved ≡ record { 0 = displaced (offering (length store.old) (packet_for packet.now expiry) time (packets_of queue store.old)) } }
 {
     let amount = queue::load(queue, time);
     if is_full(amount, ByteCount(packet.len()), ByteCount(store.len())) {

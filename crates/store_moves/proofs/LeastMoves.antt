@@ -11,9 +11,9 @@ use lib.ListN.{length, get_or, set, replicate, length-set, length-replicate}
 use lib.Seq.{get_or-set_same, get_or-set_other, get_or-take, set_out}
 use Rattle.facts.proofs.Tests.{by_le, neither, clash}
 use Rattle.store.specs.Moves.{Stretch, staying, displaced}
-use Rattle.store.proofs.Moved.{displaced-within}
+use Rattle.store.proofs.Moved.{displaced_within}
 use Rattle.store_moves.specs.Moving.{Move, moving, ends, writes, reads, AreBytes, Brings, Displaced}
-use Rattle.store_moves.proofs.Sources.{source, source-rising, Sourced, sourced, zeros-at, one, one-long, one-here, one-other, one-bytes}
+use Rattle.store_moves.proofs.Sources.{source, source_rising, Sourced, sourced, zeros_at, one, one_long, one_here, one_other, one_bytes}
 
 -- ---- the places at one end of the moves: those that are written to, or read from
 module _ (end : Move → ℕ) where
@@ -25,29 +25,29 @@ module _ (end : Move → ℕ) where
   without place [] = []
   without place (m ∷ ms) = cond (eqb (end m) place) (without place ms) (m ∷ without place ms)
 
-  without-ends : (place : ℕ) (ms : List Move) → length (without place ms) + ends end place ms ≡ length ms
+  without_ends : (place : ℕ) (ms : List Move) → length (without place ms) + ends end place ms ≡ length ms
   unfolding without ends
-  without-ends place [] = refl
-  without-ends place (m ∷ ms) = each (eqb (end m) place) (without-ends place ms)
+  without_ends place [] = refl
+  without_ends place (m ∷ ms) = each (eqb (end m) place) (without_ends place ms)
     where
       each : (b : Bool) → length (without place ms) + ends end place ms ≡ length ms
           → length (cond b (without place ms) (m ∷ without place ms)) + (cond b 1 0 + ends end place ms) ≡ suc (length ms)
       each true h = omega arith
       each false h = omega arith
 
-  touched-ends : (place : ℕ) (ms : List Move) → touched place ms ≡ true → 0 < ends end place ms
+  touched_ends : (place : ℕ) (ms : List Move) → touched place ms ≡ true → 0 < ends end place ms
   unfolding touched ends
-  touched-ends place [] e = clash e
-  touched-ends place (m ∷ ms) e = each (eqb (end m) place) e (touched-ends place ms)
+  touched_ends place [] e = clash e
+  touched_ends place (m ∷ ms) e = each (eqb (end m) place) e (touched_ends place ms)
     where
       each : (b : Bool) → (b || touched place ms) ≡ true → (touched place ms ≡ true → 0 < ends end place ms) → 0 < cond b 1 0 + ends end place ms
       each true e h = omega arith
       each false e h = omega (arith, h e)
 
-  touched-without : (place gone : ℕ) (ms : List Move) → (place ≡ gone → ⊥) → touched place ms ≡ true → touched place (without gone ms) ≡ true
+  touched_without : (place gone : ℕ) (ms : List Move) → (place ≡ gone → ⊥) → touched place ms ≡ true → touched place (without gone ms) ≡ true
   unfolding touched without
-  touched-without place gone [] q e = e
-  touched-without place gone (m ∷ ms) q e = each (eqb (end m) gone) refl (eqb (end m) place) refl e (touched-without place gone ms q)
+  touched_without place gone [] q e = e
+  touched_without place gone (m ∷ ms) q e = each (eqb (end m) gone) refl (eqb (end m) place) refl e (touched_without place gone ms q)
     where
       each : (a : Bool) → eqb (end m) gone ≡ a → (b : Bool) → eqb (end m) place ≡ b → (b || touched place ms) ≡ true
           → (touched place ms ≡ true → touched place (without gone ms) ≡ true) → touched place (cond a (without gone ms) (m ∷ without gone ms)) ≡ true
@@ -61,26 +61,26 @@ module _ (end : Move → ℕ) where
     places : (n : ℕ) (ms : List Move) → ((i : ℕ) → i < n → touched (at i) ms ≡ true) → n ≤ length ms
     places zero ms h = omega arith
     places (suc n) ms h =
-        let fewer = places n (without (at n) ms) (λ i k. touched-without (at i) (at n) ms (λ q. omega (arith, rising i n k)) (h i (omega arith))) in
-        omega (arith, fewer, without-ends (at n) ms, touched-ends (at n) ms (h n (omega arith)))
+        let fewer = places n (without (at n) ms) (λ i k. touched_without (at i) (at n) ms (λ q. omega (arith, rising i n k)) (h i (omega arith))) in
+        omega (arith, fewer, without_ends (at n) ms, touched_ends (at n) ms (h n (omega arith)))
 
     -- all of them but one
-    most-places : (n but : ℕ) (ms : List Move) → ((i : ℕ) → i < n → (at i ≡ but → ⊥) → touched (at i) ms ≡ true) → n ≤ suc (length ms)
-    most-places zero but ms h = omega arith
-    most-places (suc n) but ms h =
-        each (eqb (at n) but) refl (most-places n but (without (at n) ms) (λ i k q. touched-without (at i) (at n) ms (λ p. omega (arith, rising i n k)) (h i (omega arith) q)))
+    most_places : (n but : ℕ) (ms : List Move) → ((i : ℕ) → i < n → (at i ≡ but → ⊥) → touched (at i) ms ≡ true) → n ≤ suc (length ms)
+    most_places zero but ms h = omega arith
+    most_places (suc n) but ms h =
+        each (eqb (at n) but) refl (most_places n but (without (at n) ms) (λ i k q. touched_without (at i) (at n) ms (λ p. omega (arith, rising i n k)) (h i (omega arith) q)))
       where
         each : (b : Bool) → eqb (at n) but ≡ b → n ≤ suc (length (without (at n) ms)) → suc n ≤ suc (length ms)
         each true e fewer =
             let last = eqb-true (at n) but e in
             omega (arith, places n ms (λ i k. h i (omega arith) (λ q. omega (arith, rising i n k))))
-        each false e fewer = omega (arith, without-ends (at n) ms, touched-ends (at n) ms (h n (omega arith) (eqb-false (at n) but e)))
+        each false e fewer = omega (arith, without_ends (at n) ms, touched_ends (at n) ms (h n (omega arith) (eqb-false (at n) but e)))
 
     -- as many moves as such places touch none of all places twice
     once : (n : ℕ) (ms : List Move) → ((i : ℕ) → i < n → touched (at i) ms ≡ true) → length ms ≡ n → (place : ℕ) → ends end place ms ≤ 1
     once n ms h few place =
-        let rest = most-places n place (without place ms) (λ i k q. touched-without (at i) place ms q (h i k)) in
-        omega (arith, rest, without-ends place ms)
+        let rest = most_places n place (without place ms) (λ i k q. touched_without (at i) place ms q (h i k)) in
+        omega (arith, rest, without_ends place ms)
 
 written : ℕ → List Move → Bool
 written = touched (λ m. m.to)
@@ -135,20 +135,20 @@ module _ (size : ℕ) (xs : List Stretch) (ms : List Move) (b : Brings size xs m
     brought store l bytes =
         sym (get_or-take (staying xs) (moving ms store) place 0 d.below) ∙ ap (λ (l : List ℕ). get_or l place 0) (b.start store l bytes) ∙ s.is store (omega (arith, b.room))
 
-    one-brought : get_or (moving ms tells) place 0 ≡ 1
+    one_brought : get_or (moving ms tells) place 0 ≡ 1
     unfolding tells
-    one-brought = brought tells (one-long size s.from within) (one-bytes size s.from within) ∙ one-here size s.from within
+    one_brought = brought tells (one_long size s.from within) (one_bytes size s.from within) ∙ one_here size s.from within
 
     -- a displaced place keeps its byte unless it is written to
-    all-written : written place ms ≡ true
+    all_written : written place ms ≡ true
     unfolding tells
-    all-written = each (written place ms) refl
+    all_written = each (written place ms) refl
       where
         each : (t : Bool) → written place ms ≡ t → t ≡ true
         each true e = refl
         each false e =
-            let stayed : get_or (moving ms tells) place 0 ≡ 0 = unwritten place ms tells e ∙ one-other size s.from within place (λ q. omega (arith, s.other d)) in
-            absurd (omega (arith, stayed, one-brought))
+            let stayed : get_or (moving ms tells) place 0 ≡ 0 = unwritten place ms tells e ∙ one_other size s.from within place (λ q. omega (arith, s.other d)) in
+            absurd (omega (arith, stayed, one_brought))
 
     -- and the place that its byte comes from is read
     all_read : read (source xs place) ms ≡ true
@@ -159,56 +159,56 @@ module _ (size : ℕ) (xs : List Stretch) (ms : List Move) (b : Brings size xs m
         zeros = replicate size 0
 
         alike : Alike s.from zeros tells
-        alike = record { long = rw (one-long size s.from within) (length-replicate size 0); elsewhere = λ q n. zeros-at size q ∙ sym (one-other size s.from within q n) }
+        alike = record { long = rw (one_long size s.from within) (length-replicate size 0); elsewhere = λ q n. zeros_at size q ∙ sym (one_other size s.from within q n) }
 
         each : (t : Bool) → read s.from ms ≡ t → t ≡ true
         each true e = refl
         each false e =
             let same = (unread s.from ms zeros tells e alike).elsewhere place (λ q. omega (arith, s.other d)) in
             let none : get_or (moving ms zeros) place 0 ≡ 0 =
-            brought zeros (length-replicate size 0) (λ q. rw (zeros-at size q) (omega arith)) ∙ zeros-at size s.from in
-            absurd (omega (arith, same, none, one-brought))
+            brought zeros (length-replicate size 0) (λ q. rw (zeros_at size q) (omega arith)) ∙ zeros_at size s.from in
+            absurd (omega (arith, same, none, one_brought))
 
   -- the displaced places, one after the other
   place_at : ℕ → ℕ
   place_at i = staying xs - displaced xs + i
 
-  displaced-at : (i : ℕ) → i < displaced xs → Displaced xs (place_at i)
+  displaced_at : (i : ℕ) → i < displaced xs → Displaced xs (place_at i)
   unfolding place_at
-  displaced-at i h = record { above = omega (arith, displaced-within xs); below = omega (arith, displaced-within xs) }
+  displaced_at i h = record { above = omega (arith, displaced_within xs); below = omega (arith, displaced_within xs) }
 
-  at-rising : (i j : ℕ) → i < j → place_at i < place_at j
+  at_rising : (i j : ℕ) → i < j → place_at i < place_at j
   unfolding place_at
-  at-rising i j h = omega arith
+  at_rising i j h = omega arith
 
-  at-written : (i : ℕ) → i < displaced xs → written (place_at i) ms ≡ true
-  at-written i h = all-written (place_at i) (displaced-at i h)
+  at_written : (i : ℕ) → i < displaced xs → written (place_at i) ms ≡ true
+  at_written i h = all_written (place_at i) (displaced_at i h)
 
   -- each list of moves that brings the packets that stay to the store's start, whatever bytes it holds, has a move at least for each displaced byte
-  pub least-moves : displaced xs ≤ length ms
+  pub least_moves : displaced xs ≤ length ms
   unfolding written
-  least-moves = places (λ m. m.to) place_at at-rising (displaced xs) ms at-written
+  least_moves = places (λ m. m.to) place_at at_rising (displaced xs) ms at_written
 
   -- "Move each surviving byte at most once in a call": with no more moves than that, no place is written to twice, none needlessly, and none is read from twice
   module _ (few : length ms ≡ displaced xs) where
-    pub moved-once : (place : ℕ) → writes place ms ≤ 1
+    pub moved_once : (place : ℕ) → writes place ms ≤ 1
     unfolding written
-    moved-once = once (λ m. m.to) place_at at-rising (displaced xs) ms at-written few
+    moved_once = once (λ m. m.to) place_at at_rising (displaced xs) ms at_written few
 
-    pub read-once : (place : ℕ) → reads place ms ≤ 1
+    pub read_once : (place : ℕ) → reads place ms ≤ 1
     unfolding read
-    read-once =
-        once (λ m. m.from) (λ i. source xs (place_at i)) (λ i j h. source-rising xs (place_at i) (place_at j) (at-rising i j h)) (displaced xs) ms
-        (λ i h. all_read (place_at i) (displaced-at i h)) few
+    read_once =
+        once (λ m. m.from) (λ i. source xs (place_at i)) (λ i j h. source_rising xs (place_at i) (place_at j) (at_rising i j h)) (displaced xs) ms
+        (λ i h. all_read (place_at i) (displaced_at i h)) few
 
-    pub moved-needed : (place : ℕ) → 0 < writes place ms → Displaced xs place
+    pub moved_needed : (place : ℕ) → 0 < writes place ms → Displaced xs place
     unfolding written place_at
-    moved-needed place w =
-        by_le (staying xs) (place + displaced xs) (λ above. by_le (staying xs) place (λ far. absurd (omega (arith, outside (λ i q h. omega (arith, displaced-within xs))))) (λ below. record { above = above; below = below }))
-        (λ low. absurd (omega (arith, outside (λ i q h. omega (arith, displaced-within xs)))))
+    moved_needed place w =
+        by_le (staying xs) (place + displaced xs) (λ above. by_le (staying xs) place (λ far. absurd (omega (arith, outside (λ i q h. omega (arith, displaced_within xs))))) (λ below. record { above = above; below = below }))
+        (λ low. absurd (omega (arith, outside (λ i q h. omega (arith, displaced_within xs)))))
       where
         outside : ((i : ℕ) → place_at i ≡ place → i < displaced xs → ⊥) → displaced xs + writes place ms ≤ length ms
         outside far =
-            let rest = places (λ m. m.to) place_at at-rising (displaced xs) (without (λ m. m.to) place ms)
-            (λ i h. touched-without (λ m. m.to) (place_at i) place ms (λ q. far i q h) (at-written i h)) in
-            omega (arith, rest, without-ends (λ m. m.to) place ms)
+            let rest = places (λ m. m.to) place_at at_rising (displaced xs) (without (λ m. m.to) place ms)
+            (λ i h. touched_without (λ m. m.to) (place_at i) place ms (λ q. far i q h) (at_written i h)) in
+            omega (arith, rest, without_ends (λ m. m.to) place ms)

@@ -12,16 +12,16 @@ abbrev pub leaves : ℕ → Stretch
 leaves n = record { length = n; stays = false }
 
 -- "0 where none left"
-pub displaced-none : (lengths : List ℕ) → displaced (map stays lengths) ≡ 0
+pub displaced_none : (lengths : List ℕ) → displaced (map stays lengths) ≡ 0
 unfolding displaced
-displaced-none [] = refl
-displaced-none (n ∷ lengths) = displaced-none lengths
+displaced_none [] = refl
+displaced_none (n ∷ lengths) = displaced_none lengths
 
 -- "the bytes of those survivors that stand behind the first packet that left"
-pub displaced-behind : (before : List ℕ) (n : ℕ) (behind : List Stretch) → displaced (map stays before ++ (leaves n ∷ behind)) ≡ staying behind
+pub displaced_behind : (before : List ℕ) (n : ℕ) (behind : List Stretch) → displaced (map stays before ++ (leaves n ∷ behind)) ≡ staying behind
 unfolding displaced
-displaced-behind [] n behind = refl
-displaced-behind (m ∷ before) n behind = displaced-behind before n behind
+displaced_behind [] n behind = refl
+displaced_behind (m ∷ before) n behind = displaced_behind before n behind
 
 -- five packets, of which the second and the fourth leave; the last alone; the first alone; all
 pub record Row : Type 0 where
@@ -35,6 +35,6 @@ rows =
     ∷ record { waiting = leaves 40 ∷ stays 1500 ∷ stays 60 ∷ []; moves = 1560 }
     ∷ record { waiting = leaves 40 ∷ leaves 1500 ∷ []; moves = 0 } ∷ []
 
-pub displaced-rows : map (λ (r : Row). displaced r.waiting) rows ≡ map (λ (r : Row). r.moves) rows
+pub displaced_rows : map (λ (r : Row). displaced r.waiting) rows ≡ map (λ (r : Row). r.moves) rows
 unfolding displaced staying rows
-displaced-rows = refl
+displaced_rows = refl

@@ -11,7 +11,7 @@ use lib.ListN.{length, get_or, take, drop, set, replicate, length-set, length-re
 use lib.Seq.{get_or-set_same, get_or-set_other, get_or-take, get_or-drop, get_or-append-add, length-take-le}
 use Rattle.facts.proofs.Tests.{by_le}
 use Rattle.store.specs.Moves.{Stretch, staying, displaced}
-use Rattle.store.proofs.Moved.{displaced-within}
+use Rattle.store.proofs.Moved.{displaced_within}
 use Rattle.store_moves.specs.Moving.{remaining, span, Filled, none, more, AreBytes, Displaced, Elsewhere}
 
 pub source : List Stretch → ℕ → ℕ
@@ -19,10 +19,10 @@ source [] place = place
 source (x ∷ xs) place = cond x.stays (cond (ltb place x.length) place (x.length + source xs (place - x.length))) (x.length + source xs place)
 
 -- the bytes keep their order
-pub source-rising : (xs : List Stretch) (i j : ℕ) → i < j → source xs i < source xs j
+pub source_rising : (xs : List Stretch) (i j : ℕ) → i < j → source xs i < source xs j
 unfolding source
-source-rising [] i j h = h
-source-rising (x ∷ xs) i j h = each x.stays (source-rising xs)
+source_rising [] i j h = h
+source_rising (x ∷ xs) i j h = each x.stays (source_rising xs)
   where
     n : ℕ
     n = x.length
@@ -65,7 +65,7 @@ module _ (x : Stretch) (xs : List Stretch) (place : ℕ) where
     from_is = rw (e, lt-ltb place x.length h);
     inside = omega arith;
     above = omega arith;
-    other = λ d. let above : x.length + staying xs ≤ place + displaced xs = rw e at d.above in absurd (omega (arith, displaced-within xs));
+    other = λ d. let above : x.length + staying xs ≤ place + displaced xs = rw e at d.above in absurd (omega (arith, displaced_within xs));
     home = λ k. refl;
     is = λ store k. rw e (get_or-append (take x.length store) (remaining xs (drop x.length store)) 0 place (rw (length-take-le x.length store (omega arith)) h) ∙ get_or-take x.length store place 0 h);
   }
@@ -104,37 +104,37 @@ sourced _ place (more {x} {xs} n f) h = each x.stays refl h (λ q. sourced xs q 
     each true e k r = by_le x.length place (λ l. behind x xs place e l (r (place - x.length) (omega arith))) (λ l. here x xs place e l)
 
 -- ---- two stores that tell places apart: zeros, and zeros with a 1 at a place
-pub zeros-at : (n i : ℕ) → ◌≡◌ {A = ℕ} (get_or (replicate n 0) i 0) 0
-zeros-at zero i = refl
-zeros-at (suc n) zero = refl
-zeros-at (suc n) (suc i) = zeros-at n i
+pub zeros_at : (n i : ℕ) → ◌≡◌ {A = ℕ} (get_or (replicate n 0) i 0) 0
+zeros_at zero i = refl
+zeros_at (suc n) zero = refl
+zeros_at (suc n) (suc i) = zeros_at n i
 
 module _ (size from : ℕ) (h : from < size) where
   pub one : List ℕ
   one = set (replicate size 0) from 1
 
-  pub one-long : length one ≡ size
+  pub one_long : length one ≡ size
   unfolding one
-  one-long = simp (length-set, length-replicate)
+  one_long = simp (length-set, length-replicate)
 
-  pub one-here : get_or one from 0 ≡ 1
+  pub one_here : get_or one from 0 ≡ 1
   unfolding one
-  one-here = get_or-set_same (replicate size 0) from 1 0 (simp length-replicate h)
+  one_here = get_or-set_same (replicate size 0) from 1 0 (simp length-replicate h)
 
-  pub one-other : (place : ℕ) → (place ≡ from → ⊥) → get_or one place 0 ≡ 0
+  pub one_other : (place : ℕ) → (place ≡ from → ⊥) → get_or one place 0 ≡ 0
   unfolding one
-  one-other place q = get_or-set_other (replicate size 0) from place 1 0 q ∙ zeros-at size place
+  one_other place q = get_or-set_other (replicate size 0) from place 1 0 q ∙ zeros_at size place
 
-  pub one-bytes : AreBytes one
-  one-bytes place = each (eqb place from) refl
+  pub one_bytes : AreBytes one
+  one_bytes place = each (eqb place from) refl
     where
       each : (b : Bool) → eqb place from ≡ b → get_or one place 0 < 2 ^ 8
-      each true e = rw (eqb-true place from e, one-here) (omega arith)
-      each false e = rw (one-other place (eqb-false place from e)) (omega arith)
+      each true e = rw (eqb-true place from e, one_here) (omega arith)
+      each false e = rw (one_other place (eqb-false place from e)) (omega arith)
 
 -- `Displaced` a second time: a place whose byte stands at another
-pub displaced-iff : (xs : List Stretch) (place : ℕ) → Filled xs → Displaced xs place ↔ Elsewhere xs place
-displaced-iff xs place f = (away, back)
+pub displaced_iff : (xs : List Stretch) (place : ℕ) → Filled xs → Displaced xs place ↔ Elsewhere xs place
+displaced_iff xs place f = (away, back)
   where
     away : Displaced xs place → Elsewhere xs place
     away d =
@@ -149,6 +149,6 @@ displaced-iff xs place f = (away, back)
             let s = sourced xs place f e.below in
             let size = span xs in
             let store = one size e.from e.inside in
-            let long : span xs ≤ length store = omega (arith, one-long size e.from e.inside) in
-            let home : get_or store s.from 0 ≡ 0 = rw (s.home near) (one-other size e.from e.inside place (λ q. e.other (sym q))) in
-            omega (arith, home, s.is store long, e.is store long, one-here size e.from e.inside)
+            let long : span xs ≤ length store = omega (arith, one_long size e.from e.inside) in
+            let home : get_or store s.from 0 ≡ 0 = rw (s.home near) (one_other size e.from e.inside place (λ q. e.other (sym q))) in
+            omega (arith, home, s.is store long, e.is store long, one_here size e.from e.inside)

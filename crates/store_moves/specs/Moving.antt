@@ -1,7 +1,7 @@
 -- Request 4: any way to bring the packets that stay to the store's start, one byte moved after the other.
 use Rattle.std.specs.Prelude.{true, false, cond, ◌≡◌, List, [], ◌∷◌, ◌++◌, ℕ, ◌+◌, ◌<◌, ◌≤◌, ◌^◌, eqb, length, get_or, take, drop, set}
 use Rattle.store.specs.Packets.{Packet}
-use Rattle.store.specs.Moves.{Stretch, stretchOf, staying, displaced}
+use Rattle.store.specs.Moves.{Stretch, stretch_of, staying, displaced}
 
 -- a move: the byte at one place of a store is written to another
 pub record Move : Type 0 where
@@ -65,6 +65,6 @@ pub record Elsewhere (xs : List Stretch) (place : ℕ) : Type 0 where
 
 -- packets that wait, their stretches, and those of the packets that stay
 pub data Marked : List Packet → List Stretch → List Packet → Type 0 where
-  none-waits : Marked [] [] []
-  this-stays : {p : Packet} {ps kept : List Packet} {xs : List Stretch} → Marked ps xs kept → Marked (p ∷ ps) (stretchOf p true ∷ xs) (p ∷ kept)
-  this-leaves : {p : Packet} {ps kept : List Packet} {xs : List Stretch} → Marked ps xs kept → Marked (p ∷ ps) (stretchOf p false ∷ xs) kept
+  none_waits : Marked [] [] []
+  this_stays : {p : Packet} {ps kept : List Packet} {xs : List Stretch} → Marked ps xs kept → Marked (p ∷ ps) (stretch_of p true ∷ xs) (p ∷ kept)
+  this_leaves : {p : Packet} {ps kept : List Packet} {xs : List Stretch} → Marked ps xs kept → Marked (p ∷ ps) (stretch_of p false ∷ xs) kept

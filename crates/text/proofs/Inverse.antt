@@ -14,52 +14,52 @@ use Rattle.io.specs.Digits.{last_digits, hex_digit_ascii, IsDigitCount}
 use Rattle.text.specs.declared.Number.{Number}
 use Rattle.text.specs.declared.Number.TheVariants.{Bad, Value}
 use Rattle.text.specs.declared.Hexed.TheVariants as hexed
-use Rattle.text.specs.Laying.{laid, decimalText, signedText}
-use Rattle.text.specs.Numbers.{digitOf, step_of, and_then, followOf, plain_of, parseOf}
-use Rattle.text.specs.Strings.{before, pairsOf, readableOf, hexedOf, unhexed, pairsText, bytesText}
-use Rattle.text.proofs.Decimals.{length_digits, decimal-written}
-use Rattle.text.proofs.Hexadecimal.{pairs-length, unhex-good}
-use Rattle.text.proofs.Reading.{digit-decimal, digit-letter, step-on, size-one, size-more}
+use Rattle.text.specs.Laying.{laid, decimal_text, signed_text}
+use Rattle.text.specs.Numbers.{digit_of, step_of, and_then, follow_of, plain_of, parse_of}
+use Rattle.text.specs.Strings.{before, pairs_of, readable_of, hexed_of, unhexed, pairs_text, bytes_text}
+use Rattle.text.proofs.Decimals.{length_digits, decimal_written}
+use Rattle.text.proofs.Hexadecimal.{pairs_length, unhex_good}
+use Rattle.text.proofs.Reading.{digit_decimal, digit_letter, step_on, size_one, size_more}
 use Rattle.text.proofs.Writing.{laid_in}
 
 -- ---- digits
 
-digit_glyph : (d : ℕ) → d < 16 → d ≡ digitOf (hex_digit_ascii d)
+digit_glyph : (d : ℕ) → d < 16 → d ≡ digit_of (hex_digit_ascii d)
 digit_glyph d h = elim (dec_le 10 d) [ yes g ↦ letter g | no g ↦ decimal (omega arith) ]
   where
-    decimal : d < 10 → d ≡ digitOf (hex_digit_ascii d)
-    decimal g = let e : d ≡ 48 + d - 48 = omega arith in rw (lt-ltb d 10 g) (e ∙ digit-decimal (48 + d) (omega arith) (omega arith))
+    decimal : d < 10 → d ≡ digit_of (hex_digit_ascii d)
+    decimal g = let e : d ≡ 48 + d - 48 = omega arith in rw (lt-ltb d 10 g) (e ∙ digit_decimal (48 + d) (omega arith) (omega arith))
 
-    letter : 10 ≤ d → d ≡ digitOf (hex_digit_ascii d)
-    letter g = let e : d ≡ 87 + d - 97 + 10 = omega arith in rw (le-ltb d 10 g) (e ∙ digit-letter (87 + d) (omega arith) (omega arith))
+    letter : 10 ≤ d → d ≡ digit_of (hex_digit_ascii d)
+    letter g = let e : d ≡ 87 + d - 97 + 10 = omega arith in rw (le-ltb d 10 g) (e ∙ digit_letter (87 + d) (omega arith) (omega arith))
 
-follow-last : (base most value : ℕ) (x : List ℕ) (byte read : ℕ) → followOf base most value x ≡ Value read
-    → followOf base most value (x ++ (byte ∷ [])) ≡ step_of base most read byte
-unfolding followOf
-follow-last base most value [] byte read e = let same : value ≡ read = cc in rw same (end (step_of base most read byte))
+follow_last : (base most value : ℕ) (x : List ℕ) (byte read : ℕ) → follow_of base most value x ≡ Value read
+    → follow_of base most value (x ++ (byte ∷ [])) ≡ step_of base most read byte
+unfolding follow_of
+follow_last base most value [] byte read e = let same : value ≡ read = cc in rw same (end (step_of base most read byte))
   where
     end : (n : Number) → and_then n (λ longer. Value longer) ≡ n
     end Bad = refl
     end (Value longer) = refl
-follow-last base most value (a ∷ x) byte read e = go (step_of base most value a) (λ longer. follow-last base most longer x byte read) e
+follow_last base most value (a ∷ x) byte read e = go (step_of base most value a) (λ longer. follow_last base most longer x byte read) e
   where
     go : (n : Number)
-        → ((longer : ℕ) → followOf base most longer x ≡ Value read → followOf base most longer (x ++ (byte ∷ [])) ≡ step_of base most read byte)
-        → and_then n (λ longer. followOf base most longer x) ≡ Value read
-        → and_then n (λ longer. followOf base most longer (x ++ (byte ∷ []))) ≡ step_of base most read byte
+        → ((longer : ℕ) → follow_of base most longer x ≡ Value read → follow_of base most longer (x ++ (byte ∷ [])) ≡ step_of base most read byte)
+        → and_then n (λ longer. follow_of base most longer x) ≡ Value read
+        → and_then n (λ longer. follow_of base most longer (x ++ (byte ∷ []))) ≡ step_of base most read byte
     go Bad f p = clash (cc)
     go (Value longer) f p = f longer p
 
 -- k digits in a base up to 16 behind a number
-pub follow-digits : (base most k n value : ℕ) → 0 < base → base ≤ 16 → n < base ^ k → value * base ^ k + n ≤ most
-    → followOf base most value (last_digits base k n) ≡ Value (value * base ^ k + n)
-unfolding followOf
-follow-digits base most zero n value o h l m =
+pub follow_digits : (base most k n value : ℕ) → 0 < base → base ≤ 16 → n < base ^ k → value * base ^ k + n ≤ most
+    → follow_of base most value (last_digits base k n) ≡ Value (value * base ^ k + n)
+unfolding follow_of
+follow_digits base most zero n value o h l m =
     let one : base ^ 0 ≡ 1 = pow-zero base in
     let z : value * base ^ 0 ≡ value * 1 = ap (λ (x : ℕ). value * x) one in
     let e : value ≡ value * base ^ 0 + n = omega arith in
     ap Value e
-follow-digits base most (suc k) n value o h l m =
+follow_digits base most (suc k) n value o h l m =
     let p : base ^ suc k ≡ base ^ k * base = pow-suc base k in
     let d : n / base * base + n % base ≡ n = div-add-mod' n base in
     let r : n % base < base = mod-lt n o in
@@ -70,15 +70,15 @@ follow-digits base most (suc k) n value o h l m =
     let small : n / base < base ^ k = (div-lt_iff_lt-mul {x = n} {y = base ^ k} o).1 (rw p at l) in
     let grows : front * 1 ≤ front * base = mul-le-mul_left front o in
     let room : front * base + n % base ≤ most = omega arith in
-    let read = follow-digits base most k (n / base) value o h small (omega arith) in
-    follow-last base most value (last_digits base k (n / base)) (hex_digit_ascii (n % base)) front read
-    ∙ sym (step-on base most front (hex_digit_ascii (n % base)) (n % base) (digit_glyph (n % base) (omega arith)) r room)
+    let read = follow_digits base most k (n / base) value o h small (omega arith) in
+    follow_last base most value (last_digits base k (n / base)) (hex_digit_ascii (n % base)) front read
+    ∙ sym (step_on base most front (hex_digit_ascii (n % base)) (n % base) (digit_glyph (n % base) (omega arith)) r room)
     ∙ ap Value (sym whole)
 
 -- digits alone
-digits-back : (base most k n : ℕ) → 0 < base → base ≤ 16 → n < base ^ k → n ≤ most → followOf base most 0 (last_digits base k n) ≡ Value n
-digits-back base most k n o h l m =
-    let e : 0 * base ^ k + n ≡ n = omega arith in follow-digits base most k n 0 o h l (omega arith) ∙ ap Value e
+digits_back : (base most k n : ℕ) → 0 < base → base ≤ 16 → n < base ^ k → n ≤ most → follow_of base most 0 (last_digits base k n) ≡ Value n
+digits_back base most k n o h l m =
+    let e : 0 * base ^ k + n ≡ n = omega arith in follow_digits base most k n 0 o h l (omega arith) ∙ ap Value e
 
 -- ---- numbers in decimal
 
@@ -95,23 +95,23 @@ lead (suc j) n h l e =
     let first = get_or-append (last_digits 10 (suc j) (n / 10)) (hex_digit_ascii (n % 10) ∷ []) 0 0 some in
     lead j (n / 10) (omega arith) (omega arith) (sym first ∙ e)
 
-plain-digits : (k n : ℕ) → IsDigitCount 10 1 n k → plain_of (last_digits 10 k n) ≡ true
+plain_digits : (k n : ℕ) → IsDigitCount 10 1 n k → plain_of (last_digits 10 k n) ≡ true
 unfolding plain_of
-plain-digits zero n f = absurd (omega (arith, f.0))
-plain-digits (suc zero) n f = sym (size-one _ _ _ (last_digits 10 1 n) (length_digits 10 1 n))
-plain-digits (suc (suc j)) n f =
+plain_digits zero n f = absurd (omega (arith, f.0))
+plain_digits (suc zero) n f = sym (size_one _ _ _ (last_digits 10 1 n) (length_digits 10 1 n))
+plain_digits (suc (suc j)) n f =
     let m : suc (suc j) - 1 ≡ suc j = omega arith in
     let low : 10 ^ suc j ≤ n = rw m at (f.2 (omega arith)) in
-    sym (size-more _ _ _ (last_digits 10 (suc (suc j)) n) (omega (arith, length_digits 10 (suc (suc j)) n)))
+    sym (size_more _ _ _ (last_digits 10 (suc (suc j)) n) (omega (arith, length_digits 10 (suc (suc j)) n)))
     ∙ rw (ne_eqb (get_or (last_digits 10 (suc (suc j)) n) 0 0) 48 (lead (suc j) n low f.1))
 
 -- what `put_number` lays is parsed as the number
-pub decimal-back : (most n : ℕ) → n ≤ most → n < 10 ^ 20 → parseOf most (decimalText n) ≡ Value n
-unfolding parseOf
-decimal-back most n m h =
-    let w = decimal-written n h in
-    let read = digits-back 10 most w.count n (omega arith) (omega arith) w.fewest.1 m in
-    rw (w.same, plain-digits w.count n w.fewest) read
+pub decimal_back : (most n : ℕ) → n ≤ most → n < 10 ^ 20 → parse_of most (decimal_text n) ≡ Value n
+unfolding parse_of
+decimal_back most n m h =
+    let w = decimal_written n h in
+    let read = digits_back 10 most w.count n (omega arith) (omega arith) w.fewest.1 m in
+    rw (w.same, plain_digits w.count n w.fewest) read
 
 -- ---- byte strings
 
@@ -119,49 +119,49 @@ decimal-back most n m h =
 abbrev pub Bytes : List ℕ → Type 0
 Bytes bytes = (i : ℕ) → i < length bytes → get_or bytes i 0 < 256
 
-pairs-back : (bytes : List ℕ) → Bytes bytes → pairsOf (pairsText bytes) ≡ bytes
-unfolding pairsOf pairsText
-pairs-back [] h = refl
-pairs-back (byte ∷ bytes) h =
+pairs_back : (bytes : List ℕ) → Bytes bytes → pairs_of (pairs_text bytes) ≡ bytes
+unfolding pairs_of pairs_text
+pairs_back [] h = refl
+pairs_back (byte ∷ bytes) h =
     let small : byte < 256 = h 0 (omega arith) in
-    let first = digits-back 16 255 2 byte (omega arith) (omega arith) small (omega arith) in
-    ap (λ (n : Number). before n (pairsOf (pairsText bytes))) first
-    ∙ ap (λ (l : List ℕ). byte ∷ l) (pairs-back bytes (λ i g. h (suc i) (omega arith)))
+    let first = digits_back 16 255 2 byte (omega arith) (omega arith) small (omega arith) in
+    ap (λ (n : Number). before n (pairs_of (pairs_text bytes))) first
+    ∙ ap (λ (l : List ℕ). byte ∷ l) (pairs_back bytes (λ i g. h (suc i) (omega arith)))
 
-readable-back : (bytes : List ℕ) → Bytes bytes
-    → (readableOf (bytesText bytes) ≡ true) × (pairsOf (bytesText bytes) ≡ bytes) × (length (bytesText bytes) / 2 ≡ length bytes)
-unfolding readableOf bytesText pairsOf
-readable-back [] h = (sym (size-one _ _ _ (45 ∷ []) refl), refl, refl)
-readable-back (byte ∷ bytes) h =
+readable_back : (bytes : List ℕ) → Bytes bytes
+    → (readable_of (bytes_text bytes) ≡ true) × (pairs_of (bytes_text bytes) ≡ bytes) × (length (bytes_text bytes) / 2 ≡ length bytes)
+unfolding readable_of bytes_text pairs_of
+readable_back [] h = (sym (size_one _ _ _ (45 ∷ []) refl), refl, refl)
+readable_back (byte ∷ bytes) h =
     let all = byte ∷ bytes in
-    let e : length (pairsText all) ≡ length all * 2 = pairs-length all in
-    let same : length (pairsOf (pairsText all)) * 2 ≡ length (pairsText all) = ap (λ (l : List ℕ). length l * 2) (pairs-back all h) ∙ sym e in
-    (sym (size-more _ _ _ (pairsText all) (omega arith)) ∙ eq-eqb _ _ same, pairs-back all h, omega arith)
+    let e : length (pairs_text all) ≡ length all * 2 = pairs_length all in
+    let same : length (pairs_of (pairs_text all)) * 2 ≡ length (pairs_text all) = ap (λ (l : List ℕ). length l * 2) (pairs_back all h) ∙ sym e in
+    (sym (size_more _ _ _ (pairs_text all) (omega arith)) ∙ eq-eqb _ _ same, pairs_back all h, omega arith)
 
 -- what `put_bytes` lays is read as the byte string, where it has room
 pub bytes_back : (bytes out : List ℕ) → Bytes bytes → length bytes ≤ length out
-    → (hexedOf (length out) (bytesText bytes) ≡ hexed.Long (length bytes)) × (unhexed out (bytesText bytes) ≡ bytes ++ drop (length bytes) out)
+    → (hexed_of (length out) (bytes_text bytes) ≡ hexed.Long (length bytes)) × (unhexed out (bytes_text bytes) ≡ bytes ++ drop (length bytes) out)
 bytes_back bytes out h room =
-    let k = readable-back bytes h in
-    let good = unhex-good (bytesText bytes) out (laid out 0 bytes) k.0 (omega (arith, k.2)) (ap (laid out 0) (sym k.1)) in
+    let k = readable_back bytes h in
+    let good = unhex_good (bytes_text bytes) out (laid out 0 bytes) k.0 (omega (arith, k.2)) (ap (laid out 0) (sym k.1)) in
     let e : 0 + length bytes ≡ length bytes = omega arith in
     let front = laid_in out 0 bytes (omega arith) ∙ ap (λ (n : ℕ). bytes ++ drop n out) e in
     (sym good.0 ∙ ap hexed.Long k.2, sym good.1 ∙ front)
 
 -- ---- whole numbers
 
-same_number : (m n : ℕ) → m < 10 ^ 20 → n < 10 ^ 20 → decimalText m ≡ decimalText n → m ≡ n
+same_number : (m n : ℕ) → m < 10 ^ 20 → n < 10 ^ 20 → decimal_text m ≡ decimal_text n → m ≡ n
 same_number m n h g e =
-    let p : parseOf (10 ^ 20) (decimalText m) ≡ Value m = decimal-back (10 ^ 20) m (omega arith) h in
-    let q : parseOf (10 ^ 20) (decimalText n) ≡ Value n = decimal-back (10 ^ 20) n (omega arith) g in
+    let p : parse_of (10 ^ 20) (decimal_text m) ≡ Value m = decimal_back (10 ^ 20) m (omega arith) h in
+    let q : parse_of (10 ^ 20) (decimal_text n) ≡ Value n = decimal_back (10 ^ 20) n (omega arith) g in
     cc
 
 -- a text that starts with `-` is no number in decimal
-no_sign : (n : ℕ) (text : List ℕ) → n < 10 ^ 20 → decimalText n ≡ 45 ∷ text → ⊥
-unfolding parseOf followOf step_of digitOf
+no_sign : (n : ℕ) (text : List ℕ) → n < 10 ^ 20 → decimal_text n ≡ 45 ∷ text → ⊥
+unfolding parse_of follow_of step_of digit_of
 no_sign n text h e =
-    let p : parseOf (10 ^ 20) (decimalText n) ≡ Value n = decimal-back (10 ^ 20) n (omega arith) h in
-    let q : parseOf (10 ^ 20) (45 ∷ text) ≡ Bad = either (plain_of (45 ∷ text)) in
+    let p : parse_of (10 ^ 20) (decimal_text n) ≡ Value n = decimal_back (10 ^ 20) n (omega arith) h in
+    let q : parse_of (10 ^ 20) (45 ∷ text) ≡ Bad = either (plain_of (45 ∷ text)) in
     clash (cc)
   where
     either : (b : Bool) → cond b Bad Bad ≡ Bad
@@ -169,9 +169,9 @@ no_sign n text h e =
     either false = refl
 
 -- no two whole numbers have one text
-pub signed-one : (y z : ℤ) → nat_abs y < 10 ^ 20 → nat_abs z < 10 ^ 20 → signedText y ≡ signedText z → y ≡ z
-unfolding signedText
-signed-one (pos m) (pos n) h g e = ap pos (same_number m n h g e)
-signed-one (pos m) (negsuc n) h g e = absurd (no_sign m (decimalText (suc n)) h e)
-signed-one (negsuc m) (pos n) h g e = absurd (no_sign n (decimalText (suc m)) g (sym e))
-signed-one (negsuc m) (negsuc n) h g e = let s : suc m ≡ suc n = same_number (suc m) (suc n) h g (ap (drop 1) e) in ap negsuc (omega arith)
+pub signed_one : (y z : ℤ) → nat_abs y < 10 ^ 20 → nat_abs z < 10 ^ 20 → signed_text y ≡ signed_text z → y ≡ z
+unfolding signed_text
+signed_one (pos m) (pos n) h g e = ap pos (same_number m n h g e)
+signed_one (pos m) (negsuc n) h g e = absurd (no_sign m (decimal_text (suc n)) h e)
+signed_one (negsuc m) (pos n) h g e = absurd (no_sign n (decimal_text (suc m)) g (sym e))
+signed_one (negsuc m) (negsuc n) h g e = let s : suc m ≡ suc n = same_number (suc m) (suc n) h g (ap (drop 1) e) in ap negsuc (omega arith)

@@ -7,8 +7,8 @@ use Rattle.text.specs.declared.Number.TheVariants as number
 use Rattle.text.specs.declared.Hexed.{Hexed}
 use Rattle.text.specs.declared.Hexed.TheVariants as hexed
 use Rattle.text.specs.Laying.{laid}
-use Rattle.text.specs.Numbers.{digitOf, step_of, followOf, by_size, plain_of, parseOf}
-use Rattle.text.specs.Strings.{pairsOf, readableOf, hexedOf, unhexed}
+use Rattle.text.specs.Numbers.{digit_of, step_of, follow_of, by_size, plain_of, parse_of}
+use Rattle.text.specs.Strings.{pairs_of, readable_of, hexed_of, unhexed}
 
 -- every word stands for what is said
 abbrev pub Stands : {A : Type 0} → (List ℕ → A) → List (List ℕ × A) → Type 0
@@ -29,9 +29,9 @@ numbers =
     ∷ (49 ∷ 97 ∷ [], number.Bad)
     ∷ []
 
-pub numbers-stand : Stands (parseOf 300) numbers
-unfolding digitOf step_of followOf by_size plain_of parseOf
-numbers-stand = (refl, (refl, (refl, (refl, (refl, (refl, (refl, (refl, tt))))))))
+pub numbers_stand : Stands (parse_of 300) numbers
+unfolding digit_of step_of follow_of by_size plain_of parse_of
+numbers_stand = (refl, (refl, (refl, (refl, (refl, (refl, (refl, (refl, tt))))))))
 
 -- byte strings for an output of four bytes
 abbrev pub strings : List (List ℕ × Hexed)
@@ -51,11 +51,11 @@ strings =
     ∷ (48 ∷ 97 ∷ 45 ∷ 45 ∷ [], hexed.Bad)
     ∷ []
 
-pub strings-stand : Stands (hexedOf 4) strings
-unfolding digitOf step_of followOf by_size pairsOf readableOf hexedOf
-strings-stand = (refl, (refl, (refl, (refl, (refl, (refl, (refl, (refl, (refl, (refl, (refl, tt)))))))))))
+pub strings_stand : Stands (hexed_of 4) strings
+unfolding digit_of step_of follow_of by_size pairs_of readable_of hexed_of
+strings_stand = (refl, (refl, (refl, (refl, (refl, (refl, (refl, (refl, (refl, (refl, (refl, tt)))))))))))
 
 -- the higher digit first, and the bytes behind the string stay; a word that stands for none leaves all
-pub string-laid : (unhexed (9 ∷ 9 ∷ 9 ∷ []) (48 ∷ 97 ∷ 102 ∷ 102 ∷ []) ≡ 10 ∷ 255 ∷ 9 ∷ []) × (unhexed (9 ∷ 9 ∷ 9 ∷ []) (48 ∷ 97 ∷ 102 ∷ []) ≡ 9 ∷ 9 ∷ 9 ∷ [])
-unfolding laid digitOf step_of followOf by_size pairsOf readableOf unhexed
-string-laid = (refl, refl)
+pub string_laid : (unhexed (9 ∷ 9 ∷ 9 ∷ []) (48 ∷ 97 ∷ 102 ∷ 102 ∷ []) ≡ 10 ∷ 255 ∷ 9 ∷ []) × (unhexed (9 ∷ 9 ∷ 9 ∷ []) (48 ∷ 97 ∷ 102 ∷ []) ≡ 9 ∷ 9 ∷ 9 ∷ [])
+unfolding laid digit_of step_of follow_of by_size pairs_of readable_of unhexed
+string_laid = (refl, refl)

@@ -11,13 +11,13 @@ use lib.Signed.{le_z, non_neg}
 use mir.Syntax.{w64}
 use mir.Val.{Fits, SFits, of_z, to_z}
 use mir.ValLaws.{to_z-of_z, to_z_pos}
-use Rattle.text.specs.Laying.{decimalText, signedText}
-use Rattle.text.proofs.Decimals.{decimal-most}
+use Rattle.text.specs.Laying.{decimal_text, signed_text}
+use Rattle.text.proofs.Decimals.{decimal_most}
 
 -- the code's test `value >= 0`
-pub sign-is : (z : ℤ) → SFits w64 z → le_z (pos 0) (to_z w64 (of_z w64 z)) ≡ non_neg z
-sign-is (pos n) f = rw (to_z-of_z w64 (pos n) f) (leb-zero n)
-sign-is (negsuc n) f = rw (to_z-of_z w64 (negsuc n) f)
+pub sign_is : (z : ℤ) → SFits w64 z → le_z (pos 0) (to_z w64 (of_z w64 z)) ≡ non_neg z
+sign_is (pos n) f = rw (to_z-of_z w64 (pos n) f) (leb-zero n)
+sign_is (negsuc n) f = rw (to_z-of_z w64 (negsuc n) f)
 
 -- a number that isn't negative is cast as it is
 pub positive : (z : ℤ) → SFits w64 z → non_neg z ≡ true
@@ -40,12 +40,12 @@ negative (negsuc n) f h =
 
 -- the text of each, from the code's test and its size
 pub signed_is : (z : ℤ) (size : ℕ) (b : Bool) → SFits w64 z → size ≡ nat_abs (to_z w64 (of_z w64 z))
-    → le_z (pos 0) (to_z w64 (of_z w64 z)) ≡ b → cond b (decimalText size) (45 ∷ decimalText size) ≡ signedText z
-unfolding signedText
-signed_is z size b f e h = rw (sym (sign-is z f) ∙ h, sym (e ∙ ap nat_abs (to_z-of_z w64 z f)))
+    → le_z (pos 0) (to_z w64 (of_z w64 z)) ≡ b → cond b (decimal_text size) (45 ∷ decimal_text size) ≡ signed_text z
+unfolding signed_text
+signed_is z size b f e h = rw (sym (sign_is z f) ∙ h, sym (e ∙ ap nat_abs (to_z-of_z w64 z f)))
 
 -- a number whose size is below 10^j takes at most j digits and a sign
-pub signed-most : (z : ℤ) (j : ℕ) → 0 < j → j ≤ 20 → nat_abs z < 10 ^ j → length (signedText z) ≤ suc j
-unfolding signedText
-signed-most (pos n) j o l h = omega (arith, decimal-most n j o l h)
-signed-most (negsuc n) j o l h = omega (arith, decimal-most (suc n) j o l h)
+pub signed_most : (z : ℤ) (j : ℕ) → 0 < j → j ≤ 20 → nat_abs z < 10 ^ j → length (signed_text z) ≤ suc j
+unfolding signed_text
+signed_most (pos n) j o l h = omega (arith, decimal_most n j o l h)
+signed_most (negsuc n) j o l h = omega (arith, decimal_most (suc n) j o l h)

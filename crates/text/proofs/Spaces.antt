@@ -7,7 +7,7 @@ use lib.ListN.{length, take, drop, length-append, length-drop, take-append-drop}
 use lib.Seq.{take_all, take-length}
 use Rattle.facts.proofs.Lists.{rest_part}
 use Rattle.bytes.specs.Bytes.{indexOf, slice}
-use Rattle.text.specs.Words.{head_of, tailOf}
+use Rattle.text.specs.Words.{head_of, tail_of}
 
 pub none_is : (s : List ℕ) → length s ≡ 0 → ◌≡◌ {A = List ℕ} [] (drop 1 s)
 none_is [] h = refl
@@ -15,19 +15,19 @@ none_is (a ∷ s) h = absurd (omega arith)
 
 -- where `bytes::scan::find` finds a space in the whole line
 module _ (line : List ℕ) (end : ℕ) (found : end ≡ 0 + indexOf 32 (slice 0 (length line) line)) where
-  space-is : end ≡ indexOf 32 line
+  space_is : end ≡ indexOf 32 line
   unfolding slice
-  space-is = let e : end ≡ 0 + indexOf 32 line = rw (take-length line) at found in omega arith
+  space_is = let e : end ≡ 0 + indexOf 32 line = rw (take-length line) at found in omega arith
 
-  pub head-is : take (end - 0) line ≡ head_of line
+  pub head_is : take (end - 0) line ≡ head_of line
   unfolding head_of
-  head-is = let e : end - 0 ≡ indexOf 32 line = omega (arith, space-is) in ap (λ (n : ℕ). take n line) e
+  head_is = let e : end - 0 ≡ indexOf 32 line = omega (arith, space_is) in ap (λ (n : ℕ). take n line) e
 
-  pub tail-is : take (length line - end) (drop end line) ≡ tailOf line
-  unfolding tailOf
-  tail-is = rest_part end line ∙ ap (λ (n : ℕ). drop n line) space-is
+  pub tail_is : take (length line - end) (drop end line) ≡ tail_of line
+  unfolding tail_of
+  tail_is = rest_part end line ∙ ap (λ (n : ℕ). drop n line) space_is
 
 -- the two parts are the whole
-pub parts-length : (line : List ℕ) → length (head_of line) + length (tailOf line) ≡ length line
-unfolding head_of tailOf
-parts-length line = let n = indexOf 32 line in sym (length-append (take n line) (drop n line)) ∙ ap length (take-append-drop n line)
+pub parts_length : (line : List ℕ) → length (head_of line) + length (tail_of line) ≡ length line
+unfolding head_of tail_of
+parts_length line = let n = indexOf 32 line in sym (length-append (take n line) (drop n line)) ∙ ap length (take-append-drop n line)

@@ -18,32 +18,32 @@ module _ (out : List ℕ) (at : ℕ) (text : List ℕ) (room : at + length text 
   unfolding laid
   laid_in = rw (le-leb (at + length text) (length out) room)
 
-  behind-in : behind (length out) at (length text) ≡ at + length text
+  behind_in : behind (length out) at (length text) ≡ at + length text
   unfolding behind
-  behind-in = rw (le-leb (at + length text) (length out) room)
+  behind_in = rw (le-leb (at + length text) (length out) room)
 
-pub lays-none : (out : List ℕ) (at : ℕ) (text : List ℕ) → length out < at + length text → Lays out at text at out
+pub lays_none : (out : List ℕ) (at : ℕ) (text : List ℕ) → length out < at + length text → Lays out at text at out
 unfolding laid behind
-lays-none out at text h =
+lays_none out at text h =
     let none = lt-leb (at + length text) (length out) h in
     record { cursor = rw none; bytes = rw none }
 
-pub lays-empty : (out : List ℕ) (at : ℕ) → at ≤ length out → Lays out at [] at out
-lays-empty out at h =
+pub lays_empty : (out : List ℕ) (at : ℕ) → at ≤ length out → Lays out at [] at out
+lays_empty out at h =
     let room : at + 0 ≤ length out = omega arith in
     let e : at ≡ at + 0 = omega arith in
     let same : take at out ++ [] ++ drop at out ≡ out = rw (append-nil (take at out)) (take-append-drop at out) in
     record {
-      cursor = e ∙ sym (behind-in out at [] room);
+      cursor = e ∙ sym (behind_in out at [] room);
       bytes = sym (laid_in out at [] room ∙ ap (λ (n : ℕ). take at out ++ [] ++ drop n out) (sym e) ∙ same);
     }
 
 -- what `bytes::copy` leaves in the part of an output from the cursor on
-pub lays-copy : (out : List ℕ) (at : ℕ) (text : List ℕ) (n : ℕ) (part : List ℕ) → at + length text ≤ length out → n ≡ length text
+pub lays_copy : (out : List ℕ) (at : ℕ) (text : List ℕ) (n : ℕ) (part : List ℕ) → at + length text ≤ length out → n ≡ length text
     → part ≡ take (length text) text ++ drop (length text) (mid_of at (length out - at) out)
     → Lays out at text (at + n) (put_mid at (length out - at) out part)
-lays-copy out at text n part room e h = record {
-  cursor = ap (λ (m : ℕ). at + m) e ∙ sym (behind-in out at text room);
+lays_copy out at text n part room e h = record {
+  cursor = ap (λ (m : ℕ). at + m) e ∙ sym (behind_in out at text room);
   bytes =
       ap (λ (l : List ℕ). take at out ++ (l ++ drop (length out - at) (drop at out))) same
       ∙ ap (λ (l : List ℕ). take at out ++ (text ++ drop (at + length text) out ++ l)) none
@@ -61,12 +61,12 @@ lays-copy out at text n part room e h = record {
 -- ---- what holds of a text that is laid
 
 -- the text, said in another way
-pub lays-as : {out : List ℕ} {at : ℕ} {x y : List ℕ} {r : ℕ} {out' : List ℕ} → x ≡ y → Lays out at x r out' → Lays out at y r out'
-lays-as e k = rw e at k
+pub lays_as : {out : List ℕ} {at : ℕ} {x y : List ℕ} {r : ℕ} {out' : List ℕ} → x ≡ y → Lays out at x r out' → Lays out at y r out'
+lays_as e k = rw e at k
 
-pub lays-size : {out : List ℕ} {at : ℕ} {text : List ℕ} {r : ℕ} {out' : List ℕ} → Lays out at text r out' → length out' ≡ length out
+pub lays_size : {out : List ℕ} {at : ℕ} {text : List ℕ} {r : ℕ} {out' : List ℕ} → Lays out at text r out' → length out' ≡ length out
 unfolding laid
-lays-size {out} {at} {text} {r} {out'} k =
+lays_size {out} {at} {text} {r} {out'} k =
     elim (dec_le (at + length text) (length out)) [ yes room ↦ inside room | no room ↦ outside (omega arith) ]
   where
     inside : at + length text ≤ length out → length out' ≡ length out
@@ -78,39 +78,39 @@ lays-size {out} {at} {text} {r} {out'} k =
     outside room = ap length k.bytes ∙ rw (lt-leb (at + length text) (length out) room)
 
 -- the cursor stays within the output
-pub lays-inside : {out : List ℕ} {at : ℕ} {text : List ℕ} {r : ℕ} {out' : List ℕ} → at ≤ length out → Lays out at text r out'
+pub lays_inside : {out : List ℕ} {at : ℕ} {text : List ℕ} {r : ℕ} {out' : List ℕ} → at ≤ length out → Lays out at text r out'
     → r ≤ length out'
 unfolding behind
-lays-inside {out} {at} {text} {r} {out'} h k =
+lays_inside {out} {at} {text} {r} {out'} h k =
     elim (dec_le (at + length text) (length out)) [ yes room ↦ inside room | no room ↦ outside (omega arith) ]
   where
     inside : at + length text ≤ length out → r ≤ length out'
-    inside room = omega (arith, k.cursor ∙ behind-in out at text room, lays-size k)
+    inside room = omega (arith, k.cursor ∙ behind_in out at text room, lays_size k)
 
     outside : length out < at + length text → r ≤ length out'
-    outside room = let e : r ≡ at = k.cursor ∙ rw (lt-leb (at + length text) (length out) room) in omega (arith, lays-size k)
+    outside room = let e : r ≡ at = k.cursor ∙ rw (lt-leb (at + length text) (length out) room) in omega (arith, lays_size k)
 
 -- with room, before the cursor stands what stood before the text, and the text
 module _ {out : List ℕ} {at : ℕ} {text : List ℕ} {r : ℕ} {out' : List ℕ} (room : at + length text ≤ length out)
     (k : Lays out at text r out') where
-  pub lays-cursor : r ≡ at + length text
-  lays-cursor = k.cursor ∙ behind-in out at text room
+  pub lays_cursor : r ≡ at + length text
+  lays_cursor = k.cursor ∙ behind_in out at text room
 
-  pub lays-front : take r out' ≡ take at out ++ text
-  lays-front =
+  pub lays_front : take r out' ≡ take at out ++ text
+  lays_front =
       let e : length (take at out) ≡ at = length-take-le at out (omega arith) in
-      let place : length (take at out ++ text) ≡ r = simp length-append (omega (arith, lays-cursor)) in
+      let place : length (take at out ++ text) ≡ r = simp length-append (omega (arith, lays_cursor)) in
       rw (k.bytes ∙ laid_in out at text room) (take_at (take at out ++ text) (drop (at + length text) out) r place)
 
 -- two texts, one behind the other
-pub lays-on : {out : List ℕ} {at : ℕ} {x : List ℕ} {a : ℕ} {out' y : List ℕ} {b : ℕ} {out'' : List ℕ}
+pub lays_on : {out : List ℕ} {at : ℕ} {x : List ℕ} {a : ℕ} {out' y : List ℕ} {b : ℕ} {out'' : List ℕ}
     → Lays out at x a out' → Lays out' a y b out'' → at + length x + length y ≤ length out → Lays out at (x ++ y) b out''
-lays-on {out} {at} {x} {a} {out'} {y} {b} {out''} k k' h = record {
+lays_on {out} {at} {x} {a} {out'} {y} {b} {out''} k k' h = record {
   cursor =
       k'.cursor
-      ∙ behind-in out' a y (omega (arith, size, cursor))
+      ∙ behind_in out' a y (omega (arith, size, cursor))
       ∙ simp length-append (omega (arith, cursor))
-      ∙ sym (behind-in out at (x ++ y) room);
+      ∙ sym (behind_in out at (x ++ y) room);
   bytes =
       k'.bytes
       ∙ laid_in out' a y (omega (arith, size, cursor))
@@ -121,10 +121,10 @@ lays-on {out} {at} {x} {a} {out'} {y} {b} {out''} k k' h = record {
 }
   where
     cursor : a ≡ at + length x
-    cursor = lays-cursor (omega arith) k
+    cursor = lays_cursor (omega arith) k
 
     size : length out' ≡ length out
-    size = lays-size k
+    size = lays_size k
 
     room : at + length (x ++ y) ≤ length out
     room = simp length-append (omega arith)
@@ -147,21 +147,21 @@ lays-on {out} {at} {x} {a} {out'} {y} {b} {out''} k k' h = record {
 
 -- ---- what a caller goes by: a text that has room at the start stands there, and its end is within the output
 
-pub lays-wrote : {out text : List ℕ} {r : ℕ} {out' : List ℕ} → length text ≤ length out → Lays out 0 text r out' → Wrote out text r out'
-lays-wrote {out} {text} h k =
+pub lays_wrote : {out text : List ℕ} {r : ℕ} {out' : List ℕ} → length text ≤ length out → Lays out 0 text r out' → Wrote out text r out'
+lays_wrote {out} {text} h k =
     let room : 0 + length text ≤ length out = omega arith in
     let e : 0 + length text ≡ length text = omega arith in
     record {
       room = h;
-      count = k.cursor ∙ behind-in out 0 text room ∙ e;
+      count = k.cursor ∙ behind_in out 0 text room ∙ e;
       bytes = k.bytes ∙ laid_in out 0 text room ∙ ap (λ (n : ℕ). text ++ drop n out) e;
     }
 
-pub wrote-size : {out text : List ℕ} {r : ℕ} {out' : List ℕ} → Wrote out text r out' → length out' ≡ length out
-wrote-size k = ap length k.bytes ∙ simp (length-append, length-drop) (omega (arith, k.room))
+pub wrote_size : {out text : List ℕ} {r : ℕ} {out' : List ℕ} → Wrote out text r out' → length out' ≡ length out
+wrote_size k = ap length k.bytes ∙ simp (length-append, length-drop) (omega (arith, k.room))
 
-pub wrote-inside : {out text : List ℕ} {r : ℕ} {out' : List ℕ} → Wrote out text r out' → r ≤ length out'
-wrote-inside k = omega (arith, k.room, k.count, wrote-size k)
+pub wrote_inside : {out text : List ℕ} {r : ℕ} {out' : List ℕ} → Wrote out text r out' → r ≤ length out'
+wrote_inside k = omega (arith, k.room, k.count, wrote_size k)
 
 -- any two outcomes that a contract allows coincide
 pub lays_one : {out : List ℕ} {at : ℕ} {text : List ℕ} {r r' : ℕ} {out' out'' : List ℕ} → Lays out at text r out' → Lays out at text r' out'' → (r ≡ r') × (out' ≡ out'')

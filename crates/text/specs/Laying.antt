@@ -23,14 +23,14 @@ pub record Wrote (out : List ℕ) (text : List ℕ) (r : ℕ) (out' : List ℕ) 
   pub bytes : out' ≡ text ++ drop (length text) out
 
 -- the last decimal digits of a number, at most n and no needless leading zero
-unfoldable pub lastDigits : ℕ → ℕ → List ℕ
-lastDigits zero n = []
-lastDigits (suc k) n = cond (ltb n 10) [] (lastDigits k (n / 10)) ++ (hex_digit_ascii (n % 10) ∷ [])
+unfoldable pub last_digits_lem : ℕ → ℕ → List ℕ
+last_digits_lem zero n = []
+last_digits_lem (suc k) n = cond (ltb n 10) [] (last_digits_lem k (n / 10)) ++ (hex_digit_ascii (n % 10) ∷ [])
 
 -- a number in decimal; one of 64 bits has at most 20 digits
-unfoldable pub decimalText : ℕ → List ℕ
-decimalText n = lastDigits 20 n
+unfoldable pub decimal_text : ℕ → List ℕ
+decimal_text n = last_digits_lem 20 n
 
 -- a whole number in decimal: its size, behind `-` (45) where it is negative
-unfoldable pub signedText : ℤ → List ℕ
-signedText z = cond (non_neg z) (decimalText (nat_abs z)) (45 ∷ decimalText (nat_abs z))
+unfoldable pub signed_text : ℤ → List ℕ
+signed_text z = cond (non_neg z) (decimal_text (nat_abs z)) (45 ∷ decimal_text (nat_abs z))

@@ -8,13 +8,13 @@ abbrev pub within : ℕ → ℕ → ℕ → Bool
 within from to byte = leb from byte && leb byte to
 
 -- the digit that a byte stands for, `0` to `9` and `a` to `f`, or 16
-unfoldable pub digitOf : ℕ → ℕ
-digitOf byte = cond (within 48 57 byte) (byte - 48) (cond (within 97 102 byte) (byte - 97 + 10) 16)
+unfoldable pub digit_of : ℕ → ℕ
+digit_of byte = cond (within 48 57 byte) (byte - 48) (cond (within 97 102 byte) (byte - 97 + 10) 16)
 
 -- a number with one digit more in a base, up to a bound
 unfoldable pub step_of : ℕ → ℕ → ℕ → ℕ → Number
 step_of base most value byte =
-    cond (ltb (digitOf byte) base && leb (value * base + digitOf byte) most) (Value (value * base + digitOf byte)) Bad
+    cond (ltb (digit_of byte) base && leb (value * base + digit_of byte) most) (Value (value * base + digit_of byte)) Bad
 
 -- a number that was read, handed on
 abbrev pub and_then : Number → (ℕ → Number) → Number
@@ -22,9 +22,9 @@ and_then Bad f = Bad
 and_then (Value value) f = f value
 
 -- a number with digits more in a base, up to a bound
-unfoldable pub followOf : ℕ → ℕ → ℕ → List ℕ → Number
-followOf base most value [] = Value value
-followOf base most value (byte ∷ digits) = and_then (step_of base most value byte) (λ longer. followOf base most longer digits)
+unfoldable pub follow_of : ℕ → ℕ → ℕ → List ℕ → Number
+follow_of base most value [] = Value value
+follow_of base most value (byte ∷ digits) = and_then (step_of base most value byte) (λ longer. follow_of base most longer digits)
 
 -- by the size of a word: empty, one byte, more
 unfoldable pub by_size : {A : Type 0} → A → (ℕ → A) → A → List ℕ → A
@@ -37,5 +37,5 @@ unfoldable pub plain_of : List ℕ → Bool
 plain_of word = by_size false (λ a. true) (not (eqb (get_or word 0 0) 48)) word
 
 -- the number up to a bound that a word stands for in decimal
-unfoldable pub parseOf : ℕ → List ℕ → Number
-parseOf most word = cond (plain_of word) (followOf 10 most 0 word) Bad
+unfoldable pub parse_of : ℕ → List ℕ → Number
+parse_of most word = cond (plain_of word) (follow_of 10 most 0 word) Bad

@@ -2,7 +2,7 @@
 use Rattle.std.specs.Prelude.{Bool, false, cond, List, [], ◌∷◌, ◌++◌, ℕ, ◌*◌, ◌/◌, leb, eqb, length, take, drop}
 use Rattle.io.specs.Digits.{last_digits}
 use Rattle.text.specs.Laying.{laid}
-use Rattle.text.specs.Numbers.{followOf, by_size}
+use Rattle.text.specs.Numbers.{follow_of, by_size}
 use Rattle.text.specs.declared.Number.{Number}
 use Rattle.text.specs.declared.Number.TheVariants as number
 use Rattle.text.specs.declared.Hexed.{Hexed}
@@ -10,7 +10,7 @@ use Rattle.text.specs.declared.Hexed.TheVariants as hexed
 
 -- the byte that a pair of hexadecimal digits stands for
 abbrev pub byte_of : List ℕ → Number
-byte_of pair = followOf 16 255 0 pair
+byte_of pair = follow_of 16 255 0 pair
 
 -- the pair by its index in a word
 unfoldable pub pair_at : List ℕ → ℕ → Number
@@ -22,30 +22,30 @@ before number.Bad bytes = []
 before (number.Value byte) bytes = byte ∷ bytes
 
 -- the bytes that pairs stand for, up to the first pair that stands for none
-unfoldable pub pairsOf : List ℕ → List ℕ
-pairsOf [] = []
-pairsOf (a ∷ []) = []
-pairsOf (a ∷ (b ∷ word)) = before (byte_of (a ∷ (b ∷ []))) (pairsOf word)
+unfoldable pub pairs_of : List ℕ → List ℕ
+pairs_of [] = []
+pairs_of (a ∷ []) = []
+pairs_of (a ∷ (b ∷ word)) = before (byte_of (a ∷ (b ∷ []))) (pairs_of word)
 
 -- whether a word stands for a byte string: `-` (45) does, and pairs that all stand for a byte
-unfoldable pub readableOf : List ℕ → Bool
-readableOf word = by_size false (λ a. eqb a 45) (eqb (length (pairsOf word) * 2) (length word)) word
+unfoldable pub readable_of : List ℕ → Bool
+readable_of word = by_size false (λ a. eqb a 45) (eqb (length (pairs_of word) * 2) (length word)) word
 
 -- the answer: how many bytes, where the word stands for some that have room in an output of n
-unfoldable pub hexedOf : ℕ → List ℕ → Hexed
-hexedOf size word =
-    cond (readableOf word) (cond (leb (length word / 2) size) (hexed.Long (length word / 2)) hexed.Bad) hexed.Bad
+unfoldable pub hexed_of : ℕ → List ℕ → Hexed
+hexed_of size word =
+    cond (readable_of word) (cond (leb (length word / 2) size) (hexed.Long (length word / 2)) hexed.Bad) hexed.Bad
 
 -- the output: the bytes at its start, where the word stands for some that have room
 unfoldable pub unhexed : List ℕ → List ℕ → List ℕ
-unhexed out word = cond (readableOf word) (laid out 0 (pairsOf word)) out
+unhexed out word = cond (readable_of word) (laid out 0 (pairs_of word)) out
 
 -- bytes as pairs of digits
-unfoldable pub pairsText : List ℕ → List ℕ
-pairsText [] = []
-pairsText (byte ∷ bytes) = last_digits 16 2 byte ++ pairsText bytes
+unfoldable pub pairs_text : List ℕ → List ℕ
+pairs_text [] = []
+pairs_text (byte ∷ bytes) = last_digits 16 2 byte ++ pairs_text bytes
 
 -- a byte string as text: `-` (45) is the empty one
-unfoldable pub bytesText : List ℕ → List ℕ
-bytesText [] = 45 ∷ []
-bytesText (byte ∷ bytes) = pairsText (byte ∷ bytes)
+unfoldable pub bytes_text : List ℕ → List ℕ
+bytes_text [] = 45 ∷ []
+bytes_text (byte ∷ bytes) = pairs_text (byte ∷ bytes)

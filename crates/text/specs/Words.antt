@@ -7,13 +7,13 @@ unfoldable pub head_of : List ℕ → List ℕ
 head_of line = take (indexOf 32 line) line
 
 -- a line from its first space on
-unfoldable pub tailOf : List ℕ → List ℕ
-tailOf line = drop (indexOf 32 line) line
+unfoldable pub tail_of : List ℕ → List ℕ
+tail_of line = drop (indexOf 32 line) line
 
 -- the next word of a rest that starts with a space
 abbrev pub word_of : List ℕ → List ℕ
 word_of rest = head_of (drop 1 rest)
 
 -- the rest behind that word
-abbrev pub beyondOf : List ℕ → List ℕ
-beyondOf rest = tailOf (drop 1 rest)
+abbrev pub beyond_of : List ℕ → List ℕ
+beyond_of rest = tail_of (drop 1 rest)

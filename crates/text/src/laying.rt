@@ -1,7 +1,7 @@
 // Texts laid into an output at a cursor. Each function gives the cursor behind its text; a text that has no room is
 // left out whole.
 ghost use Rattle.std.specs.Prelude.{◌≡◌, ◌∷◌, nat_abs};
-ghost use Rattle.text.specs.Laying.{Lays, decimalText, signedText};
+ghost use Rattle.text.specs.Laying.{Lays, decimal_text, signed_text};
 
 // Lays a text.
 pub fn put(out: &mut [u8], at: usize, text: &[u8]) -> usize
@@ -18,7 +18,7 @@ pub fn put(out: &mut [u8], at: usize, text: &[u8]) -> usize
 
 // Lays a number in decimal.
 pub fn put_number(out: &mut [u8], at: usize, value: u64) -> usize
-    ensures { Lays out.old at (decimalText value) result out.new }
+    ensures { Lays out.old at (decimal_text value) result out.new }
 {
     let mut text = [0u8; 20];
     let n = io::decimal(value, &mut text);
@@ -27,7 +27,7 @@ pub fn put_number(out: &mut [u8], at: usize, value: u64) -> usize
 
 // Lays a number in decimal with `-` before it.
 fn put_negative(out: &mut [u8], at: usize, value: u64) -> usize
-    ensures { Lays out.old at (45 ∷ decimalText value) result out.new }
+    ensures { Lays out.old at (45 ∷ decimal_text value) result out.new }
 {
     let mut text = [b'-'; 21];
     let n = put_number(&mut text, 1, value);
@@ -46,7 +46,7 @@ fn magnitude(value: i64) -> u64
 
 // Lays a whole number in decimal.
 pub fn put_signed(out: &mut [u8], at: usize, value: i64) -> usize
-    ensures { Lays out.old at (signedText value) result out.new }
+    ensures { Lays out.old at (signed_text value) result out.new }
 {
     let size = magnitude(value);
     if value >= 0 {

@@ -1,6 +1,6 @@
 // Numbers read from digits.
 ghost use Rattle.std.specs.Prelude.{◌≡◌, ◌<◌};
-ghost use Rattle.text.specs.Numbers.{digitOf, step_of, followOf, plain_of, parseOf};
+ghost use Rattle.text.specs.Numbers.{digit_of, step_of, follow_of, plain_of, parse_of};
 
 use crate::Number;
 
@@ -8,7 +8,7 @@ const DECIMAL: u64 = 10;
 
 // The digit that a byte stands for, 0 to 15, or 16.
 fn digit(byte: u8) -> u64
-    ensures { result ≡ digitOf byte }
+    ensures { result ≡ digit_of byte }
 {
     match byte {
         b'0'..=b'9' => (byte - b'0') as u64,
@@ -38,7 +38,7 @@ fn step(value: u64, byte: u8, base: u64, most: u64) -> Number
 // The number that digits stand for, up to a bound.
 pub(crate) fn follow(digits: &[u8], base: u64, most: u64) -> Number
     requires { 0 < base }
-    ensures { result ≡ followOf base most 0 digits.now }
+    ensures { result ≡ follow_of base most 0 digits.now }
 {
     let mut value: u64 = 0;
     let mut i = 0;
@@ -67,7 +67,7 @@ fn plain(word: &[u8]) -> bool
 
 // The number up to a bound that a word stands for in decimal.
 pub fn parse(word: &[u8], most: u64) -> Number
-    ensures { result ≡ parseOf most word.now }
+    ensures { result ≡ parse_of most word.now }
 {
     if plain(word) {
         return follow(word, DECIMAL, most);

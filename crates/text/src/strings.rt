@@ -2,7 +2,7 @@
 ghost use Rattle.std.specs.Prelude.{◌≡◌, ◌+◌, ◌*◌, ◌/◌, ◌≤◌, length};
 ghost use Rattle.io.specs.Digits.{last_digits};
 ghost use Rattle.text.specs.Laying.{Lays, laid};
-ghost use Rattle.text.specs.Strings.{pair_at, pairsOf, readableOf, hexedOf, unhexed, pairsText, bytesText};
+ghost use Rattle.text.specs.Strings.{pair_at, pairs_of, readable_of, hexed_of, unhexed, pairs_text, bytes_text};
 
 use crate::laying::put;
 use crate::numbers::follow;
@@ -27,7 +27,7 @@ fn pair(word: &[u8], i: usize) -> Number
 
 // How many pairs of a word stand for a byte, up to the first that doesn't.
 fn pairs(word: &[u8]) -> usize
-    ensures { result ≡ length (pairsOf word.now) }
+    ensures { result ≡ length (pairs_of word.now) }
 {
     let n = word.len() / 2;
     let mut i = 0;
@@ -43,7 +43,7 @@ fn pairs(word: &[u8]) -> usize
 // Lays the bytes of those pairs at the start of an output.
 fn unpair(word: &[u8], out: &mut [u8])
     requires { length word.now / 2 ≤ length out.old }
-    ensures { out.new ≡ laid out.old 0 (pairsOf word.now) }
+    ensures { out.new ≡ laid out.old 0 (pairs_of word.now) }
 {
     let n = word.len() / 2;
     let mut i = 0;
@@ -58,7 +58,7 @@ fn unpair(word: &[u8], out: &mut [u8])
 
 // Whether a word stands for a byte string.
 fn readable(word: &[u8]) -> bool
-    ensures { result ≡ readableOf word.now }
+    ensures { result ≡ readable_of word.now }
 {
     if word.len() == 0 {
         return false;
@@ -71,7 +71,7 @@ fn readable(word: &[u8]) -> bool
 
 // The byte string that a word stands for, laid at the start of an output. A refused word leaves the output as it was.
 pub fn unhex(word: &[u8], out: &mut [u8]) -> Hexed
-    ensures value { result ≡ hexedOf (length out.old) word.now }
+    ensures value { result ≡ hexed_of (length out.old) word.now }
     ensures out_after { out.new ≡ unhexed out.old word.now }
 {
     let n = word.len() / 2;
@@ -97,7 +97,7 @@ fn put_byte(out: &mut [u8], at: usize, byte: u8) -> usize
 // Lays bytes as pairs of digits.
 fn put_pairs(out: &mut [u8], at: usize, bytes: &[u8]) -> usize
     requires { at + length bytes.now * 2 ≤ length out.old }
-    ensures { Lays out.old at (pairsText bytes.now) result out.new }
+    ensures { Lays out.old at (pairs_text bytes.now) result out.new }
 {
     let mut end = at;
     let mut i = 0;
@@ -110,7 +110,7 @@ fn put_pairs(out: &mut [u8], at: usize, bytes: &[u8]) -> usize
 
 // Lays a byte string.
 pub fn put_bytes(out: &mut [u8], at: usize, bytes: &[u8]) -> usize
-    ensures { Lays out.old at (bytesText bytes.now) result out.new }
+    ensures { Lays out.old at (bytes_text bytes.now) result out.new }
 {
     if bytes.len() == 0 {
         return put(out, at, b"-");

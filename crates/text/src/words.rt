@@ -1,7 +1,7 @@
 // Words of a line, with one space between two. A rest of a line keeps the space that it starts with, so that a missing
 // word and a doubled space both show as an empty word.
 ghost use Rattle.std.specs.Prelude.{◌≡◌, drop};
-ghost use Rattle.text.specs.Words.{head_of, tailOf, word_of, beyondOf};
+ghost use Rattle.text.specs.Words.{head_of, tail_of, word_of, beyond_of};
 
 // The first word of a line.
 pub fn head(line: &[u8]) -> &[u8]
@@ -13,7 +13,7 @@ pub fn head(line: &[u8]) -> &[u8]
 
 // The line behind its first word.
 pub fn tail(line: &[u8]) -> &[u8]
-    ensures { result.now ≡ tailOf line.now }
+    ensures { result.now ≡ tail_of line.now }
 {
     let end = bytes::scan::find(line, 0, line.len(), b' ');
     &line[end..]
@@ -38,7 +38,7 @@ pub fn word(rest: &[u8]) -> &[u8]
 
 // The rest behind that word.
 pub fn beyond(rest: &[u8]) -> &[u8]
-    ensures { result.now ≡ beyondOf rest.now }
+    ensures { result.now ≡ beyond_of rest.now }
 {
     tail(stripped(rest))
 }

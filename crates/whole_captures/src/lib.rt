@@ -1,9 +1,9 @@
 // A whole capture in memory: its counts, and its verdicts. `report` and `judge` come to the same, piece by piece. Exports to measure by, from Rust or C (bench/).
 ghost use Rattle.std.specs.Prelude.{◌≡◌, length, replicate};
-ghost use Rattle.records.specs.Files.{reportsOf};
-ghost use Rattle.records.specs.Endings.{refusalOf};
-ghost use Rattle.census.specs.Counts.{outcomesOf, countAll};
-ghost use Rattle.conduct.specs.Words.{judgedAll};
+ghost use Rattle.records.specs.Files.{reports_of};
+ghost use Rattle.records.specs.Endings.{refusal_of};
+ghost use Rattle.census.specs.Counts.{outcomes_of, count_all};
+ghost use Rattle.conduct.specs.Words.{judged_all};
 
 use ethernet::Ports;
 use quantity::count::DatalinkId;
@@ -11,8 +11,8 @@ use records::Came;
 
 // Counts record after record. Gives the number by which the capture is refused, or 0.
 fn count(capture: &[u8], counts: &mut [u64], ports: Ports, id: DatalinkId) -> u8
-    ensures refusal { result ≡ refusalOf capture.now }
-    ensures counts { counts.new ≡ countAll (outcomesOf ports id (reportsOf capture.now)) counts.old }
+    ensures refusal { result ≡ refusal_of capture.now }
+    ensures counts { counts.new ≡ count_all (outcomes_of ports id (reports_of capture.now)) counts.old }
 {
     let mut input = records::held(capture.len());
     loop {
@@ -34,7 +34,7 @@ fn count(capture: &[u8], counts: &mut [u64], ports: Ports, id: DatalinkId) -> u8
 
 // Judges record after record, by their numbers from 1.
 fn judge(capture: &[u8], words: &mut [u64], ports: Ports, id: DatalinkId)
-    ensures { words.new ≡ judgedAll ports id 1 (reportsOf capture.now) words.old }
+    ensures { words.new ≡ judged_all ports id 1 (reports_of capture.now) words.old }
 {
     let mut input = records::held(capture.len());
     let mut number: u64 = 0;
@@ -68,8 +68,8 @@ pub extern "C" fn nespovarda_census(
     ips: usize,
     id: u8,
 ) -> u8
-    ensures refusal { result ≡ refusalOf capture.now }
-    ensures counts { counts.new ≡ countAll (outcomesOf (record { radio = radio; ips = ips }) (record { 0 = id }) (reportsOf capture.now)) counts.old }
+    ensures refusal { result ≡ refusal_of capture.now }
+    ensures counts { counts.new ≡ count_all (outcomes_of (record { radio = radio; ips = ips }) (record { 0 = id }) (reports_of capture.now)) counts.old }
 {
     count(capture, counts, Ports { radio, ips }, DatalinkId(id))
 }
@@ -83,7 +83,7 @@ pub extern "C" fn nespovarda_verdicts(
     ips: usize,
     id: u8,
 )
-    ensures { words.new ≡ judgedAll (record { radio = radio; ips = ips }) (record { 0 = id }) 1 (reportsOf capture.now) (replicate (length words.old) 0) }
+    ensures { words.new ≡ judged_all (record { radio = radio; ips = ips }) (record { 0 = id }) 1 (reports_of capture.now) (replicate (length words.old) 0) }
 {
     conduct::start(words);
     judge(capture, words, Ports { radio, ips }, DatalinkId(id));

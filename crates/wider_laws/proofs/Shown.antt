@@ -3,27 +3,27 @@ use Prim.Native.Nat.{ℕ}
 use mathlib.Core.Bool.{true, false}
 use mathlib.Core.Path.{◌≡◌}
 use Rattle.meaning.specs.Kinds.{among}
-use Rattle.ips_state.specs.State.{State, noStart, channelAt, fresh_of}
-use Rattle.ips_state.specs.Limits.{ids, indexOf, stateFitsUnder}
+use Rattle.ips_state.specs.State.{State, no_start, channel_at, fresh_of}
+use Rattle.ips_state.specs.Limits.{ids, indexOf, state_fits_under}
 use Rattle.ips_words_survey.specs.declared.place.Place.{Place}
 use Rattle.ips_words_survey.specs.Places.{found_at}
 use Rattle.endpoint.specs.declared.shown.KeptAnswer.{KeptAnswer}
-use Rattle.endpoint.specs.Shown.{shownOf, keptOf}
-use Rattle.endpoint.proofs.Showing.{shown-twelve, shown-channel}
+use Rattle.endpoint.specs.Shown.{shown_of, kept_of}
+use Rattle.endpoint.proofs.Showing.{shown_twelve, shown_channel}
 use Rattle.wider_laws.specs.Earlier.{EARLIER-LIMITS}
-use Rattle.wider_laws.proofs.Widened.{widened-state}
+use Rattle.wider_laws.proofs.Widened.{widened_state}
 
-module _ (s : State) (fits : stateFitsUnder EARLIER-LIMITS s ≡ true) where
+module _ (s : State) (fits : state_fits_under EARLIER-LIMITS s ≡ true) where
   -- Link Instance and Context as they are kept
-  pub widened-kept : keptOf s ≡ KeptAnswer.Kept s.instance s.context
-  unfolding keptOf
-  widened-kept = rw (widened-state s fits)
+  pub widened_kept : kept_of s ≡ KeptAnswer.Kept s.instance s.context
+  unfolding kept_of
+  widened_kept = rw (widened_state s fits)
 
   -- a configured channel as it stands
-  pub widened-shown : (id : ℕ) → among id (ids s.channels) ≡ true
-      → let index = indexOf id (ids s.channels) in shownOf s id ≡ record { place = Place.At (found_at s index); channel = channelAt s index }
-  widened-shown id known = shown-channel s id (widened-state s fits) known
+  pub widened_shown : (id : ℕ) → among id (ids s.channels) ≡ true
+      → let index = indexOf id (ids s.channels) in shown_of s id ≡ record { place = Place.At (found_at s index); channel = channel_at s index }
+  widened_shown id known = shown_channel s id (widened_state s fits) known
 
   -- 12 where no channel has the ID, and no channel's numbers
-  pub widened-unknown : (id : ℕ) → among id (ids s.channels) ≡ false → shownOf s id ≡ record { place = Place.Refused 12; channel = fresh_of noStart }
-  widened-unknown id unknown = shown-twelve s id (widened-state s fits) unknown
+  pub widened_unknown : (id : ℕ) → among id (ids s.channels) ≡ false → shown_of s id ≡ record { place = Place.Refused 12; channel = fresh_of no_start }
+  widened_unknown id unknown = shown_twelve s id (widened_state s fits) unknown

@@ -12,65 +12,65 @@ use lib.ListN.{length}
 use Rattle.quantity.specs.Limits.{FEWEST-CHANNELS, Limits, CURRENT-LIMITS}
 use Rattle.ipv6.specs.FixedHeader.{FixedHeader}
 use Rattle.store.specs.Packets.{Packet, alive}
-use Rattle.store.proofs.Held.{waiting-of}
-use Rattle.ips_channel_rules.specs.Rules.{Taken, taken, refused, answered, longestOn, Condition, Result, offerAt}
+use Rattle.store.proofs.Held.{waiting_of}
+use Rattle.ips_channel_rules.specs.Rules.{Taken, taken, refused, answered, longest_on, Condition, Result, offer_at}
 use Rattle.ips_channel_rules.specs.Machine.{machine}
-use Rattle.ips_channel_rules.proofs.Limits.{machine-limited}
-use Rattle.ips_channel_rules.proofs.CallCases.{offer-fourteen, offer-where-none-waits}
+use Rattle.ips_channel_rules.proofs.Limits.{machine_limited}
+use Rattle.ips_channel_rules.proofs.CallCases.{offer_fourteen, offer_where_none_waits}
 use Rattle.ips_channel.specs.declared.state.DatalinkSetting.{DatalinkSetting}
 use Rattle.ips_channel.specs.declared.state.Setting.{Setting}
-use Rattle.ips_channel.specs.Channel.{termsUnder, termsOf, freshChannel}
-use Rattle.ips_state.specs.State.{ChannelStart, Configuration, State, channelAt, fresh_of, freshState}
-use Rattle.ips_state.specs.Limits.{waitsFit, stateFitsUnder, stateFits, countFitsUnder, configurationFitsUnder}
-use Rattle.ips_state.specs.Memory.{worldFitsUnder, worldFits}
+use Rattle.ips_channel.specs.Channel.{terms_under, terms_of, fresh_channel}
+use Rattle.ips_state.specs.State.{ChannelStart, Configuration, State, channel_at, fresh_of, fresh_state}
+use Rattle.ips_state.specs.Limits.{waits_fit, state_fits_under, state_fits, count_fits_under, configuration_fits_under}
+use Rattle.ips_state.specs.Memory.{world_fits_under, world_fits}
 use Rattle.ips_state.specs.declared.StartAnswer.{StartAnswer}
-use Rattle.ips_state.proofs.Places.{channel-fitting-at, fresh-count}
-use Rattle.ips_run.specs.Run.{Call, freshWorld}
+use Rattle.ips_state.proofs.Places.{channel_fitting_at, fresh_count}
+use Rattle.ips_run.specs.Run.{Call, fresh_world}
 use Rattle.ips_run.specs.Demand.{BytesIn}
-use Rattle.ips_run.proofs.Fresh.{fresh-order}
-use Rattle.ips_calls.specs.Replies.{EndpointReply, replyUnder, replyOf}
-use Rattle.ips_words_start.specs.Start.{configurationIn, startsInUnder, startsIn, StartedIn}
-use Rattle.endpoint.specs.Lent.{Lent, worldIn, afterInUnder, afterIn}
+use Rattle.ips_run.proofs.Fresh.{fresh_order}
+use Rattle.ips_calls.specs.Replies.{EndpointReply, reply_under, reply_of}
+use Rattle.ips_words_start.specs.Start.{configuration_in, starts_in_under, starts_in, StartedIn}
+use Rattle.endpoint.specs.Lent.{Lent, world_in, after_in_under, after_in}
 use Rattle.endpoint.specs.Ran.{RanIn, over, ran}
-use Rattle.endpoint.proofs.Whole.{started-in}
-use Rattle.wider_laws.specs.Earlier.{EARLIER-LIMITS, Raised, Short, Each, fitsForUnder, afterAllUnder, repliesUnder, EarlierWithin, SameUnder, StartedAsBefore}
-use Rattle.wider_laws.proofs.Each.{each-every, each_map}
-use Rattle.wider_laws.proofs.Fitting.{ShortQueue, Bounded, state-bounded, bounded-fits, state-raised, world-raised, starts-raised}
-use Rattle.wider_laws.proofs.Calling.{reply-same, after_same}
-use Rattle.wider_laws.proofs.Keeping.{fits-stay, ordered-fits, fits-for, fits-left}
+use Rattle.endpoint.proofs.Whole.{started_in}
+use Rattle.wider_laws.specs.Earlier.{EARLIER-LIMITS, Raised, Short, Each, fits_for_under, after_all_under, replies_under, EarlierWithin, SameUnder, StartedAsBefore}
+use Rattle.wider_laws.proofs.Each.{each_every, each_map}
+use Rattle.wider_laws.proofs.Fitting.{ShortQueue, Bounded, state_bounded, bounded_fits, state_raised, world_raised, starts_raised}
+use Rattle.wider_laws.proofs.Calling.{reply_same, after_same}
+use Rattle.wider_laws.proofs.Keeping.{fits_stay, ordered_fits, fits_for, fits_left}
 
 -- ---- any narrower limits than those in force
 module _ (narrow : Limits) (up : Raised narrow CURRENT-LIMITS) where
-  pub same-under : (wide : Limits) → Raised narrow wide → (cs : List Call) → BytesIn cs → Each (Short narrow.packet) cs → (l : Lent) → worldFitsUnder narrow (worldIn l) ≡ true
+  pub same_under : (wide : Limits) → Raised narrow wide → (cs : List Call) → BytesIn cs → Each (Short narrow.packet) cs → (l : Lent) → world_fits_under narrow (world_in l) ≡ true
       → SameUnder narrow wide cs l
-  same-under wide more [] bytes short l fits = record { replies = refl; lent-left = refl }
-  same-under wide more (c ∷ cs) bytes short l fits =
-      let given = fits-for narrow c (worldIn l) fits in
+  same_under wide more [] bytes short l fits = record { replies = refl; lent_left = refl }
+  same_under wide more (c ∷ cs) bytes short l fits =
+      let given = fits_for narrow c (world_in l) fits in
       let left = after_same narrow wide more c short.0 l given in
-      let rest = same-under wide more cs bytes.1 short.1 (afterInUnder narrow c l) (fits-left narrow up l fits c bytes.0) in
+      let rest = same_under wide more cs bytes.1 short.1 (after_in_under narrow c l) (fits_left narrow up l fits c bytes.0) in
       record {
-        replies = rw (reply-same narrow wide more c short.0 (worldIn l) given, left) (ap (λ (xs : List EndpointReply). replyUnder narrow c (worldIn l) ∷ xs) rest.replies);
-        lent-left = rw left rest.lent-left;
+        replies = rw (reply_same narrow wide more c short.0 (world_in l) given, left) (ap (λ (xs : List EndpointReply). reply_under narrow c (world_in l) ∷ xs) rest.replies);
+        lent_left = rw left rest.lent_left;
       }
 
   -- packets of any length among them
-  all_left : (cs : List Call) → BytesIn cs → (l : Lent) → worldFitsUnder narrow (worldIn l) ≡ true → worldFitsUnder narrow (worldIn (afterAllUnder narrow cs l)) ≡ true
+  all_left : (cs : List Call) → BytesIn cs → (l : Lent) → world_fits_under narrow (world_in l) ≡ true → world_fits_under narrow (world_in (after_all_under narrow cs l)) ≡ true
   all_left [] bytes l fits = fits
-  all_left (c ∷ cs) bytes l fits = all_left cs bytes.1 (afterInUnder narrow c l) (fits-left narrow up l fits c bytes.0)
+  all_left (c ∷ cs) bytes l fits = all_left cs bytes.1 (after_in_under narrow c l) (fits_left narrow up l fits c bytes.0)
 
   -- ---- a fresh start
-  fresh-short : (k : ChannelStart) → ShortQueue narrow.packet (fresh_of k)
-  unfolding freshChannel
-  fresh-short k = rw (waiting-of []) tt
+  fresh_short : (k : ChannelStart) → ShortQueue narrow.packet (fresh_of k)
+  unfolding fresh_channel
+  fresh_short k = rw (waiting_of []) tt
 
-  fresh-bounded : (k : Configuration) → configurationFitsUnder narrow.channels k ≡ true → Bounded narrow (freshState k)
-  unfolding configurationFitsUnder freshState
-  fresh-bounded k h =
-      let a = (and-eq-true_iff (countFitsUnder narrow.channels (length k.starts)) _).0 h in
+  fresh_bounded : (k : Configuration) → configuration_fits_under narrow.channels k ≡ true → Bounded narrow (fresh_state k)
+  unfolding configuration_fits_under fresh_state
+  fresh_bounded k h =
+      let a = (and-eq-true_iff (count_fits_under narrow.channels (length k.starts)) _).0 h in
       let b = (and-eq-true_iff (leb FEWEST-CHANNELS (length k.starts)) _).0 a.0 in
       record {
-        few = omega (arith, fresh-count k, leb-true (length k.starts) narrow.channels b.1);
-        short = each_map (ShortQueue narrow.packet) fresh_of k.starts (each-every fresh-short k.starts);
+        few = omega (arith, fresh_count k, leb-true (length k.starts) narrow.channels b.1);
+        short = each_map (ShortQueue narrow.packet) fresh_of k.starts (each_every fresh_short k.starts);
       }
 
 -- ---- from the limits of document 01 to those of document 02
@@ -78,92 +78,92 @@ raised : Raised EARLIER-LIMITS CURRENT-LIMITS
 raised = record { channels = omega arith; packet = omega arith }
 
 -- "19 moves with the limits": a state that fitted fits
-pub widened-state : (s : State) → stateFitsUnder EARLIER-LIMITS s ≡ true → stateFits s ≡ true
-widened-state = state-raised EARLIER-LIMITS CURRENT-LIMITS raised
+pub widened_state : (s : State) → state_fits_under EARLIER-LIMITS s ≡ true → state_fits s ≡ true
+widened_state = state_raised EARLIER-LIMITS CURRENT-LIMITS raised
 
 -- what 19 asked before, in literal numbers
-pub earlier-exactly : (s : State) → (stateFitsUnder EARLIER-LIMITS s ≡ true) ↔ EarlierWithin s
-earlier-exactly s = (
-  λ h. let b = state-bounded EARLIER-LIMITS s h in record { fits = widened-state s h; few = b.few; short = b.short },
-  λ x. bounded-fits CURRENT-LIMITS EARLIER-LIMITS s x.fits (record { few = x.few; short = x.short }),
+pub earlier_exactly : (s : State) → (state_fits_under EARLIER-LIMITS s ≡ true) ↔ EarlierWithin s
+earlier_exactly s = (
+  λ h. let b = state_bounded EARLIER-LIMITS s h in record { fits = widened_state s h; few = b.few; short = b.short },
+  λ x. bounded_fits CURRENT-LIMITS EARLIER-LIMITS s x.fits (record { few = x.few; short = x.short }),
 )
 
 -- and 14 was given above 1,500 bytes, whatever the store
-pub earlier-longest : (s : State) → stateFitsUnder EARLIER-LIMITS s ≡ true → (index : ℕ) → index < length s.channels
-    → longestOn (termsUnder EARLIER-LIMITS.packet s.datalink (channelAt s index).setting) ≡ 1500
-earlier-longest s h index inside = rw (le-leb 1500 (channelAt s index).setting.size.0 (channel-fitting-at s (widened-state s h) index inside).smallest)
+pub earlier_longest : (s : State) → state_fits_under EARLIER-LIMITS s ≡ true → (index : ℕ) → index < length s.channels
+    → longest_on (terms_under EARLIER-LIMITS.packet s.datalink (channel_at s index).setting) ≡ 1500
+earlier_longest s h index inside = rw (le-leb 1500 (channel_at s index).setting.size.0 (channel_fitting_at s (widened_state s h) index inside).smallest)
 
 -- "A store filled under the old limit must be taken over unchanged": words and memory that fitted fit as they stand
-pub widened-fits : (l : Lent) → worldFitsUnder EARLIER-LIMITS (worldIn l) ≡ true → worldFits (worldIn l) ≡ true
-widened-fits l = world-raised EARLIER-LIMITS CURRENT-LIMITS raised (worldIn l)
+pub widened_fits : (l : Lent) → world_fits_under EARLIER-LIMITS (world_in l) ≡ true → world_fits (world_in l) ≡ true
+widened_fits l = world_raised EARLIER-LIMITS CURRENT-LIMITS raised (world_in l)
 
 -- each call with a packet of at most 1,500 bytes replies as it did, the output's bytes among it
-pub widened-reply : (c : Call) → Short 1500 c → (l : Lent) → fitsForUnder EARLIER-LIMITS c (worldIn l) ≡ true → replyOf c (worldIn l) ≡ replyUnder EARLIER-LIMITS c (worldIn l)
-widened-reply c short l = reply-same EARLIER-LIMITS CURRENT-LIMITS raised c short (worldIn l)
+pub widened_reply : (c : Call) → Short 1500 c → (l : Lent) → fits_for_under EARLIER-LIMITS c (world_in l) ≡ true → reply_of c (world_in l) ≡ reply_under EARLIER-LIMITS c (world_in l)
+widened_reply c short l = reply_same EARLIER-LIMITS CURRENT-LIMITS raised c short (world_in l)
 
 -- and leaves every word and every byte of the memory as it did
-pub widened-after : (c : Call) → Short 1500 c → (l : Lent) → fitsForUnder EARLIER-LIMITS c (worldIn l) ≡ true → afterIn c l ≡ afterInUnder EARLIER-LIMITS c l
-widened-after = after_same EARLIER-LIMITS CURRENT-LIMITS raised
+pub widened_after : (c : Call) → Short 1500 c → (l : Lent) → fits_for_under EARLIER-LIMITS c (world_in l) ≡ true → after_in c l ≡ after_in_under EARLIER-LIMITS c l
+widened_after = after_same EARLIER-LIMITS CURRENT-LIMITS raised
 
 -- THE STATEMENT: and so any calls
-pub widened : (cs : List Call) → BytesIn cs → Each (Short 1500) cs → (l : Lent) → worldFitsUnder EARLIER-LIMITS (worldIn l) ≡ true → SameUnder EARLIER-LIMITS CURRENT-LIMITS cs l
-widened = same-under EARLIER-LIMITS raised CURRENT-LIMITS raised
+pub widened : (cs : List Call) → BytesIn cs → Each (Short 1500) cs → (l : Lent) → world_fits_under EARLIER-LIMITS (world_in l) ≡ true → SameUnder EARLIER-LIMITS CURRENT-LIMITS cs l
+widened = same_under EARLIER-LIMITS raised CURRENT-LIMITS raised
 
 -- what any calls, with packets of any length, left under the old limits is taken over
-pub taken-over : (cs : List Call) → BytesIn cs → (l : Lent) → worldFitsUnder EARLIER-LIMITS (worldIn l) ≡ true → worldFits (worldIn (afterAllUnder EARLIER-LIMITS cs l)) ≡ true
-taken-over cs bytes l fits = widened-fits (afterAllUnder EARLIER-LIMITS cs l) (all_left EARLIER-LIMITS raised cs bytes l fits)
+pub taken_over : (cs : List Call) → BytesIn cs → (l : Lent) → world_fits_under EARLIER-LIMITS (world_in l) ≡ true → world_fits (world_in (after_all_under EARLIER-LIMITS cs l)) ≡ true
+taken_over cs bytes l fits = widened_fits (after_all_under EARLIER-LIMITS cs l) (all_left EARLIER-LIMITS raised cs bytes l fits)
 
 -- ---- the code's own outcomes
-ran-under : {l last : Lent} {cs : List Call} {xs : List EndpointReply} → RanIn l cs xs last → (xs ≡ repliesUnder CURRENT-LIMITS cs l) × (last ≡ afterAllUnder CURRENT-LIMITS cs l)
-ran-under over = (refl, refl)
-ran-under (ran {cs} h more) =
-    let rest = ran-under more in
-    (rw (h.reply-is, rest.0, h.lent_is), rest.1 ∙ ap (afterAllUnder CURRENT-LIMITS cs) h.lent_is)
+ran_under : {l last : Lent} {cs : List Call} {xs : List EndpointReply} → RanIn l cs xs last → (xs ≡ replies_under CURRENT-LIMITS cs l) × (last ≡ after_all_under CURRENT-LIMITS cs l)
+ran_under over = (refl, refl)
+ran_under (ran {cs} h more) =
+    let rest = ran_under more in
+    (rw (h.reply_is, rest.0, h.lent_is), rest.1 ∙ ap (after_all_under CURRENT-LIMITS cs) h.lent_is)
 
 -- as they are now they are what the definitions gave before
-pub widened-own : {l last : Lent} {cs : List Call} {xs : List EndpointReply} → BytesIn cs → Each (Short 1500) cs → worldFitsUnder EARLIER-LIMITS (worldIn l) ≡ true → RanIn l cs xs last
-    → (xs ≡ repliesUnder EARLIER-LIMITS cs l) × (last ≡ afterAllUnder EARLIER-LIMITS cs l)
-widened-own {l} {cs = cs} bytes short fits run =
-    let own = ran-under run in
+pub widened_own : {l last : Lent} {cs : List Call} {xs : List EndpointReply} → BytesIn cs → Each (Short 1500) cs → world_fits_under EARLIER-LIMITS (world_in l) ≡ true → RanIn l cs xs last
+    → (xs ≡ replies_under EARLIER-LIMITS cs l) × (last ≡ after_all_under EARLIER-LIMITS cs l)
+widened_own {l} {cs = cs} bytes short fits run =
+    let own = ran_under run in
     let same = widened cs bytes short l fits in
-    (own.0 ∙ same.replies, own.1 ∙ same.lent-left)
+    (own.0 ∙ same.replies, own.1 ∙ same.lent_left)
 
 -- no calls, with packets of any length, lead from words that 19 lets pass to words that it refuses
-pub never-nineteen : {l last : Lent} {cs : List Call} {xs : List EndpointReply} → BytesIn cs → worldFits (worldIn l) ≡ true → RanIn l cs xs last → worldFits (worldIn last) ≡ true
-never-nineteen bytes fits over = fits
-never-nineteen bytes fits (ran {l} {c = c} h more) = never-nineteen bytes.1 (ap (λ (x : Lent). worldFits (worldIn x)) h.lent_is ∙ fits-stay c bytes.0 l fits) more
+pub never_nineteen : {l last : Lent} {cs : List Call} {xs : List EndpointReply} → BytesIn cs → world_fits (world_in l) ≡ true → RanIn l cs xs last → world_fits (world_in last) ≡ true
+never_nineteen bytes fits over = fits
+never_nineteen bytes fits (ran {l} {c = c} h more) = never_nineteen bytes.1 (ap (λ (x : Lent). world_fits (world_in x)) h.lent_is ∙ fits_stay c bytes.0 l fits) more
 
 -- ---- a fresh start
-bounded-world : (k : Configuration) → configurationFitsUnder 16 k ≡ true → Bounded EARLIER-LIMITS (freshWorld k).state
-unfolding freshWorld
-bounded-world k fits = fresh-bounded EARLIER-LIMITS raised k fits
+bounded_world : (k : Configuration) → configuration_fits_under 16 k ≡ true → Bounded EARLIER-LIMITS (fresh_world k).state
+unfolding fresh_world
+bounded_world k fits = fresh_bounded EARLIER-LIMITS raised k fits
 
 -- a configuration that started starts, where 22 doesn't refuse it, and leaves what it left: words that fit under the old limits, so that any calls may follow
-module _ (configuration words memory : List ℕ) (starts : startsInUnder 16 configuration words memory ≡ true) (waits : waitsFit (configurationIn configuration) ≡ true) where
-  now-starts : startsIn configuration words memory ≡ true
-  now-starts = starts-raised EARLIER-LIMITS CURRENT-LIMITS raised configuration words memory starts
+module _ (configuration words memory : List ℕ) (starts : starts_in_under 16 configuration words memory ≡ true) (waits : waits_fit (configuration_in configuration) ≡ true) where
+  now_starts : starts_in configuration words memory ≡ true
+  now_starts = starts_raised EARLIER-LIMITS CURRENT-LIMITS raised configuration words memory starts
 
-  pub widened-start : {answer : StartAnswer} {words' memory' : List ℕ} → StartedIn configuration words memory answer words' memory' → StartedAsBefore configuration memory answer words' memory'
-  unfolding startsInUnder
-  widened-start {answer} {words'} {memory'} h =
-      let k = configurationIn configuration in
-      let started : answer ≡ StartAnswer.Started = rw (now-starts, waits) at h.answer-is in
-      let fits = ((and-eq-true_iff (configurationFitsUnder 16 k) _).0 starts).0 in
-      let now-fits = ((and-eq-true_iff (configurationFitsUnder CURRENT-LIMITS.channels k) _).0 now-starts).0 in
+  pub widened_start : {answer : StartAnswer} {words' memory' : List ℕ} → StartedIn configuration words memory answer words' memory' → StartedAsBefore configuration memory answer words' memory'
+  unfolding starts_in_under
+  widened_start {answer} {words'} {memory'} h =
+      let k = configuration_in configuration in
+      let started : answer ≡ StartAnswer.Started = rw (now_starts, waits) at h.answer_is in
+      let fits = ((and-eq-true_iff (configuration_fits_under 16 k) _).0 starts).0 in
+      let now-fits = ((and-eq-true_iff (configuration_fits_under CURRENT-LIMITS.channels k) _).0 now_starts).0 in
       let begun : StartedIn configuration words memory StartAnswer.Started words' memory' = rw started at h in
       record {
-        answer-is = started;
-        words_are = rw (now-starts, waits) at h.words_are;
-        memory-is = rw (now-starts, waits) at h.memory-is;
-        fits = ap (worldFitsUnder EARLIER-LIMITS) (started-in begun) ∙ ordered-fits EARLIER-LIMITS (freshWorld k) (fresh-order k (rw (now-fits, waits))) (bounded-world k fits);
+        answer_is = started;
+        words_are = rw (now_starts, waits) at h.words_are;
+        memory_is = rw (now_starts, waits) at h.memory_is;
+        fits = ap (world_fits_under EARLIER-LIMITS) (started_in begun) ∙ ordered_fits EARLIER-LIMITS (fresh_world k) (fresh_order k (rw (now-fits, waits))) (bounded_world k fits);
       }
 
 -- ---- the border in numbers: on a store with room for it, a packet of 1,501 bytes was 14, and is taken where nothing waits
 module _ (datalink : DatalinkSetting) (setting : Setting) (room : 1501 ≤ setting.size.0) (p : Packet) (header : FixedHeader p.bytes) (long : length p.bytes ≡ 1501)
     (time : ℕ) (st : Condition machine) where
-  pub earlier-fourteen : (offerAt machine (termsUnder EARLIER-LIMITS.packet datalink setting) p time st).answer ≡ refused 14
-  earlier-fourteen = ap (λ (r : Result machine Taken). r.answer) (offer-fourteen machine machine-limited (termsUnder EARLIER-LIMITS.packet datalink setting) p time st header (inl (omega (arith, long))))
+  pub earlier_fourteen : (offer_at machine (terms_under EARLIER-LIMITS.packet datalink setting) p time st).answer ≡ refused 14
+  earlier_fourteen = ap (λ (r : Result machine Taken). r.answer) (offer_fourteen machine machine_limited (terms_under EARLIER-LIMITS.packet datalink setting) p time st header (inl (omega (arith, long))))
 
-  pub longer-taken : st.latest ≤ time → time < p.expiry → alive time st.keeping ≡ [] → (offerAt machine (termsOf datalink setting) p time st).answer ≡ answered taken
-  longer-taken t x nothing =
-      ap (λ (r : Result machine Taken). r.answer) (offer-where-none-waits machine machine-limited (termsOf datalink setting) p time st header (omega (arith, long)) (omega (arith, long, room)) t x nothing)
+  pub longer_taken : st.latest ≤ time → time < p.expiry → alive time st.keeping ≡ [] → (offer_at machine (terms_of datalink setting) p time st).answer ≡ answered taken
+  longer_taken t x nothing =
+      ap (λ (r : Result machine Taken). r.answer) (offer_where_none_waits machine machine_limited (terms_of datalink setting) p time st header (omega (arith, long)) (omega (arith, long, room)) t x nothing)

@@ -2,12 +2,12 @@
 use Rattle.std.specs.Prelude.{ℕ, zero, suc, ◌+◌, ◌*◌, ◌/◌, ◌%◌, ◌<◌, List, [], ◌∷◌, ◌++◌}
 
 -- the number that the bytes spell behind a number
-unfoldable pub numberFrom : ℕ → List ℕ → ℕ
-numberFrom n [] = n
-numberFrom n (x ∷ xs) = numberFrom (n * 256 + x) xs
+unfoldable pub number_from : ℕ → List ℕ → ℕ
+number_from n [] = n
+number_from n (x ∷ xs) = number_from (n * 256 + x) xs
 
-abbrev pub bigEndian : List ℕ → ℕ
-bigEndian xs = numberFrom 0 xs
+abbrev pub big_endian : List ℕ → ℕ
+big_endian xs = number_from 0 xs
 
 -- the lowest `width` bytes of a number, the highest first
 unfoldable pub bytes_of : ℕ → ℕ → List ℕ

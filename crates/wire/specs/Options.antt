@@ -3,15 +3,15 @@
 use Rattle.std.specs.Prelude.{ℕ, zero, suc, ◌+◌, ◌*◌, ◌-◌, ◌/◌, ◌%◌, ◌<◌, ◌^◌, ◌≡◌, List, [], ◌∷◌, ◌++◌, Bool, cond, length, get_or, take, drop, ltb, eqb}
 use Rattle.wire.specs.declared.option.Frame.{Frame}
 use Rattle.wire.specs.declared.option.Frame.TheVariants.{Cut, Whole}
-use Rattle.wire.specs.Numbers.{bigEndian, bytes_of}
+use Rattle.wire.specs.Numbers.{big_endian, bytes_of}
 
 -- the bytes of one option
-unfoldable pub optionBytes : ℕ → List ℕ → List ℕ
-optionBytes kind content = kind ∷ (bytes_of 2 (length content) ++ content)
+unfoldable pub option_bytes : ℕ → List ℕ → List ℕ
+option_bytes kind content = kind ∷ (bytes_of 2 (length content) ++ content)
 
 -- the Length of the first option of a rest
 abbrev pub length_at : List ℕ → ℕ
-length_at rest = bigEndian (take 2 (drop 1 rest))
+length_at rest = big_endian (take 2 (drop 1 rest))
 
 -- the first option of a rest: cut off where "an option runs past the end, or its frame does", else its type and length
 unfoldable pub frame_of : List ℕ → Frame
@@ -27,27 +27,27 @@ pub data Options : Type 0 where
 unfoldable pub bytes : Options → List ℕ
 bytes done = []
 bytes (cut rest) = rest
-bytes (option kind content more) = optionBytes kind content ++ bytes more
+bytes (option kind content more) = option_bytes kind content ++ bytes more
 
 -- what the first option of a rest makes of it, the rest behind it being cut by `f`
-abbrev pub splitFirst : Frame → List ℕ → (List ℕ → Options) → Options
-splitFirst Cut rest f = cut rest
-splitFirst (Whole kind size) rest f = option kind (take size (drop 3 rest)) (f (drop (3 + size) rest))
+abbrev pub split_first : Frame → List ℕ → (List ℕ → Options) → Options
+split_first Cut rest f = cut rest
+split_first (Whole kind size) rest f = option kind (take size (drop 3 rest)) (f (drop (3 + size) rest))
 
 -- the first argument is a bound on the number of options, which each have three bytes at least
-unfoldable pub splitWith : ℕ → List ℕ → Options
-splitWith zero rest = done
-splitWith (suc k) rest = cond (eqb (length rest) 0) done (splitFirst (frame_of rest) rest (splitWith k))
+unfoldable pub split_with : ℕ → List ℕ → Options
+split_with zero rest = done
+split_with (suc k) rest = cond (eqb (length rest) 0) done (split_first (frame_of rest) rest (split_with k))
 
 -- a body, option by option
 unfoldable pub split : List ℕ → Options
-split rest = splitWith (length rest) rest
+split rest = split_with (length rest) rest
 
 -- every option is whole, and its length fits 16 bits
-unfoldable pub Whole-options : Options → Type 0
-Whole-options done = Unit {0}
-Whole-options (cut rest) = ⊥
-Whole-options (option kind content more) = (length content < 2 ^ 16) × Whole-options more
+unfoldable pub WholeOptions : Options → Type 0
+WholeOptions done = Unit {0}
+WholeOptions (cut rest) = ⊥
+WholeOptions (option kind content more) = (length content < 2 ^ 16) × WholeOptions more
 
 -- `text` laid over the first bytes of an output; what stands behind them stays
 abbrev pub over : List ℕ → List ℕ → List ℕ
@@ -55,5 +55,5 @@ over text out = text ++ drop (length text) out
 
 -- a writer's outcome: its bytes over the first of the output, and their count as the answer
 pub record Laid (text entry exit : List ℕ) (count : ℕ) : Type 0 where
-  pub count-is : count ≡ length text
-  pub bytes-are : exit ≡ over text entry
+  pub count_is : count ≡ length text
+  pub bytes_are : exit ≡ over text entry

@@ -1,11 +1,11 @@
 // Big-endian numbers of 1 to 8 bytes.
 ghost use Rattle.std.specs.Prelude.{◌≡◌, ◌≤◌, ◌<◌, ◌^◌, length};
-ghost use Rattle.wire.specs.Numbers.{bigEndian, bytes_of};
+ghost use Rattle.wire.specs.Numbers.{big_endian, bytes_of};
 
 // The number that the bytes spell, the highest first.
 pub fn read(bytes: &[u8]) -> u64
     requires { length bytes.now ≤ 8 }
-    ensures value { result ≡ bigEndian bytes.now }
+    ensures value { result ≡ big_endian bytes.now }
     ensures below { result < 256 ^ length bytes.now }
 {
     let mut value: u64 = 0;

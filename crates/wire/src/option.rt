@@ -1,6 +1,6 @@
 // The option frame: a type, a length of 16 bits, the content.
 ghost use Rattle.std.specs.Prelude.{◌≡◌, ◌+◌, ◌≤◌, ◌<◌, ◌^◌, length};
-ghost use Rattle.wire.specs.Options.{frame_of, optionBytes, Laid};
+ghost use Rattle.wire.specs.Options.{frame_of, option_bytes, Laid};
 
 use crate::number;
 
@@ -35,7 +35,7 @@ pub fn first(rest: &[u8]) -> Frame
 pub fn lay(out: &mut [u8], kind: u8, content: &[u8]) -> usize
     requires content_len_bound { length content.now < 2 ^ 16 }
     requires content_in_bounds { 3 + length content.now ≤ length out.old }
-    ensures { Laid (optionBytes kind content.now) out.old out.new result }
+    ensures { Laid (option_bytes kind content.now) out.old out.new result }
 {
     let size = content.len();
     out[0] = kind;

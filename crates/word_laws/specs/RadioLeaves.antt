@@ -30,7 +30,7 @@ pub record PaceLeaves (l l' : Lent) : Type 0 where
 -- Document 02, §1: a silence. Words 3 to 6 of each channel: "every channel becomes not reported and every flow-controlled one has no window"; a plain one keeps its flow state.
 pub record Silent (words words' : List ℕ) : Type 0 where
   pub unreported : (i : ℕ) → i < get_or words 1 0 → (get_or words' (14 + 74 * i + 3) 0 ≡ 0) × (get_or words' (14 + 74 * i + 4) 0 ≡ 0)
-  pub no-window : (i : ℕ) → i < get_or words 1 0 → get_or words (14 + 74 * i + 1) 0 ≡ 1 → (get_or words' (14 + 74 * i + 5) 0 ≡ 1) × (get_or words' (14 + 74 * i + 6) 0 ≡ 0)
+  pub no_window_lem : (i : ℕ) → i < get_or words 1 0 → get_or words (14 + 74 * i + 1) 0 ≡ 1 → (get_or words' (14 + 74 * i + 5) 0 ≡ 1) × (get_or words' (14 + 74 * i + 6) 0 ≡ 0)
   pub plain : (i j : ℕ) → i < get_or words 1 0 → get_or words (14 + 74 * i + 1) 0 ≡ 0 → 4 < j → j < 7 → get_or words' (14 + 74 * i + j) 0 ≡ get_or words (14 + 74 * i + j) 0
 
 -- where it is not silent no channel's word changes
@@ -40,4 +40,4 @@ pub record Unsilenced (words words' : List ℕ) : Type 0 where
 -- Document 02 §2: an accepted control message leaves its own Context in words 5 to 7, and three zeros where it has "no Context at all"
 pub data ContextLeft (words : List ℕ) : Context → Type 0 where
   without : get_or words 5 0 ≡ 0 → get_or words 6 0 ≡ 0 → get_or words 7 0 ≡ 0 → ContextLeft words Context.Absent
-  with-bytes : {bytes : ContextBytes} {size : ℕ} → get_or words 5 0 ≡ 1 → get_or words 6 0 ≡ bytes.0 → get_or words 7 0 ≡ size → ContextLeft words (Context.Given bytes size)
+  with_bytes : {bytes : ContextBytes} {size : ℕ} → get_or words 5 0 ≡ 1 → get_or words 6 0 ≡ bytes.0 → get_or words 7 0 ≡ size → ContextLeft words (Context.Given bytes size)

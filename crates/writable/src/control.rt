@@ -1,6 +1,6 @@
 // A control message, part by part.
 ghost use Rattle.std.specs.Prelude.{◌≡◌, ◌&&◌};
-ghost use Rattle.writable.specs.Allowed.{statusAllowed, statusesAllowed, primaryAllowed, sequenceAllowed, sequencesAllowed, windowAllowed, windowsAllowed, controlAllowed};
+ghost use Rattle.writable.specs.Allowed.{status_allowed, statuses_allowed, primary_allowed, sequence_allowed, sequences_allowed, window_allowed, windows_allowed, control_allowed};
 
 use crate::part;
 use meaning::message::{Control, End, SequenceCell, Status, StatusCell, WindowCell};
@@ -8,7 +8,7 @@ use quantity::limit::CHANNEL_IDS;
 
 // What the tables state of one channel.
 fn place(end: End, status: StatusCell, sequence: SequenceCell, window: WindowCell) -> bool
-    ensures { result ≡ (statusAllowed end status.status && (sequenceAllowed end sequence.sequence && windowAllowed end window.window)) }
+    ensures { result ≡ (status_allowed end status.status && (sequence_allowed end sequence.sequence && window_allowed end window.window)) }
 {
     let given_status = status.status;
     let given_sequence = sequence.sequence;
@@ -23,7 +23,7 @@ fn tables(
     sequences: [SequenceCell; CHANNEL_IDS],
     windows: [WindowCell; CHANNEL_IDS],
 ) -> bool
-    ensures { result ≡ (statusesAllowed end statuses && (sequencesAllowed end sequences && windowsAllowed end windows)) }
+    ensures { result ≡ (statuses_allowed end statuses && (sequences_allowed end sequences && windows_allowed end windows)) }
 {
     let mut channel: usize = 0;
     while channel < CHANNEL_IDS {
@@ -37,7 +37,7 @@ fn tables(
 
 // The radio states a status of channel 0.
 fn primary(end: End, statuses: [StatusCell; CHANNEL_IDS]) -> bool
-    ensures { result ≡ primaryAllowed end statuses }
+    ensures { result ≡ primary_allowed end statuses }
 {
     let cell = statuses[0];
     let status = cell.status;
@@ -52,7 +52,7 @@ fn primary(end: End, statuses: [StatusCell; CHANNEL_IDS]) -> bool
 
 // Number 20 for a control message: whether its meaning may be written by this end.
 pub fn may_write(end: End, message: Control) -> bool
-    ensures { result ≡ controlAllowed end message }
+    ensures { result ≡ control_allowed end message }
 {
     let datalink = message.datalink;
     let instance = message.instance;

@@ -1,6 +1,6 @@
 // A data message, part by part.
 ghost use Rattle.std.specs.Prelude.{◌≡◌};
-ghost use Rattle.writable.specs.Allowed.{dataAllowed};
+ghost use Rattle.writable.specs.Allowed.{data_allowed};
 
 use crate::part;
 use meaning::message::{Data, End};
@@ -10,7 +10,7 @@ const LENGTHS: usize = 65536;
 
 // Whether a data message may be written with a packet of this size.
 pub fn may_write(end: End, message: Data, size: usize) -> bool
-    ensures { result ≡ dataAllowed end message size }
+    ensures { result ≡ data_allowed end message size }
 {
     let datalink = message.datalink;
     let sequence = message.sequence;

@@ -1,7 +1,7 @@
 // Each part of a meaning by itself: what its message may hold, and the lengths and values of section 3.
 ghost use Rattle.std.specs.Prelude.{◌≡◌, ◌&&◌, ◌^◌, leb, ltb};
 ghost use Rattle.quantity.specs.Limits.{SHORTEST-NAME, LONGEST-NAME};
-ghost use Rattle.writable.specs.Allowed.{may, datalinkAllowed, instanceAllowed, contextAllowed, statusAllowed, sequenceAllowed, windowAllowed, countedAllowed, channelAllowed, expirationAllowed};
+ghost use Rattle.writable.specs.Allowed.{may, datalink_allowed, instance_allowed, context_allowed, status_allowed, sequence_allowed, window_allowed, counted_allowed, channel_allowed, expiration_allowed};
 
 use meaning::kind;
 use meaning::message::{
@@ -32,7 +32,7 @@ fn instance_or_context(end: End, kind: u8, number: u64, size: usize) -> bool
 
 // A Datalink Identifier has to be stated.
 pub fn datalink(datalink: Datalink) -> bool
-    ensures { result ≡ datalinkAllowed datalink }
+    ensures { result ≡ datalink_allowed datalink }
 {
     match datalink {
         Datalink::Absent => false,
@@ -42,7 +42,7 @@ pub fn datalink(datalink: Datalink) -> bool
 
 // A Link Instance has a listed length, and its number fits it.
 pub fn instance(end: End, instance: Instance) -> bool
-    ensures { result ≡ instanceAllowed end instance }
+    ensures { result ≡ instance_allowed end instance }
 {
     match instance {
         Instance::Absent => true,
@@ -52,7 +52,7 @@ pub fn instance(end: End, instance: Instance) -> bool
 
 // A Context likewise.
 pub fn context(end: End, context: Context) -> bool
-    ensures { result ≡ contextAllowed end context }
+    ensures { result ≡ context_allowed end context }
 {
     match context {
         Context::Absent => true,
@@ -67,7 +67,7 @@ pub fn context(end: End, context: Context) -> bool
 
 // A status of at most 15.
 pub fn status(end: End, status: Status) -> bool
-    ensures { result ≡ statusAllowed end status }
+    ensures { result ≡ status_allowed end status }
 {
     match status {
         Status::Absent => true,
@@ -78,7 +78,7 @@ pub fn status(end: End, status: Status) -> bool
 
 // A Flow Sequence, where this end may state one.
 pub fn sequence(end: End, sequence: Sequence) -> bool
-    ensures { result ≡ sequenceAllowed end sequence }
+    ensures { result ≡ sequence_allowed end sequence }
 {
     match sequence {
         Sequence::Absent => true,
@@ -88,7 +88,7 @@ pub fn sequence(end: End, sequence: Sequence) -> bool
 
 // A Flow Window, where this end may state one.
 pub fn window(end: End, window: Window) -> bool
-    ensures { result ≡ windowAllowed end window }
+    ensures { result ≡ window_allowed end window }
 {
     match window {
         Window::Absent => true,
@@ -99,7 +99,7 @@ pub fn window(end: End, window: Window) -> bool
 
 // A data message's Flow Sequence is of the channel that the message names.
 pub fn counted(end: End, counted: Counted, channel: Channel) -> bool
-    ensures { result ≡ countedAllowed end counted channel }
+    ensures { result ≡ counted_allowed end counted channel }
 {
     match counted {
         Counted::Absent => true,
@@ -113,7 +113,7 @@ pub fn counted(end: End, counted: Counted, channel: Channel) -> bool
 
 // A Channel Identifier other than 255.
 pub fn channel(end: End, channel: Channel) -> bool
-    ensures { result ≡ channelAllowed end channel }
+    ensures { result ≡ channel_allowed end channel }
 {
     match channel {
         Channel::Absent => true,
@@ -124,7 +124,7 @@ pub fn channel(end: End, channel: Channel) -> bool
 
 // An Expiration Time other than 0.
 pub fn expiration(end: End, expiration: Expiration) -> bool
-    ensures { result ≡ expirationAllowed end expiration }
+    ensures { result ≡ expiration_allowed end expiration }
 {
     match expiration {
         Expiration::Absent => true,

@@ -5,7 +5,7 @@ use mathlib.Core.List.{List, ◌∷◌}
 use lib.ListN.{length}
 use Rattle.wire.specs.Numbers.{bytes_of}
 use Rattle.wire.specs.Options.{option}
-use Rattle.wire.proofs.Numbers.{length-bytes}
+use Rattle.wire.proofs.Numbers.{length_bytes}
 use Rattle.meaning.specs.Kinds.{PACKET-DATA}
 use Rattle.meaning.specs.declared.message.Datalink.{Datalink}
 use Rattle.meaning.specs.declared.message.Instance.{Instance}
@@ -16,50 +16,50 @@ use Rattle.meaning.specs.declared.message.Window.{Window}
 use Rattle.meaning.specs.declared.message.Channel.{Channel}
 use Rattle.meaning.specs.declared.message.Expiration.{Expiration}
 use Rattle.meaning.specs.declared.message.Counted.{Counted}
-use Rattle.write_option.specs.Parts.{datalinkThen, instanceThen, contextThen, statusThen, sequenceThen, windowThen, countedThen, channelThen, expirationThen}
-use Rattle.write_option.specs.Sizes.{datalinkSize, instanceSize, contextSize, statusSize, sequenceSize, windowSize, countedSize, channelSize, expirationSize}
-use Rattle.write_option.proofs.Laying.{Part, part-nothing, part-option}
+use Rattle.write_option.specs.Parts.{datalink_then, instance_then, context_then, status_then, sequence_then, window_then, counted_then, channel_then, expiration_then}
+use Rattle.write_option.specs.Sizes.{datalink_size, instance_size, context_size, status_size, sequence_size, window_size, counted_size, channel_size, expiration_size}
+use Rattle.write_option.proofs.Laying.{Part, part_nothing, part_option}
 
 -- a Channel ID and a number of 32 bits behind it
-flow-length : (channel number : ℕ) → length (channel ∷ bytes_of 4 number) ≡ 5
-flow-length channel number = ap suc (length-bytes 4 number)
+flow_length : (channel number : ℕ) → length (channel ∷ bytes_of 4 number) ≡ 5
+flow_length channel number = ap suc (length_bytes 4 number)
 
-pub datalink-part : (datalink : Datalink) → Part (datalinkThen datalink) (datalinkSize datalink)
-datalink-part Datalink.Absent = part-nothing
-datalink-part (Datalink.Given d) = part-option _ _ _ refl
+pub datalink_part_lem : (datalink : Datalink) → Part (datalink_then datalink) (datalink_size datalink)
+datalink_part_lem Datalink.Absent = part_nothing
+datalink_part_lem (Datalink.Given d) = part_option _ _ _ refl
 
-pub instance-part : (instance : Instance) → Part (instanceThen instance) (instanceSize instance)
-instance-part Instance.Absent = part-nothing
-instance-part (Instance.Given v n) = part-option _ _ _ (length-bytes n v.0)
+pub instance_part_lem : (instance : Instance) → Part (instance_then instance) (instance_size instance)
+instance_part_lem Instance.Absent = part_nothing
+instance_part_lem (Instance.Given v n) = part_option _ _ _ (length_bytes n v.0)
 
-pub context-part : (context : Context) → Part (contextThen context) (contextSize context)
-context-part Context.Absent = part-nothing
-context-part (Context.Given b n) = part-option _ _ _ (length-bytes n b.0)
+pub context_part_lem : (context : Context) → Part (context_then context) (context_size context)
+context_part_lem Context.Absent = part_nothing
+context_part_lem (Context.Given b n) = part_option _ _ _ (length_bytes n b.0)
 
-pub status-part : (channel : ℕ) (status : Status) → Part (statusThen channel status) (statusSize status)
-status-part channel Status.Absent = part-nothing
-status-part channel (Status.Given s) = part-option _ _ _ refl
+pub status_part_lem : (channel : ℕ) (status : Status) → Part (status_then channel status) (status_size status)
+status_part_lem channel Status.Absent = part_nothing
+status_part_lem channel (Status.Given s) = part_option _ _ _ refl
 
-pub sequence-part : (channel : ℕ) (sequence : Sequence) → Part (sequenceThen channel sequence) (sequenceSize sequence)
-sequence-part channel Sequence.Absent = part-nothing
-sequence-part channel (Sequence.Given s) = part-option _ _ _ (flow-length channel s.0)
+pub sequence_part_lem : (channel : ℕ) (sequence : Sequence) → Part (sequence_then channel sequence) (sequence_size sequence)
+sequence_part_lem channel Sequence.Absent = part_nothing
+sequence_part_lem channel (Sequence.Given s) = part_option _ _ _ (flow_length channel s.0)
 
-pub window-part : (channel : ℕ) (window : Window) → Part (windowThen channel window) (windowSize window)
-window-part channel Window.Absent = part-nothing
-window-part channel Window.Empty = part-option _ _ _ refl
-window-part channel (Window.Given w) = part-option _ _ _ (flow-length channel w.0)
+pub window_part_lem : (channel : ℕ) (window : Window) → Part (window_then channel window) (window_size window)
+window_part_lem channel Window.Absent = part_nothing
+window_part_lem channel Window.Empty = part_option _ _ _ refl
+window_part_lem channel (Window.Given w) = part_option _ _ _ (flow_length channel w.0)
 
-pub counted-part : (counted : Counted) → Part (countedThen counted) (countedSize counted)
-counted-part Counted.Absent = part-nothing
-counted-part (Counted.Given n s) = part-option _ _ _ (flow-length n s.0)
+pub counted_part_lem : (counted : Counted) → Part (counted_then counted) (counted_size counted)
+counted_part_lem Counted.Absent = part_nothing
+counted_part_lem (Counted.Given n s) = part_option _ _ _ (flow_length n s.0)
 
-pub channel-part : (channel : Channel) → Part (channelThen channel) (channelSize channel)
-channel-part Channel.Absent = part-nothing
-channel-part (Channel.Given k) = part-option _ _ _ refl
+pub channel_part_lem : (channel : Channel) → Part (channel_then channel) (channel_size channel)
+channel_part_lem Channel.Absent = part_nothing
+channel_part_lem (Channel.Given k) = part_option _ _ _ refl
 
-pub expiration-part : (expiration : Expiration) → Part (expirationThen expiration) (expirationSize expiration)
-expiration-part Expiration.Absent = part-nothing
-expiration-part (Expiration.Given t) = part-option _ _ _ (length-bytes 4 t)
+pub expiration_part_lem : (expiration : Expiration) → Part (expiration_then expiration) (expiration_size expiration)
+expiration_part_lem Expiration.Absent = part_nothing
+expiration_part_lem (Expiration.Given t) = part_option _ _ _ (length_bytes 4 t)
 
-pub packet-part : (packet : List ℕ) → Part (option PACKET-DATA packet) (3 + length packet)
-packet-part packet = part-option _ _ _ refl
+pub packet_part : (packet : List ℕ) → Part (option PACKET-DATA packet) (3 + length packet)
+packet_part packet = part_option _ _ _ refl

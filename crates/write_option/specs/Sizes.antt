@@ -18,53 +18,53 @@ use Rattle.meaning.specs.declared.message.WindowCell.{WindowCell}
 abbrev pub LONGEST-OPTION : ℕ
 LONGEST-OPTION = 3 + LONGEST-NAME
 
-abbrev pub datalinkSize : Datalink → ℕ
-datalinkSize Datalink.Absent = 0
-datalinkSize (Datalink.Given d) = 3 + 1
+abbrev pub datalink_size : Datalink → ℕ
+datalink_size Datalink.Absent = 0
+datalink_size (Datalink.Given d) = 3 + 1
 
-abbrev pub instanceSize : Instance → ℕ
-instanceSize Instance.Absent = 0
-instanceSize (Instance.Given v n) = 3 + n
+abbrev pub instance_size : Instance → ℕ
+instance_size Instance.Absent = 0
+instance_size (Instance.Given v n) = 3 + n
 
-abbrev pub contextSize : Context → ℕ
-contextSize Context.Absent = 0
-contextSize (Context.Given b n) = 3 + n
+abbrev pub context_size : Context → ℕ
+context_size Context.Absent = 0
+context_size (Context.Given b n) = 3 + n
 
-abbrev pub statusSize : Status → ℕ
-statusSize Status.Absent = 0
-statusSize (Status.Given s) = 3 + 2
+abbrev pub status_size : Status → ℕ
+status_size Status.Absent = 0
+status_size (Status.Given s) = 3 + 2
 
-abbrev pub sequenceSize : Sequence → ℕ
-sequenceSize Sequence.Absent = 0
-sequenceSize (Sequence.Given s) = 3 + 5
+abbrev pub sequence_size : Sequence → ℕ
+sequence_size Sequence.Absent = 0
+sequence_size (Sequence.Given s) = 3 + 5
 
-abbrev pub windowSize : Window → ℕ
-windowSize Window.Absent = 0
-windowSize Window.Empty = 3 + 1
-windowSize (Window.Given w) = 3 + 5
+abbrev pub window_size : Window → ℕ
+window_size Window.Absent = 0
+window_size Window.Empty = 3 + 1
+window_size (Window.Given w) = 3 + 5
 
-abbrev pub countedSize : Counted → ℕ
-countedSize Counted.Absent = 0
-countedSize (Counted.Given n s) = 3 + 5
+abbrev pub counted_size : Counted → ℕ
+counted_size Counted.Absent = 0
+counted_size (Counted.Given n s) = 3 + 5
 
-abbrev pub channelSize : Channel → ℕ
-channelSize Channel.Absent = 0
-channelSize (Channel.Given k) = 3 + 1
+abbrev pub channel_size : Channel → ℕ
+channel_size Channel.Absent = 0
+channel_size (Channel.Given k) = 3 + 1
 
-abbrev pub expirationSize : Expiration → ℕ
-expirationSize Expiration.Absent = 0
-expirationSize (Expiration.Given t) = 3 + 4
+abbrev pub expiration_size : Expiration → ℕ
+expiration_size Expiration.Absent = 0
+expiration_size (Expiration.Given t) = 3 + 4
 
 -- a table, `size` being that of a place
-unfoldable pub tableSize : {A : Type 0} → (A → ℕ) → List A → ℕ
-tableSize size [] = 0
-tableSize size (cell ∷ cells) = size cell + tableSize size cells
+unfoldable pub table_size : {A : Type 0} → (A → ℕ) → List A → ℕ
+table_size size [] = 0
+table_size size (cell ∷ cells) = size cell + table_size size cells
 
-abbrev pub statusesSize : List StatusCell → ℕ
-statusesSize cells = tableSize (λ cell. statusSize cell.status) cells
+abbrev pub statuses_size : List StatusCell → ℕ
+statuses_size cells = table_size (λ cell. status_size cell.status) cells
 
-abbrev pub sequencesSize : List SequenceCell → ℕ
-sequencesSize cells = tableSize (λ cell. sequenceSize cell.sequence) cells
+abbrev pub sequences_size : List SequenceCell → ℕ
+sequences_size cells = table_size (λ cell. sequence_size cell.sequence) cells
 
-abbrev pub windowsSize : List WindowCell → ℕ
-windowsSize cells = tableSize (λ cell. windowSize cell.window) cells
+abbrev pub windows_size : List WindowCell → ℕ
+windows_size cells = table_size (λ cell. window_size cell.window) cells

@@ -5,7 +5,7 @@ ghost use Rattle.wire.specs.Numbers.{bytes_of};
 ghost use Rattle.wire.specs.Options.{option, Laid};
 ghost use Rattle.meaning.specs.Kinds.{PACKET-DATA};
 ghost use Rattle.write_option.specs.Laying.{alone, size_of, ShortInstance, ShortContext};
-ghost use Rattle.write_option.specs.Parts.{datalinkThen, instanceThen, contextThen, statusThen, sequenceThen, windowThen, countedThen, channelThen, expirationThen};
+ghost use Rattle.write_option.specs.Parts.{datalink_then, instance_then, context_then, status_then, sequence_then, window_then, counted_then, channel_then, expiration_then};
 
 use meaning::kind;
 use meaning::message::{
@@ -40,8 +40,8 @@ fn lay_flow(out: &mut [u8], kind: u8, channel: u8, number: u32) -> usize
 
 // Each option's writer lays it at the start of the rest of an output, if it is stated, and gives its length.
 pub fn lay_datalink(out: &mut [u8], datalink: Datalink) -> usize
-    requires { size_of (datalinkThen datalink) ≤ length out.old }
-    ensures { Laid (alone (datalinkThen datalink)) out.old out.new result }
+    requires { size_of (datalink_then datalink) ≤ length out.old }
+    ensures { Laid (alone (datalink_then datalink)) out.old out.new result }
 {
     match datalink {
         Datalink::Absent => 0,
@@ -52,8 +52,8 @@ pub fn lay_datalink(out: &mut [u8], datalink: Datalink) -> usize
 // Its number in as many bytes as its length says.
 pub fn lay_instance(out: &mut [u8], instance: Instance) -> usize
     requires short_instance { ShortInstance instance }
-    requires instance_in_bounds { size_of (instanceThen instance) ≤ length out.old }
-    ensures { Laid (alone (instanceThen instance)) out.old out.new result }
+    requires instance_in_bounds { size_of (instance_then instance) ≤ length out.old }
+    ensures { Laid (alone (instance_then instance)) out.old out.new result }
 {
     match instance {
         Instance::Absent => 0,
@@ -64,8 +64,8 @@ pub fn lay_instance(out: &mut [u8], instance: Instance) -> usize
 // Its bytes, as the number that they spell.
 pub fn lay_context(out: &mut [u8], context: Context) -> usize
     requires short_context { ShortContext context }
-    requires context_in_bounds { size_of (contextThen context) ≤ length out.old }
-    ensures { Laid (alone (contextThen context)) out.old out.new result }
+    requires context_in_bounds { size_of (context_then context) ≤ length out.old }
+    ensures { Laid (alone (context_then context)) out.old out.new result }
 {
     match context {
         Context::Absent => 0,
@@ -75,8 +75,8 @@ pub fn lay_context(out: &mut [u8], context: Context) -> usize
 
 // Channel ID, then the Status below four unused bits of 0.
 pub fn lay_status(out: &mut [u8], channel: u8, status: Status) -> usize
-    requires { size_of (statusThen channel status) ≤ length out.old }
-    ensures { Laid (alone (statusThen channel status)) out.old out.new result }
+    requires { size_of (status_then channel status) ≤ length out.old }
+    ensures { Laid (alone (status_then channel status)) out.old out.new result }
 {
     match status {
         Status::Absent => 0,
@@ -86,8 +86,8 @@ pub fn lay_status(out: &mut [u8], channel: u8, status: Status) -> usize
 
 // Channel ID, then 32 bits.
 pub fn lay_sequence(out: &mut [u8], channel: u8, sequence: Sequence) -> usize
-    requires { size_of (sequenceThen channel sequence) ≤ length out.old }
-    ensures { Laid (alone (sequenceThen channel sequence)) out.old out.new result }
+    requires { size_of (sequence_then channel sequence) ≤ length out.old }
+    ensures { Laid (alone (sequence_then channel sequence)) out.old out.new result }
 {
     match sequence {
         Sequence::Absent => 0,
@@ -97,8 +97,8 @@ pub fn lay_sequence(out: &mut [u8], channel: u8, sequence: Sequence) -> usize
 
 // Channel ID alone, or with the 32 bits of a window.
 pub fn lay_window(out: &mut [u8], channel: u8, window: Window) -> usize
-    requires { size_of (windowThen channel window) ≤ length out.old }
-    ensures { Laid (alone (windowThen channel window)) out.old out.new result }
+    requires { size_of (window_then channel window) ≤ length out.old }
+    ensures { Laid (alone (window_then channel window)) out.old out.new result }
 {
     match window {
         Window::Absent => 0,
@@ -109,8 +109,8 @@ pub fn lay_window(out: &mut [u8], channel: u8, window: Window) -> usize
 
 // A data message's Flow Sequence names its channel.
 pub fn lay_counted(out: &mut [u8], counted: Counted) -> usize
-    requires { size_of (countedThen counted) ≤ length out.old }
-    ensures { Laid (alone (countedThen counted)) out.old out.new result }
+    requires { size_of (counted_then counted) ≤ length out.old }
+    ensures { Laid (alone (counted_then counted)) out.old out.new result }
 {
     match counted {
         Counted::Absent => 0,
@@ -120,8 +120,8 @@ pub fn lay_counted(out: &mut [u8], counted: Counted) -> usize
 
 // One byte.
 pub fn lay_channel(out: &mut [u8], channel: Channel) -> usize
-    requires { size_of (channelThen channel) ≤ length out.old }
-    ensures { Laid (alone (channelThen channel)) out.old out.new result }
+    requires { size_of (channel_then channel) ≤ length out.old }
+    ensures { Laid (alone (channel_then channel)) out.old out.new result }
 {
     match channel {
         Channel::Absent => 0,
@@ -131,8 +131,8 @@ pub fn lay_channel(out: &mut [u8], channel: Channel) -> usize
 
 // 32 bits.
 pub fn lay_expiration(out: &mut [u8], expiration: Expiration) -> usize
-    requires { size_of (expirationThen expiration) ≤ length out.old }
-    ensures { Laid (alone (expirationThen expiration)) out.old out.new result }
+    requires { size_of (expiration_then expiration) ≤ length out.old }
+    ensures { Laid (alone (expiration_then expiration)) out.old out.new result }
 {
     match expiration {
         Expiration::Absent => 0,

@@ -2,7 +2,7 @@
 ghost use Rattle.std.specs.Prelude.{◌≡◌, ◌+◌, ◌*◌, ◌≤◌};
 ghost use Rattle.quantity.specs.Limits.{CHANNEL-IDS};
 ghost use Rattle.write_option.specs.Laying.{ShortInstance, ShortContext};
-ghost use Rattle.write_option.specs.Sizes.{LONGEST-OPTION, datalinkSize, instanceSize, contextSize, statusSize, sequenceSize, windowSize, countedSize, channelSize, expirationSize, statusesSize, sequencesSize, windowsSize};
+ghost use Rattle.write_option.specs.Sizes.{LONGEST-OPTION, datalink_size, instance_size, context_size, status_size, sequence_size, window_size, counted_size, channel_size, expiration_size, statuses_size, sequences_size, windows_size};
 
 use crate::size;
 use meaning::message::{
@@ -14,7 +14,7 @@ use wire::option::FRAME_SIZE;
 
 // How long each option is, frame and content; 0 where nothing is stated.
 pub fn datalink(datalink: Datalink) -> usize
-    ensures { (result ≡ datalinkSize datalink) × (result ≤ LONGEST-OPTION) }
+    ensures { (result ≡ datalink_size datalink) × (result ≤ LONGEST-OPTION) }
 {
     match datalink {
         Datalink::Absent => 0,
@@ -25,7 +25,7 @@ pub fn datalink(datalink: Datalink) -> usize
 // By its own length.
 pub fn instance(instance: Instance) -> usize
     requires { ShortInstance instance }
-    ensures { (result ≡ instanceSize instance) × (result ≤ LONGEST-OPTION) }
+    ensures { (result ≡ instance_size instance) × (result ≤ LONGEST-OPTION) }
 {
     match instance {
         Instance::Absent => 0,
@@ -36,7 +36,7 @@ pub fn instance(instance: Instance) -> usize
 // By its own length.
 pub fn context(context: Context) -> usize
     requires { ShortContext context }
-    ensures { (result ≡ contextSize context) × (result ≤ LONGEST-OPTION) }
+    ensures { (result ≡ context_size context) × (result ≤ LONGEST-OPTION) }
 {
     match context {
         Context::Absent => 0,
@@ -45,7 +45,7 @@ pub fn context(context: Context) -> usize
 }
 
 fn status(status: Status) -> usize
-    ensures { (result ≡ statusSize status) × (result ≤ LONGEST-OPTION) }
+    ensures { (result ≡ status_size status) × (result ≤ LONGEST-OPTION) }
 {
     match status {
         Status::Absent => 0,
@@ -54,7 +54,7 @@ fn status(status: Status) -> usize
 }
 
 fn sequence(sequence: Sequence) -> usize
-    ensures { (result ≡ sequenceSize sequence) × (result ≤ LONGEST-OPTION) }
+    ensures { (result ≡ sequence_size sequence) × (result ≤ LONGEST-OPTION) }
 {
     match sequence {
         Sequence::Absent => 0,
@@ -63,7 +63,7 @@ fn sequence(sequence: Sequence) -> usize
 }
 
 fn window(window: Window) -> usize
-    ensures { (result ≡ windowSize window) × (result ≤ LONGEST-OPTION) }
+    ensures { (result ≡ window_size window) × (result ≤ LONGEST-OPTION) }
 {
     match window {
         Window::Absent => 0,
@@ -74,7 +74,7 @@ fn window(window: Window) -> usize
 
 // A Channel ID and 32 bits.
 pub fn counted(counted: Counted) -> usize
-    ensures { (result ≡ countedSize counted) × (result ≤ LONGEST-OPTION) }
+    ensures { (result ≡ counted_size counted) × (result ≤ LONGEST-OPTION) }
 {
     match counted {
         Counted::Absent => 0,
@@ -84,7 +84,7 @@ pub fn counted(counted: Counted) -> usize
 
 // One byte.
 pub fn channel(channel: Channel) -> usize
-    ensures { (result ≡ channelSize channel) × (result ≤ LONGEST-OPTION) }
+    ensures { (result ≡ channel_size channel) × (result ≤ LONGEST-OPTION) }
 {
     match channel {
         Channel::Absent => 0,
@@ -94,7 +94,7 @@ pub fn channel(channel: Channel) -> usize
 
 // 32 bits.
 pub fn expiration(expiration: Expiration) -> usize
-    ensures { (result ≡ expirationSize expiration) × (result ≤ LONGEST-OPTION) }
+    ensures { (result ≡ expiration_size expiration) × (result ≤ LONGEST-OPTION) }
 {
     match expiration {
         Expiration::Absent => 0,
@@ -104,7 +104,7 @@ pub fn expiration(expiration: Expiration) -> usize
 
 // What the tables state of one channel.
 fn cells(status: StatusCell, sequence: SequenceCell, window: WindowCell) -> usize
-    ensures { (result ≡ statusSize status.status + (sequenceSize sequence.sequence + windowSize window.window)) × (result ≤ 3 * LONGEST-OPTION) }
+    ensures { (result ≡ status_size status.status + (sequence_size sequence.sequence + window_size window.window)) × (result ≤ 3 * LONGEST-OPTION) }
 {
     let given_status = status.status;
     let given_sequence = sequence.sequence;
@@ -118,7 +118,7 @@ pub fn tables(
     sequences: [SequenceCell; CHANNEL_IDS],
     windows: [WindowCell; CHANNEL_IDS],
 ) -> usize
-    ensures { (result ≡ statusesSize statuses + (sequencesSize sequences + windowsSize windows)) × (result ≤ 3 * LONGEST-OPTION * CHANNEL-IDS) }
+    ensures { (result ≡ statuses_size statuses + (sequences_size sequences + windows_size windows)) × (result ≤ 3 * LONGEST-OPTION * CHANNEL-IDS) }
 {
     let mut total: usize = 0;
     for channel in 0..CHANNEL_IDS {

@@ -2,7 +2,7 @@
 ghost use Rattle.std.specs.Prelude.{◌≤◌, length};
 ghost use Rattle.wire.specs.Options.{Laid};
 ghost use Rattle.write_option.specs.Laying.{alone, size_of};
-ghost use Rattle.write_option.specs.Parts.{statusesThen, sequencesThen, windowsThen};
+ghost use Rattle.write_option.specs.Parts.{statuses_then, sequences_then, windows_then};
 
 use crate::option;
 use meaning::message::{SequenceCell, StatusCell, WindowCell};
@@ -10,8 +10,8 @@ use quantity::limit::CHANNEL_IDS;
 
 // Each lays a table's options down at the start of the rest of an output, every one in the rest behind the one before. Gives their length.
 pub fn lay_statuses(out: &mut [u8], cells: [StatusCell; CHANNEL_IDS]) -> usize
-    requires { size_of (statusesThen cells) ≤ length out.old }
-    ensures { Laid (alone (statusesThen cells)) out.old out.new result }
+    requires { size_of (statuses_then cells) ≤ length out.old }
+    ensures { Laid (alone (statuses_then cells)) out.old out.new result }
 {
     let mut at: usize = 0;
     for channel in 0..CHANNEL_IDS {
@@ -24,8 +24,8 @@ pub fn lay_statuses(out: &mut [u8], cells: [StatusCell; CHANNEL_IDS]) -> usize
 
 // The Flow Sequences, likewise.
 pub fn lay_sequences(out: &mut [u8], cells: [SequenceCell; CHANNEL_IDS]) -> usize
-    requires { size_of (sequencesThen cells) ≤ length out.old }
-    ensures { Laid (alone (sequencesThen cells)) out.old out.new result }
+    requires { size_of (sequences_then cells) ≤ length out.old }
+    ensures { Laid (alone (sequences_then cells)) out.old out.new result }
 {
     let mut at: usize = 0;
     for channel in 0..CHANNEL_IDS {
@@ -38,8 +38,8 @@ pub fn lay_sequences(out: &mut [u8], cells: [SequenceCell; CHANNEL_IDS]) -> usiz
 
 // The Flow Windows, likewise.
 pub fn lay_windows(out: &mut [u8], cells: [WindowCell; CHANNEL_IDS]) -> usize
-    requires { size_of (windowsThen cells) ≤ length out.old }
-    ensures { Laid (alone (windowsThen cells)) out.old out.new result }
+    requires { size_of (windows_then cells) ≤ length out.old }
+    ensures { Laid (alone (windows_then cells)) out.old out.new result }
 {
     let mut at: usize = 0;
     for channel in 0..CHANNEL_IDS {

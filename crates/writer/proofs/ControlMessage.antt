@@ -6,49 +6,49 @@ use native.Mathlib.Omega.{arith}
 use lib.ListN.{length, set}
 use Rattle.wire.specs.Options.{Options, done, bytes}
 use Rattle.meaning.specs.declared.message.Control.{Control}
-use Rattle.write_option.specs.Parts.{datalinkThen, instanceThen, contextThen, statusesThen, sequencesThen, windowsThen}
-use Rattle.write_option.specs.Sizes.{datalinkSize, instanceSize, contextSize, statusesSize, sequencesSize, windowsSize}
-use Rattle.write_option.proofs.Laying.{part_length, Standing, standing-header}
-use Rattle.write_option.proofs.Parts.{datalink-part, instance-part, context-part}
-use Rattle.write_option.proofs.Tables.{statuses-part, sequences-part, windows-part}
-use Rattle.writer.specs.Written.{controlOptions, controlWritten, CONTROL-HEADER}
+use Rattle.write_option.specs.Parts.{datalink_then, instance_then, context_then, statuses_then, sequences_then, windows_then}
+use Rattle.write_option.specs.Sizes.{datalink_size, instance_size, context_size, statuses_size, sequences_size, windows_size}
+use Rattle.write_option.proofs.Laying.{part_length, Standing, standing_header}
+use Rattle.write_option.proofs.Parts.{datalink_part_lem, instance_part_lem, context_part_lem}
+use Rattle.write_option.proofs.Tables.{statuses_part, sequences_part, windows_part}
+use Rattle.writer.specs.Written.{control_options, control_written, CONTROL-HEADER}
 
 -- what follows each part
-abbrev pub behindWindows : Control → Options
-behindWindows m = done
+abbrev pub behind_windows : Control → Options
+behind_windows m = done
 
-abbrev pub behindSequences : Control → Options
-behindSequences m = windowsThen m.windows (behindWindows m)
+abbrev pub behind_sequences : Control → Options
+behind_sequences m = windows_then m.windows (behind_windows m)
 
-abbrev pub behindStatuses : Control → Options
-behindStatuses m = sequencesThen m.sequences (behindSequences m)
+abbrev pub behind_statuses : Control → Options
+behind_statuses m = sequences_then m.sequences (behind_sequences m)
 
-abbrev pub behindContext : Control → Options
-behindContext m = statusesThen m.statuses (behindStatuses m)
+abbrev pub behind_context : Control → Options
+behind_context m = statuses_then m.statuses (behind_statuses m)
 
-abbrev pub behindInstance : Control → Options
-behindInstance m = contextThen m.context (behindContext m)
+abbrev pub behind_instance : Control → Options
+behind_instance m = context_then m.context (behind_context m)
 
-abbrev pub behindDatalink : Control → Options
-behindDatalink m = instanceThen m.instance (behindInstance m)
+abbrev pub behind_datalink : Control → Options
+behind_datalink m = instance_then m.instance (behind_instance m)
 
-pub control-length : (m : Control)
-    → length (controlWritten m) ≡ 1 + datalinkSize m.datalink + instanceSize m.instance + contextSize m.context
-    + (statusesSize m.statuses + (sequencesSize m.sequences + windowsSize m.windows))
-unfolding controlWritten controlOptions bytes
-control-length m =
+pub control_length : (m : Control)
+    → length (control_written m) ≡ 1 + datalink_size m.datalink + instance_size m.instance + context_size m.context
+    + (statuses_size m.statuses + (sequences_size m.sequences + windows_size m.windows))
+unfolding control_written control_options bytes
+control_length m =
     omega (
       arith,
-      part_length (datalink-part m.datalink) (behindDatalink m),
-      part_length (instance-part m.instance) (behindInstance m),
-      part_length (context-part m.context) (behindContext m),
-      part_length (statuses-part m.statuses) (behindStatuses m),
-      part_length (sequences-part m.sequences) (behindSequences m),
-      part_length (windows-part m.windows) (behindWindows m),
+      part_length (datalink_part_lem m.datalink) (behind_datalink m),
+      part_length (instance_part_lem m.instance) (behind_instance m),
+      part_length (context_part_lem m.context) (behind_context m),
+      part_length (statuses_part m.statuses) (behind_statuses m),
+      part_length (sequences_part m.sequences) (behind_sequences m),
+      part_length (windows_part m.windows) (behind_windows m),
     )
 
 -- the header stands, and every part is left
-pub control-header : (m : Control) (entry : List ℕ) → length (controlWritten m) ≤ length entry
-    → Standing (controlWritten m) entry 1 (datalinkThen m.datalink (behindDatalink m)) (set entry 0 CONTROL-HEADER)
-unfolding controlWritten controlOptions
-control-header m entry h = standing-header CONTROL-HEADER (controlOptions m) entry h
+pub control_header : (m : Control) (entry : List ℕ) → length (control_written m) ≤ length entry
+    → Standing (control_written m) entry 1 (datalink_then m.datalink (behind_datalink m)) (set entry 0 CONTROL-HEADER)
+unfolding control_written control_options
+control_header m entry h = standing_header CONTROL-HEADER (control_options m) entry h

@@ -8,18 +8,18 @@ use Rattle.meaning.specs.declared.message.Control.{Control}
 use Rattle.meaning.specs.declared.message.Data.{Data}
 use Rattle.meaning.specs.Kinds.{PACKET-DATA}
 use Rattle.writer.specs.declared.answer.WriteAnswer.{WriteAnswer}
-pub use Rattle.write_option.specs.Parts.{datalinkThen, instanceThen, contextThen, statusThen, sequenceThen, windowThen, statusesThen, sequencesThen, windowsThen, countedThen, channelThen, expirationThen}
-unfoldable pub use Rattle.write_option.specs.Parts.{tableThen}
+pub use Rattle.write_option.specs.Parts.{datalink_then, instance_then, context_then, status_then, sequence_then, window_then, statuses_then, sequences_then, windows_then, counted_then, channel_then, expiration_then}
+unfoldable pub use Rattle.write_option.specs.Parts.{table_then}
 
-unfoldable pub controlOptions : Control → Options
-controlOptions m =
-    datalinkThen m.datalink
-    (instanceThen m.instance
-    (contextThen m.context (statusesThen m.statuses (sequencesThen m.sequences (windowsThen m.windows done)))))
+unfoldable pub control_options : Control → Options
+control_options m =
+    datalink_then m.datalink
+    (instance_then m.instance
+    (context_then m.context (statuses_then m.statuses (sequences_then m.sequences (windows_then m.windows done)))))
 
-unfoldable pub dataOptions : Data → List ℕ → Options
-dataOptions m packet =
-    datalinkThen m.datalink (countedThen m.sequence (channelThen m.channel (expirationThen m.expiration (option PACKET-DATA packet done))))
+unfoldable pub data_options : Data → List ℕ → Options
+data_options m packet =
+    datalink_then m.datalink (counted_then m.sequence (channel_then m.channel (expiration_then m.expiration (option PACKET-DATA packet done))))
 
 -- section 3.1: version 1, the Data Plane flag, three unused bits
 abbrev pub CONTROL-HEADER : ℕ
@@ -28,27 +28,27 @@ CONTROL-HEADER = 16
 abbrev pub DATA-HEADER : ℕ
 DATA-HEADER = 24
 
-unfoldable pub controlWritten : Control → List ℕ
-controlWritten m = CONTROL-HEADER ∷ bytes (controlOptions m)
+unfoldable pub control_written : Control → List ℕ
+control_written m = CONTROL-HEADER ∷ bytes (control_options m)
 
-unfoldable pub dataWritten : Data → List ℕ → List ℕ
-dataWritten m packet = DATA-HEADER ∷ bytes (dataOptions m packet)
+unfoldable pub data_written : Data → List ℕ → List ℕ
+data_written m packet = DATA-HEADER ∷ bytes (data_options m packet)
 
 -- number 18: "the output is shorter than it or it is over 65,507 bytes"
-abbrev pub noRoom : ℕ → ℕ → Bool
-noRoom size room = ltb room size || ltb LONGEST-DATAGRAM size
+abbrev pub no_room_of : ℕ → ℕ → Bool
+no_room_of size room = ltb room size || ltb LONGEST-DATAGRAM size
 
 -- WRITING: 20, then 18, then the message over the first bytes of the output; "bytes behind the message stay"
-abbrev pub answerTo : Bool → List ℕ → ℕ → WriteAnswer
-answerTo allowed message room =
+abbrev pub answer_to : Bool → List ℕ → ℕ → WriteAnswer
+answer_to allowed message room =
     cond allowed
-    (cond (noRoom (length message) room) (WriteAnswer.Refused (record { number = NO-ROOM; place = 0 })) (WriteAnswer.Wrote (record { 0 = length message })))
+    (cond (no_room_of (length message) room) (WriteAnswer.Refused (record { number = NO-ROOM; place = 0 })) (WriteAnswer.Wrote (record { 0 = length message })))
     (WriteAnswer.Refused (record { number = NOT-WRITABLE; place = 0 }))
 
-abbrev pub outAfter : Bool → List ℕ → List ℕ → List ℕ
-outAfter allowed message out = cond allowed (cond (noRoom (length message) (length out)) out (over message out)) out
+abbrev pub out_after : Bool → List ℕ → List ℕ → List ℕ
+out_after allowed message out = cond allowed (cond (no_room_of (length message) (length out)) out (over message out)) out
 
 -- the outcome of writing a message that is allowed or not into an output: the answer, and every byte of the output
 pub record Outcome (allowed : Bool) (message out : List ℕ) (answer : WriteAnswer) (out' : List ℕ) : Type 0 where
-  pub answers : answer ≡ answerTo allowed message (length out)
-  pub bytes-are : out' ≡ outAfter allowed message out
+  pub answers : answer ≡ answer_to allowed message (length out)
+  pub bytes_are : out' ≡ out_after allowed message out

@@ -1,6 +1,6 @@
 // What a writer answers.
 ghost use Rattle.std.specs.Prelude.{◌≡◌};
-ghost use Rattle.writer.specs.Written.{noRoom};
+ghost use Rattle.writer.specs.Written.{no_room_of};
 
 use quantity::count::ByteCount;
 use quantity::limit::LONGEST_DATAGRAM;
@@ -15,7 +15,7 @@ pub enum WriteAnswer {
 
 // Number 18: the output is shorter than the message, or the message is longer than a datagram may be.
 pub fn no_room(size: usize, room: usize) -> bool
-    ensures { result ≡ noRoom size room }
+    ensures { result ≡ no_room_of size room }
 {
     room < size || LONGEST_DATAGRAM < size
 }

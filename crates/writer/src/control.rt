@@ -2,8 +2,8 @@
 ghost use Rattle.std.specs.Prelude.{◌≡◌, ◌≤◌, length};
 ghost use Rattle.wire.specs.Options.{Laid};
 ghost use Rattle.write_option.specs.Laying.{ShortNames};
-ghost use Rattle.writable.specs.Allowed.{controlAllowed};
-ghost use Rattle.writer.specs.Written.{controlWritten, Outcome};
+ghost use Rattle.writable.specs.Allowed.{control_allowed};
+ghost use Rattle.writer.specs.Written.{control_written, Outcome};
 
 use crate::answer;
 use crate::answer::WriteAnswer;
@@ -18,7 +18,7 @@ pub const HEADER: u8 = 16;
 // The message's length: nothing is written before it is known to fit.
 fn size(message: Control) -> usize
     requires { ShortNames message }
-    ensures { result ≡ length (controlWritten message) }
+    ensures { result ≡ length (control_written message) }
 {
     let datalink = message.datalink;
     let instance = message.instance;
@@ -35,8 +35,8 @@ fn size(message: Control) -> usize
 // Each option is written into the rest of the output behind the one before.
 fn lay(message: Control, out: &mut [u8]) -> usize
     requires short_names { ShortNames message }
-    requires message_in_bounds { length (controlWritten message) ≤ length out.old }
-    ensures { Laid (controlWritten message) out.old out.new result }
+    requires message_in_bounds { length (control_written message) ≤ length out.old }
+    ensures { Laid (control_written message) out.old out.new result }
 {
     let datalink = message.datalink;
     let instance = message.instance;
@@ -57,7 +57,7 @@ fn lay(message: Control, out: &mut [u8]) -> usize
 
 // 20 and 18 are judged before a byte is touched.
 pub fn write(end: End, message: Control, out: &mut [u8]) -> WriteAnswer
-    ensures { Outcome (controlAllowed end message) (controlWritten message) out.old result out.new }
+    ensures { Outcome (control_allowed end message) (control_written message) out.old result out.new }
 {
     if !writable::control::may_write(end, message) {
         return answer::refused(refusal::NOT_WRITABLE);

@@ -1,8 +1,8 @@
 // Writing a data message.
 ghost use Rattle.std.specs.Prelude.{◌≡◌, ◌≤◌, ◌<◌, ◌^◌, length};
 ghost use Rattle.wire.specs.Options.{Laid};
-ghost use Rattle.writable.specs.Allowed.{dataAllowed};
-ghost use Rattle.writer.specs.Written.{dataWritten, Outcome};
+ghost use Rattle.writable.specs.Allowed.{data_allowed};
+ghost use Rattle.writer.specs.Written.{data_written, Outcome};
 
 use crate::answer;
 use crate::answer::WriteAnswer;
@@ -18,7 +18,7 @@ const HEADER: u8 = 24;
 // The message's length: nothing is written before it is known to fit.
 fn size(message: Data, packet: &[u8]) -> usize
     requires { length packet.now < 2 ^ 16 }
-    ensures { result ≡ length (dataWritten message packet.now) }
+    ensures { result ≡ length (data_written message packet.now) }
 {
     let datalink = message.datalink;
     let sequence = message.sequence;
@@ -35,8 +35,8 @@ fn size(message: Data, packet: &[u8]) -> usize
 // Each option is written into the rest of the output behind the one before.
 fn lay(message: Data, packet: &[u8], out: &mut [u8]) -> usize
     requires packet_len_bound { length packet.now < 2 ^ 16 }
-    requires packet_in_bounds { length (dataWritten message packet.now) ≤ length out.old }
-    ensures { Laid (dataWritten message packet.now) out.old out.new result }
+    requires packet_in_bounds { length (data_written message packet.now) ≤ length out.old }
+    ensures { Laid (data_written message packet.now) out.old out.new result }
 {
     let datalink = message.datalink;
     let sequence = message.sequence;
@@ -53,7 +53,7 @@ fn lay(message: Data, packet: &[u8], out: &mut [u8]) -> usize
 
 // 20 and 18 are judged before a byte is touched.
 pub fn write(end: End, message: Data, packet: &[u8], out: &mut [u8]) -> WriteAnswer
-    ensures { Outcome (dataAllowed end message (length packet.now)) (dataWritten message packet.now) out.old result out.new }
+    ensures { Outcome (data_allowed end message (length packet.now)) (data_written message packet.now) out.old result out.new }
 {
     if !writable::data::may_write(end, message, packet.len()) {
         return answer::refused(refusal::NOT_WRITABLE);

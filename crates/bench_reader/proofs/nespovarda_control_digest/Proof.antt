@@ -1,18 +1,18 @@
 -- `nespovarda_control_digest` meets its contract: what is read, folded. Assumes nothing.
 use Rattle.std.proofs.Common.{sym, ◌∙◌, rules}
 use borrow.Author.Tests.{not-true, not-false}
-use Rattle.read_control.specs.Message.{controlRefused}
-use Rattle.reader.proofs.Planes.{plane-refuses}
+use Rattle.read_control.specs.Message.{control_refused}
+use Rattle.reader.proofs.Planes.{plane_refuses}
 use Rattle.bench_reader.specs.Digests.{end_of}
 use Rattle.bench_reader.proofs.nespovarda_control_digest.Statement.{statement}
 use Rattle.bench_reader.proofs.nespovarda_control_digest.Tie as tie
 
 returns : tie.Need-returns
-unfolding controlRefused
+unfolding control_refused
 returns c =
     let asked = c.before.before.before.before in
     let args = asked.before.before.args in
-    rw (plane-refuses (end_of args.radio) (record { 0 = args.id }) args.datagram.now (sym asked.plane.ensures ∙ c.before.before.refusal.given.1)).0 c.refused.ensures
+    rw (plane_refuses (end_of args.radio) (record { 0 = args.id }) args.datagram.now (sym asked.plane.ensures ∙ c.before.before.refusal.given.1)).0 c.refused.ensures
 
 returns-2 : tie.Need-returns-2
 returns-2 c =

@@ -1,7 +1,7 @@
 -- `nespovarda_noted_digest` meets its contract, by the plane. Assumes nothing.
 use Rattle.std.proofs.Common.{sym, ◌∙◌, rules}
-use Rattle.read_control.specs.Message.{controlRefused}
-use Rattle.reader.proofs.Planes.{plane-refuses, control-of-data}
+use Rattle.read_control.specs.Message.{control_refused}
+use Rattle.reader.proofs.Planes.{plane_refuses, control_of_data}
 use Rattle.bench_reader.proofs.nespovarda_noted_digest.Statement.{statement}
 use Rattle.bench_reader.proofs.nespovarda_noted_digest.Tie as tie
 
@@ -33,11 +33,11 @@ returns : tie.Need-returns
 returns c = rw (← c.before.end_of_lem.ensures) c.noted.ensures
 
 returns-2 : tie.Need-returns-2
-returns-2 c = rw (control-of-data _ _ _ (sym c.before.before.before.plane.ensures ∙ c.before.enum-told2.given.1)) c.fault.ensures
+returns-2 c = rw (control_of_data _ _ _ (sym c.before.before.before.plane.ensures ∙ c.before.enum-told2.given.1)) c.fault.ensures
 
 returns-3 : tie.Need-returns-3
-unfolding controlRefused
-returns-3 c = rw (plane-refuses _ _ _ (sym c.before.before.before.before.plane.ensures ∙ c.before.before.refusal.given.1)).0 c.refused.ensures
+unfolding control_refused
+returns-3 c = rw (plane_refuses _ _ _ (sym c.before.before.before.before.plane.ensures ∙ c.before.before.refusal.given.1)).0 c.refused.ensures
 
 pub nespovarda-noted-digest-spec : {M : Type 1} → statement M
 nespovarda-noted-digest-spec =

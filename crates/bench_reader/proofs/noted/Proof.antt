@@ -1,8 +1,8 @@
 -- `noted` meets its contract: what is noted, folded. Assumes nothing.
 use Rattle.std.proofs.Common.{sym, ap, ◌∙◌, rules}
 use borrow.Author.Tests.{not-true, not-false}
-use Rattle.bench_reader.specs.Digests.{windowPart}
-use Rattle.bench_reader.proofs.Tables.{noted_reading, noted-fault, noted-accepted, noted-beyond}
+use Rattle.bench_reader.specs.Digests.{window_part}
+use Rattle.bench_reader.proofs.Tables.{noted_reading, noted_fault, noted_accepted, noted_beyond}
 use Rattle.bench_reader.proofs.noted.Statement.{statement}
 use Rattle.bench_reader.proofs.noted.Tie as tie
 
@@ -25,13 +25,13 @@ fault-requires : tie.Need-fault-requires
 fault-requires c κs = search rules
 
 returns : tie.Need-returns
-returns c = noted-fault _ (noted_reading _ _ _ c.before.before.before.before.before.before.before.before.before.before.before.requires c.before.before.before.before.before.before.note.ensures) (sym c.before.before.is-accepted.ensures ∙ not-true _ c.before.if1.true) c.fault.ensures
+returns c = noted_fault _ (noted_reading _ _ _ c.before.before.before.before.before.before.before.before.before.before.before.requires c.before.before.before.before.before.before.note.ensures) (sym c.before.before.is-accepted.ensures ∙ not-true _ c.before.if1.true) c.fault.ensures
 
 noted-sum-requires : tie.Need-noted-sum-requires
 noted-sum-requires c κs = search rules
 
 returns-2 : tie.Need-returns-2
-returns-2 c = noted-beyond _ (noted_reading _ _ _ c.before.before.before.before.before.before.before.before.before.before.before.before.requires c.before.before.before.before.before.before.before.note.ensures) (sym c.before.before.before.is-accepted.ensures ∙ not-false _ c.before.before.if1.false) (search rules) (search rules) c.before.if2.true c.noted-sum.ensures
+returns-2 c = noted_beyond _ (noted_reading _ _ _ c.before.before.before.before.before.before.before.before.before.before.before.before.requires c.before.before.before.before.before.before.before.note.ensures) (sym c.before.before.before.is-accepted.ensures ∙ not-false _ c.before.before.if1.false) (search rules) (search rules) c.before.if2.true c.noted-sum.ensures
 
 mul-status-code : tie.Need-overflow-mul-status-code
 mul-status-code c = search rules
@@ -61,7 +61,7 @@ noted-sum-requires-2 : tie.Need-noted-sum-requires-2
 noted-sum-requires-2 c κs = search rules
 
 returns-3 : tie.Need-returns-3
-returns-3 c = noted-accepted _ (noted_reading _ _ _ c.before.before.before.before.before.before.before.before.before.before.before.before.before.before.before.requires c.before.before.before.before.before.before.before.before.before.before.note.ensures) (sym c.before.before.before.before.before.before.is-accepted.ensures ∙ not-false _ c.before.before.before.before.before.if1.false) c.before.before.before.status-code.ensures (c.before.window2.ensures ∙ ap windowPart c.before.before.window.ensures) c.noted-sum2.ensures
+returns-3 c = noted_accepted _ (noted_reading _ _ _ c.before.before.before.before.before.before.before.before.before.before.before.before.before.before.before.requires c.before.before.before.before.before.before.before.before.before.before.note.ensures) (sym c.before.before.before.before.before.before.is-accepted.ensures ∙ not-false _ c.before.before.before.before.before.if1.false) c.before.before.before.status-code.ensures (c.before.window2.ensures ∙ ap window_part c.before.before.window.ensures) c.noted-sum2.ensures
 
 pub noted-spec : {M : Type 1} → statement M
 noted-spec =

@@ -11,7 +11,7 @@ numbers-say-requires : tie.Need-numbers-say-requires
 numbers-say-requires c κs = search rules
 
 returns : tie.Need-returns
-returns c = rw c.numbers-say.ensures none
+returns c = rw c.numbers_say_lem.ensures none
 
 word-requires : tie.Need-word-requires
 word-requires c κs = search rules
@@ -26,7 +26,7 @@ words-say-requires : tie.Need-words-say-requires
 words-say-requires c κs = search rules
 
 returns-2 : tie.Need-returns-2
-returns-2 c = rw c.words-say.ensures (three _ _ _)
+returns-2 c = rw c.words_say_lem.ensures (three _ _ _)
 
 refused-requires : tie.Need-refused-requires
 refused-requires c κs = search rules

@@ -1,5 +1,5 @@
 -- `count` meets its contract: a record that is skipped, and a message of an end. Assumes nothing.
-use Rattle.census.proofs.Turns.{skipped-is, sent_is}
+use Rattle.census.proofs.Turns.{skipped_is, sent_is}
 use borrow.Author.Rules.{rules}
 use Rattle.census.proofs.count.Statement.{statement}
 use Rattle.census.proofs.count.Tie as tie
@@ -29,7 +29,7 @@ same_length : tie.Need-same-length
 same_length c = search rules
 
 returns : tie.Need-returns
-returns c = skipped-is _ _ _ _ c.before.before.before.before.before.before.before.before.before.before.before.before.before.before.args.counts.now c.before.before.before.before.before.before.before.kind-of.ensures c.before.before.before.before.before.before.sender-of.ensures c.before.before.before.before.before.before.before.before.before.before.add.ensures c.before.before.before.before.enum_told.given.1 c.before.before.add2.ensures
+returns c = skipped_is _ _ _ _ c.before.before.before.before.before.before.before.before.before.before.before.before.before.before.args.counts.now c.before.before.before.before.before.before.before.kind-of.ensures c.before.before.before.before.before.before.sender-of.ensures c.before.before.before.before.before.before.before.before.before.before.add.ensures c.before.before.before.before.enum_told.given.1 c.before.before.add2.ensures
 
 same-length-2 : tie.Need-same-length-2
 same-length-2 c = search rules

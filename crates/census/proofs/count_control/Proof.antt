@@ -1,5 +1,5 @@
 -- `count_control` meets its contract, by the verdict. Assumes nothing.
-use Rattle.census.specs.Adding.{addAll}
+use Rattle.census.specs.Adding.{add_all}
 use borrow.Author.Rules.{rules}
 use Rattle.census.proofs.count_control.Statement.{statement}
 use Rattle.census.proofs.count_control.Tie as tie
@@ -32,11 +32,11 @@ same-length-2 : tie.Need-same-length-2
 same-length-2 c = search rules
 
 returns-2 : tie.Need-returns-2
-unfolding addAll
+unfolding add_all
 returns-2 c = rw (← c.before.before.before.before.before.before.before.read.ensures, c.before.before.before.before.before.verdict.given.1) c.before.before.count-refusal.ensures
 
 returns-3 : tie.Need-returns-3
-unfolding addAll
+unfolding add_all
 returns-3 c = rw (← c.before.before.read.ensures, c.enum-told2.given.1)
 
 pub count-control-spec : {M : Type 1} → statement M

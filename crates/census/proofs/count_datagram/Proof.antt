@@ -1,6 +1,6 @@
 -- `count_datagram` meets its contract, by the plane. Assumes nothing.
 use Rattle.census.specs.Outcomes.{reading_of}
-use Rattle.census.specs.Adding.{addAll}
+use Rattle.census.specs.Adding.{add_all}
 use borrow.Author.Rules.{rules}
 use Rattle.census.proofs.count_datagram.Statement.{statement}
 use Rattle.census.proofs.count_datagram.Tie as tie
@@ -44,7 +44,7 @@ same-length-3 : tie.Need-same-length-3
 same-length-3 c = search rules
 
 returns-3 : tie.Need-returns-3
-unfolding reading_of addAll
+unfolding reading_of add_all
 returns-3 c = rw (← c.before.before.before.before.before.before.before.plane.ensures, c.before.before.before.before.before.refusal.given.1) c.before.before.count-refusal.ensures
 
 pub count-datagram-spec : {M : Type 1} → statement M

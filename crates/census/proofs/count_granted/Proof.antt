@@ -1,5 +1,5 @@
 -- `count_granted` meets its contract, by the end. Assumes nothing.
-use Rattle.census.specs.Adding.{addAll}
+use Rattle.census.specs.Adding.{add_all}
 use borrow.Author.Rules.{rules}
 use Rattle.census.proofs.count_granted.Statement.{statement}
 use Rattle.census.proofs.count_granted.Tie as tie
@@ -14,7 +14,7 @@ count-windows-requires : tie.Need-count-windows-requires
 count-windows-requires c κs = search rules
 
 returns : tie.Need-returns
-unfolding addAll
+unfolding add_all
 returns c = rw c.enum_told.given.1
 
 same_length : tie.Need-same-length

@@ -1,6 +1,6 @@
 -- `count_message` meets its contract: the end, then what the datagram is read as. Assumes nothing.
 use Rattle.census.specs.Outcomes.{reading_of}
-use Rattle.census.proofs.Turns.{message-is}
+use Rattle.census.proofs.Turns.{message_is}
 use borrow.Author.Rules.{rules}
 use Rattle.census.proofs.count_message.Statement.{statement}
 use Rattle.census.proofs.count_message.Tie as tie
@@ -21,7 +21,7 @@ same_length : tie.Need-same-length
 same_length c = search rules
 
 returns : tie.Need-returns
-returns c = rw (← c.before.before.before.datagram.ensures) (message-is c.before.before.before.before.before.before.before.before.before.before.before.before.args.end (reading_of c.before.before.before.before.before.before.before.before.before.before.before.before.args.end c.before.before.before.before.before.before.before.before.before.before.before.before.args.id c.before.before.before.datagram.result.now) c.before.before.before.before.before.before.before.before.before.before.before.before.args.counts.now c.before.before.before.before.before.before.before.before.end-place.ensures c.before.before.before.before.before.before.before.add.ensures c.before.before.count-datagram.ensures)
+returns c = rw (← c.before.before.before.datagram.ensures) (message_is c.before.before.before.before.before.before.before.before.before.before.before.before.args.end (reading_of c.before.before.before.before.before.before.before.before.before.before.before.before.args.end c.before.before.before.before.before.before.before.before.before.before.before.before.args.id c.before.before.before.datagram.result.now) c.before.before.before.before.before.before.before.before.before.before.before.before.args.counts.now c.before.before.before.before.before.before.before.before.end-place.ensures c.before.before.before.before.before.before.before.add.ensures c.before.before.count-datagram.ensures)
 
 pub count-message-spec : {M : Type 1} → statement M
 count-message-spec =

@@ -1,5 +1,5 @@
 -- `count_packet` meets its contract: one amount, then the other. Assumes nothing.
-use Rattle.census.specs.Adding.{addAll}
+use Rattle.census.specs.Adding.{add_all}
 use borrow.Author.Rules.{rules}
 use Rattle.census.proofs.count_packet.Statement.{statement}
 use Rattle.census.proofs.count_packet.Tie as tie
@@ -23,7 +23,7 @@ same_length : tie.Need-same-length
 same_length c = search rules
 
 returns : tie.Need-returns
-unfolding addAll
+unfolding add_all
 returns c = rw (← c.before.before.before.before.before.before.add.ensures) c.before.before.add2.ensures
 
 pub count-packet-spec : {M : Type 1} → statement M

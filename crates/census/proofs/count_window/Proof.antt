@@ -1,5 +1,5 @@
 -- `count_window` meets its contract: only a window with the field adds. Assumes nothing.
-use Rattle.census.specs.Adding.{addAll}
+use Rattle.census.specs.Adding.{add_all}
 use borrow.Author.Rules.{rules}
 use Rattle.census.proofs.count_window.Statement.{statement}
 use Rattle.census.proofs.count_window.Tie as tie
@@ -23,18 +23,18 @@ add-requires : tie.Need-add-requires
 add-requires c κs = search rules
 
 returns : tie.Need-returns
-unfolding addAll
+unfolding add_all
 returns c = rw c.enum_told.given.1
 
 returns-2 : tie.Need-returns-2
-unfolding addAll
+unfolding add_all
 returns-2 c = rw c.enum-told2.given.1
 
 same_length : tie.Need-same-length
 same_length c = search rules
 
 returns-3 : tie.Need-returns-3
-unfolding addAll
+unfolding add_all
 returns-3 c = rw c.before.before.before.before.enum-told3.given.1 c.before.before.add.ensures
 
 pub count-window-spec : {M : Type 1} → statement M

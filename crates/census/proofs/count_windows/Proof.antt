@@ -1,5 +1,5 @@
 -- `count_windows` meets its contract. The loop's invariant: the windows of the channels from here on are left to be counted. Assumes nothing.
-use Rattle.census.proofs.Turns.{Left, left-start, left-on, left_end}
+use Rattle.census.proofs.Turns.{Left, left_start, left_on, left_end}
 use Rattle.quantity.specs.Limits.{CHANNEL-IDS}
 use lib.ListN.{length}
 use borrow.Author.Rules.{rules}
@@ -17,10 +17,10 @@ decreases-loop counts₀ cells i₀ counts i = CHANNEL-IDS - i
 
 -- the table has a place for each Channel ID
 full : (c : tie.Start invariant-loop decreases-loop) → length c.args.t2 ≡ CHANNEL-IDS
-full c = c.well-formed.1.0.1.0.1
+full c = c.well_formed_lem.1.0.1.0.1
 
 loop-holds : tie.Need-loop-init invariant-loop decreases-loop
-loop-holds c = (omega arith, left-start _ _)
+loop-holds c = (omega arith, left_start _ _)
 
 add-next : tie.Need-overflow-add-next invariant-loop decreases-loop
 add-next c = search rules
@@ -41,7 +41,7 @@ loop-less : tie.Need-loop-smaller invariant-loop decreases-loop
 loop-less c = omega arith
 
 loop-again : tie.Need-loop-preserved invariant-loop decreases-loop
-loop-again c = let turn = c.before.before.before.before.before.before in (omega arith, left-on turn.loop.invariant.1 (omega (arith, full turn.before.before)) c.before.before.count-window.ensures)
+loop-again c = let turn = c.before.before.before.before.before.before in (omega arith, left_on turn.loop.invariant.1 (omega (arith, full turn.before.before)) c.before.before.count-window.ensures)
 
 same_length : tie.Need-same-length invariant-loop decreases-loop
 same_length c = c.before.loop.invariant.1.size

@@ -2,7 +2,7 @@
 use Prim.Native.Nat.{◌-◌, ◌≤◌}
 use native.Mathlib.Omega.{arith}
 use Rattle.quantity.specs.Limits.{CHANNEL-IDS}
-use Rattle.conduct.proofs.Steps.{Heard, heard-start, heard-on, heard-end}
+use Rattle.conduct.proofs.Steps.{Heard, heard_start, heard_on, heard_end}
 use borrow.Author.Rules.{rules}
 use Rattle.conduct.proofs.hear.Statement.{statement}
 use Rattle.conduct.proofs.hear.Tie as tie
@@ -14,7 +14,7 @@ abbrev decreases-loop : tie.decreases-loop
 decreases-loop words₀ cells i₀ words i = CHANNEL-IDS - i
 
 loop-holds : tie.Need-loop-init invariant-loop decreases-loop
-loop-holds c = (omega arith, heard-start _ _)
+loop-holds c = (omega arith, heard_start _ _)
 
 add-next : tie.Need-overflow-add-next invariant-loop decreases-loop
 add-next c = search rules
@@ -41,13 +41,13 @@ loop-less : tie.Need-loop-smaller invariant-loop decreases-loop
 loop-less c = omega arith
 
 loop-again : tie.Need-loop-preserved invariant-loop decreases-loop
-loop-again c = let turn = c.before.before.before.before.before.before.before in (omega arith, heard-on turn.loop.invariant.1 c.before.before.before.flow-word.ensures c.before.before.put.ensures)
+loop-again c = let turn = c.before.before.before.before.before.before.before in (omega arith, heard_on turn.loop.invariant.1 c.before.before.before.flow-word.ensures c.before.before.put.ensures)
 
 same_length : tie.Need-same-length invariant-loop decreases-loop
 same_length c = c.before.loop.invariant.1.size
 
 returns : tie.Need-returns invariant-loop decreases-loop
-returns c = heard-end c.before.loop.invariant.1 (omega arith) (omega arith)
+returns c = heard_end c.before.loop.invariant.1 (omega arith) (omega arith)
 
 pub hear-spec : {M : Type 1} → statement M
 hear-spec =

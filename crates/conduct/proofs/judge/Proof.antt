@@ -1,7 +1,7 @@
 -- `judge` meets its contract, by the kind of the record. Assumes nothing.
 use mathlib.Core.Path.{refl}
-use Rattle.conduct.specs.Outcomes.{outcomeBy, seenBy}
-use Rattle.conduct.proofs.Steps.{kind-is, seen-is}
+use Rattle.conduct.specs.Outcomes.{outcome_by, seen_by}
+use Rattle.conduct.proofs.Steps.{kind_is, seen_is}
 use borrow.Author.Rules.{rules}
 use Rattle.conduct.proofs.judge.Statement.{statement}
 use Rattle.conduct.proofs.judge.Tie as tie
@@ -64,57 +64,57 @@ same_length : tie.Need-same-length
 same_length c = search rules
 
 returns : tie.Need-returns
-unfolding outcomeBy seenBy
-returns c = (kind-is _ _ _ _ _ c.before.before.before.before.before.before.before.before.before.before.args.words.now c.before.before.before.before.before.before.before.kind-of.ensures c.before.before.before.before.before.enum_told.given.1 (rw (← c.before.before.before.datagram.ensures) c.before.before.judge-ips.ensures.0), seen-is _ _ _ _ c.before.before.before.before.before.before.before.kind-of.ensures c.before.before.before.before.before.enum_told.given.1 (rw (← c.before.before.before.datagram.ensures) c.before.before.judge-ips.ensures.1))
+unfolding outcome_by seen_by
+returns c = (kind_is _ _ _ _ _ c.before.before.before.before.before.before.before.before.before.before.args.words.now c.before.before.before.before.before.before.before.kind-of.ensures c.before.before.before.before.before.enum_told.given.1 (rw (← c.before.before.before.datagram.ensures) c.before.before.judge-ips.ensures.0), seen_is _ _ _ _ c.before.before.before.before.before.before.before.kind-of.ensures c.before.before.before.before.before.enum_told.given.1 (rw (← c.before.before.before.datagram.ensures) c.before.before.judge-ips.ensures.1))
 
 same-length-2 : tie.Need-same-length-2
 same-length-2 c = search rules
 
 returns-2 : tie.Need-returns-2
-unfolding outcomeBy seenBy
-returns-2 c = (kind-is _ _ _ _ _ c.before.before.before.before.before.before.before.before.before.before.args.words.now c.before.before.before.before.before.before.before.kind-of.ensures c.before.before.before.before.before.enum-told2.given.1 (rw (← c.before.before.before.datagram2.ensures) c.before.before.judge-radio.ensures), seen-is _ _ _ _ c.before.before.before.before.before.before.before.kind-of.ensures c.before.before.before.before.before.enum-told2.given.1 refl)
+unfolding outcome_by seen_by
+returns-2 c = (kind_is _ _ _ _ _ c.before.before.before.before.before.before.before.before.before.before.args.words.now c.before.before.before.before.before.before.before.kind-of.ensures c.before.before.before.before.before.enum-told2.given.1 (rw (← c.before.before.before.datagram2.ensures) c.before.before.judge-radio.ensures), seen_is _ _ _ _ c.before.before.before.before.before.before.before.kind-of.ensures c.before.before.before.before.before.enum-told2.given.1 refl)
 
 same-length-3 : tie.Need-same-length-3
 same-length-3 c = search rules
 
 returns-3 : tie.Need-returns-3
-unfolding outcomeBy seenBy
-returns-3 c = (kind-is _ _ _ _ _ c.before.before.before.before.before.before.before.before.before.args.words.now c.before.before.before.before.before.before.kind-of.ensures c.before.before.before.before.enum-told3.given.1 c.before.before.undecide.ensures, seen-is _ _ _ _ c.before.before.before.before.before.before.kind-of.ensures c.before.before.before.before.enum-told3.given.1 refl)
+unfolding outcome_by seen_by
+returns-3 c = (kind_is _ _ _ _ _ c.before.before.before.before.before.before.before.before.before.args.words.now c.before.before.before.before.before.before.kind-of.ensures c.before.before.before.before.enum-told3.given.1 c.before.before.undecide.ensures, seen_is _ _ _ _ c.before.before.before.before.before.before.kind-of.ensures c.before.before.before.before.enum-told3.given.1 refl)
 
 same-length-4 : tie.Need-same-length-4
 same-length-4 c = search rules
 
 returns-4 : tie.Need-returns-4
-unfolding outcomeBy seenBy
-returns-4 c = (kind-is _ _ _ _ _ c.before.before.before.before.before.before.before.before.before.args.words.now c.before.before.before.before.before.before.kind-of.ensures c.before.before.before.before.enum-told4.given.1 c.before.before.undecide2.ensures, seen-is _ _ _ _ c.before.before.before.before.before.before.kind-of.ensures c.before.before.before.before.enum-told4.given.1 refl)
+unfolding outcome_by seen_by
+returns-4 c = (kind_is _ _ _ _ _ c.before.before.before.before.before.before.before.before.before.args.words.now c.before.before.before.before.before.before.kind-of.ensures c.before.before.before.before.enum-told4.given.1 c.before.before.undecide2.ensures, seen_is _ _ _ _ c.before.before.before.before.before.before.kind-of.ensures c.before.before.before.before.enum-told4.given.1 refl)
 
 returns-5 : tie.Need-returns-5
-unfolding outcomeBy seenBy
-returns-5 c = (kind-is _ _ _ _ _ c.before.before.before.before.before.args.words.now c.before.before.kind-of.ensures c.enum-told5.given.1 refl, seen-is _ _ _ _ c.before.before.kind-of.ensures c.enum-told5.given.1 refl)
+unfolding outcome_by seen_by
+returns-5 c = (kind_is _ _ _ _ _ c.before.before.before.before.before.args.words.now c.before.before.kind-of.ensures c.enum-told5.given.1 refl, seen_is _ _ _ _ c.before.before.kind-of.ensures c.enum-told5.given.1 refl)
 
 returns-6 : tie.Need-returns-6
-unfolding outcomeBy seenBy
-returns-6 c = (kind-is _ _ _ _ _ c.before.before.before.before.before.args.words.now c.before.before.kind-of.ensures c.enum-told6.given.1 refl, seen-is _ _ _ _ c.before.before.kind-of.ensures c.enum-told6.given.1 refl)
+unfolding outcome_by seen_by
+returns-6 c = (kind_is _ _ _ _ _ c.before.before.before.before.before.args.words.now c.before.before.kind-of.ensures c.enum-told6.given.1 refl, seen_is _ _ _ _ c.before.before.kind-of.ensures c.enum-told6.given.1 refl)
 
 returns-7 : tie.Need-returns-7
-unfolding outcomeBy seenBy
-returns-7 c = (kind-is _ _ _ _ _ c.before.before.before.before.before.args.words.now c.before.before.kind-of.ensures c.enum-told7.given.1 refl, seen-is _ _ _ _ c.before.before.kind-of.ensures c.enum-told7.given.1 refl)
+unfolding outcome_by seen_by
+returns-7 c = (kind_is _ _ _ _ _ c.before.before.before.before.before.args.words.now c.before.before.kind-of.ensures c.enum-told7.given.1 refl, seen_is _ _ _ _ c.before.before.kind-of.ensures c.enum-told7.given.1 refl)
 
 returns-8 : tie.Need-returns-8
-unfolding outcomeBy seenBy
-returns-8 c = (kind-is _ _ _ _ _ c.before.before.before.before.before.args.words.now c.before.before.kind-of.ensures c.enum-told8.given.1 refl, seen-is _ _ _ _ c.before.before.kind-of.ensures c.enum-told8.given.1 refl)
+unfolding outcome_by seen_by
+returns-8 c = (kind_is _ _ _ _ _ c.before.before.before.before.before.args.words.now c.before.before.kind-of.ensures c.enum-told8.given.1 refl, seen_is _ _ _ _ c.before.before.kind-of.ensures c.enum-told8.given.1 refl)
 
 returns-9 : tie.Need-returns-9
-unfolding outcomeBy seenBy
-returns-9 c = (kind-is _ _ _ _ _ c.before.before.before.before.before.args.words.now c.before.before.kind-of.ensures c.enum-told9.given.1 refl, seen-is _ _ _ _ c.before.before.kind-of.ensures c.enum-told9.given.1 refl)
+unfolding outcome_by seen_by
+returns-9 c = (kind_is _ _ _ _ _ c.before.before.before.before.before.args.words.now c.before.before.kind-of.ensures c.enum-told9.given.1 refl, seen_is _ _ _ _ c.before.before.kind-of.ensures c.enum-told9.given.1 refl)
 
 returns-10 : tie.Need-returns-10
-unfolding outcomeBy seenBy
-returns-10 c = (kind-is _ _ _ _ _ c.before.before.before.before.before.args.words.now c.before.before.kind-of.ensures c.enum-told10.given.1 refl, seen-is _ _ _ _ c.before.before.kind-of.ensures c.enum-told10.given.1 refl)
+unfolding outcome_by seen_by
+returns-10 c = (kind_is _ _ _ _ _ c.before.before.before.before.before.args.words.now c.before.before.kind-of.ensures c.enum-told10.given.1 refl, seen_is _ _ _ _ c.before.before.kind-of.ensures c.enum-told10.given.1 refl)
 
 returns-11 : tie.Need-returns-11
-unfolding outcomeBy seenBy
-returns-11 c = (kind-is _ _ _ _ _ c.before.before.before.before.before.args.words.now c.before.before.kind-of.ensures c.enum-told11.given.1 refl, seen-is _ _ _ _ c.before.before.kind-of.ensures c.enum-told11.given.1 refl)
+unfolding outcome_by seen_by
+returns-11 c = (kind_is _ _ _ _ _ c.before.before.before.before.before.args.words.now c.before.before.kind-of.ensures c.enum-told11.given.1 refl, seen_is _ _ _ _ c.before.before.kind-of.ensures c.enum-told11.given.1 refl)
 
 pub judge-spec : {M : Type 1} → statement M
 judge-spec =

@@ -1,16 +1,16 @@
 -- `judge_ips` meets its contract, by the verdict. Assumes nothing.
 use mathlib.Core.Path.{◌≡◌, refl}
 use native.Mathlib.Omega.{arith}
-use Rattle.reader.specs.Readings.{readData}
+use Rattle.reader.specs.Readings.{read_data}
 use Rattle.meaning.specs.declared.message.End.{End}
-use Rattle.reader.proofs.Carried.{carried-reading, carried-within, carried-size}
+use Rattle.reader.proofs.Carried.{carried_reading_lem, carried_within, carried_size}
 use borrow.Author.Rules.{rules}
 use Rattle.conduct.proofs.judge_ips.Statement.{statement}
 use Rattle.conduct.proofs.judge_ips.Tie as tie
 
 -- the reading is that of `read`
-same : (c : tie.After-read-with-packet) → let args = c.before.before.before.args in c.read-with-packet.result.reading ≡ readData End.Ips args.id args.datagram.now
-same c = carried-reading _ _ _ c.read-with-packet.ensures.0
+same : (c : tie.After-read-with-packet) → let args = c.before.before.before.args in c.read-with-packet.result.reading ≡ read_data End.Ips args.id args.datagram.now
+same c = carried_reading_lem _ _ _ c.read-with-packet.ensures.0
 
 read-with-packet-requires : tie.Need-read-with-packet-requires
 read-with-packet-requires c κs = search rules
@@ -19,7 +19,7 @@ enum_told : tie.Need-enum-told
 enum_told c = search rules
 
 sub-size : tie.Need-overflow-sub-size
-sub-size c = omega (arith, carried-within _ _ _ c.before.before.before.before.before.read-with-packet.ensures.0)
+sub-size c = omega (arith, carried_within _ _ _ c.before.before.before.before.before.read-with-packet.ensures.0)
 
 channel-of-requires : tie.Need-channel-of-requires
 channel-of-requires c κs = search rules
@@ -40,7 +40,7 @@ same_length : tie.Need-same-length
 same_length c = search rules
 
 returns : tie.Need-returns
-returns c = let told = c.before.before.before.before.before.before.before.before in let read = c.before.before.before.before.before.before.before.before.before.before.before in let size = carried-size read.read-with-packet.result read.before.before.before.args.datagram.now read.read-with-packet.ensures.1 told.enum_told.given.1 in rw (← same read, told.enum_told.given.1, ← c.before.before.before.before.channel-of.ensures, ← c.before.before.before.sequence-of.ensures, size) (c.before.before.judge-packet.ensures, refl)
+returns c = let told = c.before.before.before.before.before.before.before.before in let read = c.before.before.before.before.before.before.before.before.before.before.before in let size = carried_size read.read-with-packet.result read.before.before.before.args.datagram.now read.read-with-packet.ensures.1 told.enum_told.given.1 in rw (← same read, told.enum_told.given.1, ← c.before.before.before.before.channel-of.ensures, ← c.before.before.before.sequence-of.ensures, size) (c.before.before.judge-packet.ensures, refl)
 
 returns-2 : tie.Need-returns-2
 returns-2 c = rw (← same c.before.before.before, c.enum-told2.given.1) (refl, refl)

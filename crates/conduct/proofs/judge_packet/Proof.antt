@@ -1,5 +1,5 @@
 -- `judge_packet` meets its contract. Assumes nothing.
-use Rattle.conduct.proofs.Steps.{packet-is}
+use Rattle.conduct.proofs.Steps.{packet_is}
 use borrow.Author.Rules.{rules}
 use Rattle.conduct.proofs.judge_packet.Statement.{statement}
 use Rattle.conduct.proofs.judge_packet.Tie as tie
@@ -56,7 +56,7 @@ same_length : tie.Need-same-length
 same_length c = search rules
 
 returns : tie.Need-returns
-returns c = packet-is _ _ _ _ c.before.before.before.before.before.before.before.before.before.before.before.before.before.before.before.before.before.before.before.before.args.words.now c.before.before.before.before.before.before.before.before.before.before.before.before.before.before.before.before.before.word.ensures c.before.before.before.before.before.before.before.before.before.before.before.before.before.before.before.word2.ensures c.before.before.before.before.before.before.before.before.before.before.before.before.before.word3.ensures c.before.before.before.before.before.before.before.before.before.before.before.before.flow-in.ensures c.before.before.before.before.before.before.before.before.before.before.before.base-in.ensures c.before.before.before.before.before.before.before.before.before.before.obeys.ensures c.before.before.before.before.before.before.before.before.breach-after.ensures c.before.before.before.before.before.before.before.put.ensures c.before.before.before.base-after.ensures c.before.before.put2.ensures
+returns c = packet_is _ _ _ _ c.before.before.before.before.before.before.before.before.before.before.before.before.before.before.before.before.before.before.before.before.args.words.now c.before.before.before.before.before.before.before.before.before.before.before.before.before.before.before.before.before.word.ensures c.before.before.before.before.before.before.before.before.before.before.before.before.before.before.before.word2.ensures c.before.before.before.before.before.before.before.before.before.before.before.before.before.word3.ensures c.before.before.before.before.before.before.before.before.before.before.before.before.flow-in.ensures c.before.before.before.before.before.before.before.before.before.before.before.base-in.ensures c.before.before.before.before.before.before.before.before.before.before.obeys.ensures c.before.before.before.before.before.before.before.before.breach-after.ensures c.before.before.before.before.before.before.before.put.ensures c.before.before.before.base_after_lem.ensures c.before.before.put2.ensures
 
 pub judge-packet-spec : {M : Type 1} → statement M
 judge-packet-spec =

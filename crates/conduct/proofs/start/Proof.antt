@@ -5,7 +5,7 @@ use Prim.Native.Nat.{◌-◌, ◌≤◌}
 use native.Mathlib.Omega.{arith}
 use borrow.Author.Fill.{fill_more}
 use lib.ListN.{length, drop, replicate, length-set}
-use Rattle.conduct.proofs.Steps.{zeros-all}
+use Rattle.conduct.proofs.Steps.{zeros_all}
 use borrow.Author.Rules.{rules}
 use Rattle.conduct.proofs.start.Statement.{statement}
 use Rattle.conduct.proofs.start.Tie as tie
@@ -38,7 +38,7 @@ same_length : tie.Need-same-length invariant-loop decreases-loop
 same_length c = search rules
 
 returns : tie.Need-returns invariant-loop decreases-loop
-returns c = zeros-all _ _ c.before.loop.i c.before.loop.invariant.1 (omega arith)
+returns c = zeros_all _ _ c.before.loop.i c.before.loop.invariant.1 (omega arith)
 
 pub start_spec : {M : Type 1} → statement M
 start_spec =

@@ -1,6 +1,6 @@
 -- `say` is safe: the answer fills the output as it was lent. Assumes nothing.
 use mathlib.Core.Path.{sym}
-use Rattle.text.proofs.Writing.{wrote-size}
+use Rattle.text.proofs.Writing.{wrote_size}
 use borrow.Author.Rules.{rules}
 use Rattle.distance.proofs.say.Statement.{statement}
 use Rattle.distance.proofs.say.Tie as tie
@@ -9,7 +9,7 @@ answer-requires : tie.Need-answer-requires
 answer-requires c κs = search rules
 
 slice-aggregate-put : tie.Need-slice-aggregate-put
-slice-aggregate-put c = sym (wrote-size c.before.answer.ensures)
+slice-aggregate-put c = sym (wrote_size c.before.answer.ensures)
 
 slice-aggregate-put-2 : tie.Need-slice-aggregate-put-2
 slice-aggregate-put-2 c = search rules

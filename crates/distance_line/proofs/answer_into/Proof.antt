@@ -1,8 +1,8 @@
 -- `answer_into` meets its contract: `bad`, or the row of the numbers that were read. Assumes nothing.
 use native.Mathlib.Omega.{arith}
 use mathlib.Core.Path.{sym, ◌∙◌}
-use Rattle.text.proofs.Writing.{lays-wrote}
-use Rattle.distance_line.proofs.Laws.{answer-as}
+use Rattle.text.proofs.Writing.{lays_wrote}
+use Rattle.distance_line.proofs.Laws.{answer_as}
 use borrow.Author.Rules.{rules}
 use Rattle.distance_line.proofs.answer_into.Statement.{statement}
 use Rattle.distance_line.proofs.answer_into.Tie as tie
@@ -29,7 +29,7 @@ returns : tie.Need-returns
 returns c =
     let told = c.before.before.before.before.before in
     let read = sym told.before.before.read-line.ensures ∙ told.enum_told.given.1 in
-    answer-as _ read (lays-wrote (omega arith) c.before.before.put.ensures)
+    answer_as _ read (lays_wrote (omega arith) c.before.before.put.ensures)
 
 put-row-requires : tie.Need-put-row-requires
 put-row-requires c κs = search rules
@@ -41,7 +41,7 @@ returns-2 : tie.Need-returns-2
 returns-2 c =
     let told = c.before.before.before.before in
     let read = sym told.before.before.before.read-line.ensures ∙ told.before.sequence.given.1 in
-    answer-as _ read c.before.before.put-row.ensures
+    answer_as _ read c.before.before.put-row.ensures
 
 pub answer-into-spec : {M : Type 1} → statement M
 answer-into-spec =

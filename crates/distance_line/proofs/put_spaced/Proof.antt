@@ -1,7 +1,7 @@
 -- `put_spaced` meets its contract: the number has at most 10 digits, so there is room for it and the space. Assumes nothing.
 use native.Mathlib.Omega.{arith}
-use Rattle.text.proofs.Decimals.{decimal-most}
-use Rattle.text.proofs.Writing.{lays-on}
+use Rattle.text.proofs.Decimals.{decimal_most}
+use Rattle.text.proofs.Writing.{lays_on}
 use Rattle.distance_line.specs.Answer.{spaced}
 use borrow.Author.Rules.{rules}
 use Rattle.distance_line.proofs.put_spaced.Statement.{statement}
@@ -24,8 +24,8 @@ unfolding spaced
 returns c =
     let number = c.before.before.before.before.before.before.before in
     let start = number.before.before.before in
-    let short = decimal-most start.args.value 10 (omega arith) (omega arith) (omega arith) in
-    lays-on number.put-number.ensures c.before.before.put.ensures (omega arith)
+    let short = decimal_most start.args.value 10 (omega arith) (omega arith) (omega arith) in
+    lays_on number.put-number.ensures c.before.before.put.ensures (omega arith)
 
 pub put-spaced-spec : {M : Type 1} → statement M
 put-spaced-spec =

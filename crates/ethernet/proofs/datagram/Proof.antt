@@ -1,5 +1,5 @@
 -- `datagram` meets its contract: Ethernet, IPv4 and UDP, one behind the other. Assumes nothing.
-use Rattle.ethernet.specs.Layers.{datagramOf}
+use Rattle.ethernet.specs.Layers.{datagram_of}
 use borrow.Author.Rules.{rules}
 use Rattle.ethernet.proofs.datagram.Statement.{statement}
 use Rattle.ethernet.proofs.datagram.Tie as tie
@@ -17,7 +17,7 @@ part-requires : tie.Need-part-requires
 part-requires c κs = search rules
 
 returns : tie.Need-returns
-unfolding datagramOf
+unfolding datagram_of
 returns c = rw (← c.before.before.before.packet.ensures, ← c.before.before.carried.ensures, ← c.before.word.ensures) c.part.ensures
 
 pub datagram-spec : {M : Type 1} → statement M

@@ -1,6 +1,6 @@
 -- `part` meets its contract: both ends within the bytes, or not. Assumes nothing.
 use native.Mathlib.Omega.{arith}
-use Rattle.ethernet.proofs.Parts.{slice_inside, slice-crossed, slice-past, slice-rest}
+use Rattle.ethernet.proofs.Parts.{slice_inside, slice_crossed, slice_past, slice_rest}
 use borrow.Author.Rules.{rules}
 use Rattle.ethernet.proofs.part.Statement.{statement}
 use Rattle.ethernet.proofs.part.Tie as tie
@@ -24,7 +24,7 @@ part-result-end-2 : tie.Need-slice-bounds-result-end-2
 part-result-end-2 c = search rules
 
 returns-2 : tie.Need-returns-2
-returns-2 c = slice-crossed _ _ _ (omega arith)
+returns-2 c = slice_crossed _ _ _ (omega arith)
 
 sub-result-2 : tie.Need-overflow-sub-result-2
 sub-result-2 c = search rules
@@ -36,7 +36,7 @@ part-result-end-3 : tie.Need-slice-bounds-result-end-3
 part-result-end-3 c = search rules
 
 returns-3 : tie.Need-returns-3
-returns-3 c = slice-rest _ _ _ (omega arith) (omega arith)
+returns-3 c = slice_rest _ _ _ (omega arith) (omega arith)
 
 sub-result-3 : tie.Need-overflow-sub-result-3
 sub-result-3 c = search rules
@@ -48,7 +48,7 @@ part-result-end-4 : tie.Need-slice-bounds-result-end-4
 part-result-end-4 c = search rules
 
 returns-4 : tie.Need-returns-4
-returns-4 c = slice-past _ _ _ (omega arith) (omega arith)
+returns-4 c = slice_past _ _ _ (omega arith) (omega arith)
 
 pub part-spec : {M : Type 1} → statement M
 part-spec =

@@ -1,8 +1,8 @@
 -- `hear` meets its contract. Assumes nothing.
 use mathlib.Core.Path.{◌∙◌}
 use borrow.Author.Rules.{rules}
-use Rattle.ips_words_radio.specs.HeardWords.{heardWords}
-use Rattle.ips_words_radio.proofs.Hearing.{slots-room, instance-room}
+use Rattle.ips_words_radio.specs.HeardWords.{heard_words}
+use Rattle.ips_words_radio.proofs.Hearing.{slots_room, instance_room}
 use Rattle.ips_words_radio.proofs.hear.Statement.{statement}
 use Rattle.ips_words_radio.proofs.hear.Tie as tie
 
@@ -10,17 +10,17 @@ hear-instance-requires : tie.Need-hear-instance-requires
 hear-instance-requires c κs =
     let slots = c.before.before.before in
     let start = slots.before.before.before in
-    slots-room start.args.message _ _ start.requires slots.hear-slots.ensures
+    slots_room start.args.message _ _ start.requires slots.hear-slots.ensures
 
 hear-context-requires : tie.Need-hear-context-requires
 hear-context-requires c κs =
     let instance = c.before.before.before in
     let slots = instance.before.before.before.before in
     let start = slots.before.before.before in
-    instance-room start.args.message.instance slots.hear-slots.new.0 _ (slots-room start.args.message _ _ start.requires slots.hear-slots.ensures) instance.hear-instance.ensures
+    instance_room start.args.message.instance slots.hear-slots.new.0 _ (slots_room start.args.message _ _ start.requires slots.hear-slots.ensures) instance.hear-instance.ensures
 
 returns : tie.Need-returns
-unfolding heardWords
+unfolding heard_words
 returns c =
     let context = c.before.before in
     let instance = context.before.before.before.before in

@@ -2,16 +2,16 @@
 use native.Mathlib.Omega.{arith}
 use borrow.Author.Rules.{rules}
 use lib.ListN.{length-set}
-use Rattle.ips_words_radio.specs.HeardWords.{contextHeard}
+use Rattle.ips_words_radio.specs.HeardWords.{context_heard}
 use Rattle.ips_words_radio.proofs.hear_context.Statement.{statement}
 use Rattle.ips_words_radio.proofs.hear_context.Tie as tie
 
 returns : tie.Need-returns
-unfolding contextHeard
+unfolding context_heard
 returns c = rw c.enum_told.given.1
 
 returns-2 : tie.Need-returns-2
-unfolding contextHeard
+unfolding context_heard
 returns-2 c = rw (c.before.before.given.given.1, c.wide.ensures)
 
 pub hear-context-spec : {M : Type 1} → statement M

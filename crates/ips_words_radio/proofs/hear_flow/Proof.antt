@@ -1,7 +1,7 @@
 -- `hear_flow` meets its contract. Assumes nothing.
 use borrow.Author.Rules.{rules}
 use borrow.Author.Tests.{ne_eqb}
-use Rattle.ips_words_radio.proofs.Parts.{flow-set}
+use Rattle.ips_words_radio.proofs.Parts.{flow_set}
 use Rattle.ips_words_radio.proofs.hear_flow.Statement.{statement}
 use Rattle.ips_words_radio.proofs.hear_flow.Tie as tie
 
@@ -12,7 +12,7 @@ returns-2 : tie.Need-returns-2
 returns-2 c =
     let heard = c.before.before in
     let start = heard.before.before.before.before in
-    flow-set start.args.part.now start.args.cell.window _ _ _ heard.before.if1.false heard.heard.ensures c.before.flow-tag.ensures c.flow-window.ensures
+    flow_set start.args.part.now start.args.cell.window _ _ _ heard.before.if1.false heard.heard.ensures c.before.flow_tag_lem.ensures c.flow_window_lem.ensures
 
 pub hear-flow-spec : {M : Type 1} → statement M
 hear-flow-spec =

@@ -6,20 +6,20 @@ use native.Mathlib.Omega.{arith}
 use lib.ListN.{length, take, drop, length-drop}
 use lib.Seq.{length-take-le}
 use Rattle.quantity.specs.Limits.{SHORTEST-PACKET}
-use Rattle.ipv6.specs.Ipv6.{isIpv6, versionIn}
+use Rattle.ipv6.specs.Ipv6.{is_ipv6, version_in}
 use Rattle.ipv6.proofs.is_ipv6.Statement.{statement}
 use Rattle.ipv6.proofs.is_ipv6.Tie as tie
 
 returns : tie.Need-returns
-unfolding isIpv6
+unfolding is_ipv6
 returns c = rw (lt-leb SHORTEST-PACKET (length c.before.before.args.packet.now) c.if1.true)
 
 returns-2 : tie.Need-returns-2
-unfolding isIpv6
+unfolding is_ipv6
 returns-2 c =
     let long = c.before.before in
     let packet = long.before.before.args.packet.now in
-    rw (le-leb SHORTEST-PACKET (length packet) (omega (arith, long.if1.false)), ne_eqb (versionIn packet) 6 c.if2.true)
+    rw (le-leb SHORTEST-PACKET (length packet) (omega (arith, long.if1.false)), ne_eqb (version_in packet) 6 c.if2.true)
 
 -- the two bytes of the Payload Length are below 2^16
 add-result : tie.Need-overflow-add-result
@@ -31,11 +31,11 @@ add-result c =
     record { fits = omega (arith, below) }
 
 returns-3 : tie.Need-returns-3
-unfolding isIpv6
+unfolding is_ipv6
 returns-3 c =
     let long = c.before.before.before.before in
     let packet = long.before.before.args.packet.now in
-    rw (le-leb SHORTEST-PACKET (length packet) (omega (arith, long.if1.false)), eq-eqb (versionIn packet) 6 c.before.before.if2.false, c.read.ensures.0)
+    rw (le-leb SHORTEST-PACKET (length packet) (omega (arith, long.if1.false)), eq-eqb (version_in packet) 6 c.before.before.if2.false, c.read.ensures.0)
 
 pub is-ipv6-spec : {M : Type 1} → statement M
 is-ipv6-spec =

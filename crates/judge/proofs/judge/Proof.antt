@@ -1,6 +1,6 @@
 -- `judge` meets its contract: the words are those of all turns, from zeros on. Assumes nothing.
 use borrow.Author.Rules.{rules}
-use Rattle.judge.proofs.Serving.{judged-by}
+use Rattle.judge.proofs.Serving.{judged_by_lem}
 use Rattle.judge.proofs.judge.Statement.{statement}
 use Rattle.judge.proofs.judge.Tie as tie
 
@@ -26,7 +26,7 @@ same-length-3 : tie.Need-same-length-3
 same-length-3 c = search rules
 
 returns : tie.Need-returns
-returns c = judged-by c.before.before.before.before.before.before.before.before.before.before.before.before.before.before.before.before.before.before.before.start.ensures c.before.before.before.before.before.before.before.before.before.before.before.before.before.before.serve.ensures
+returns c = judged_by_lem c.before.before.before.before.before.before.before.before.before.before.before.before.before.before.before.before.before.before.before.start.ensures c.before.before.before.before.before.before.before.before.before.before.before.before.before.before.serve.ensures
 
 same-length-4 : tie.Need-same-length-4
 same-length-4 c = search rules
@@ -38,7 +38,7 @@ same-length-6 : tie.Need-same-length-6
 same-length-6 c = search rules
 
 returns-2 : tie.Need-returns-2
-returns-2 c = judged-by c.before.before.before.before.before.before.before.before.before.before.before.before.before.before.before.start.ensures c.before.before.before.before.before.before.before.before.before.before.serve.ensures
+returns-2 c = judged_by_lem c.before.before.before.before.before.before.before.before.before.before.before.before.before.before.before.start.ensures c.before.before.before.before.before.before.before.before.before.before.serve.ensures
 
 pub judge-spec : {M : Type 1} → statement M
 judge-spec =

@@ -1,7 +1,7 @@
 -- `turn` meets its contract, by what came. Assumes nothing.
 use borrow.Author.Rules.{rules}
-use Rattle.judge.proofs.Serving.{turn_end, turn-refused, turn-record}
-use Rattle.records.proofs.Pieces.{came-inside}
+use Rattle.judge.proofs.Serving.{turn_end, turn_refused, turn_record}
+use Rattle.records.proofs.Pieces.{came_inside}
 use Rattle.judge.proofs.turn.Statement.{statement}
 use Rattle.judge.proofs.turn.Tie as tie
 
@@ -15,13 +15,13 @@ enum-known-came : tie.Need-enum-known-came
 enum-known-came c = search rules
 
 sub-judge : tie.Need-overflow-sub-judge
-sub-judge c = (came-inside c.before.before.before.before.before.before.read-record.ensures c.before.before.came.given.1).0
+sub-judge c = (came_inside c.before.before.before.before.before.before.read-record.ensures c.before.before.came.given.1).0
 
 part-judge-start : tie.Need-slice-bounds-judge-start
-part-judge-start c = (came-inside c.before.before.before.before.before.before.before.read-record.ensures c.before.before.before.came.given.1).0
+part-judge-start c = (came_inside c.before.before.before.before.before.before.before.read-record.ensures c.before.before.before.came.given.1).0
 
 part-judge-end : tie.Need-slice-bounds-judge-end
-part-judge-end c = (came-inside c.before.before.before.before.before.before.before.read-record.ensures c.before.before.before.came.given.1).1
+part-judge-end c = (came_inside c.before.before.before.before.before.before.before.read-record.ensures c.before.before.before.came.given.1).1
 
 judge-requires : tie.Need-judge-requires
 judge-requires c κs = search rules
@@ -48,7 +48,7 @@ same-length-3 : tie.Need-same-length-3
 same-length-3 c = search rules
 
 returns-2 : tie.Need-returns-2
-returns-2 c = turn-record c.before.before.before.before.before.before.before.before.before.before.before.before.read-record.ensures c.before.before.before.before.before.before.before.before.came.given.1 c.before.before.before.judge.ensures.0 c.before.before.before.judge.ensures.1 c.tallied.ensures
+returns-2 c = turn_record c.before.before.before.before.before.before.before.before.before.before.before.before.read-record.ensures c.before.before.before.before.before.before.before.before.came.given.1 c.before.before.before.judge.ensures.0 c.before.before.before.judge.ensures.1 c.tallied.ensures
 
 same-length-4 : tie.Need-same-length-4
 same-length-4 c = search rules
@@ -57,7 +57,7 @@ same-length-5 : tie.Need-same-length-5
 same-length-5 c = search rules
 
 returns-3 : tie.Need-returns-3
-returns-3 c = turn-refused c.before.before.before.before.before.before.before.before.read-record.ensures c.before.before.before.before.enum-told2.given.1 c.before.before.undecide.ensures
+returns-3 c = turn_refused c.before.before.before.before.before.before.before.before.read-record.ensures c.before.before.before.before.enum-told2.given.1 c.before.before.undecide.ensures
 
 pub turn_spec : {M : Type 1} → statement M
 turn_spec =

@@ -4,13 +4,13 @@ use mathlib.Core.Bool.{true}
 use mathlib.Core.Path.{◌≡◌, sym, ◌∙◌}
 use lib.ListN.{length}
 use borrow.Author.Tests.{not-true, not-false}
-use Rattle.lines.specs.Unread.{tidyOf}
-use Rattle.lines.proofs.Laws.{tidy-is, filled_none, filled-lost, filled-kept}
+use Rattle.lines.specs.Unread.{tidy_of}
+use Rattle.lines.proofs.Laws.{tidy_is, filled_none, filled_lost, filled_kept}
 use borrow.Author.Rules.{rules}
 use Rattle.lines.proofs.fill.Statement.{statement}
 use Rattle.lines.proofs.fill.Tie as tie
 
-tidied : (c : tie.Else1) → tidyOf (length c.before.before.before.args.buffer.now) c.before.before.before.args.input ≡ true
+tidied : (c : tie.Else1) → tidy_of (length c.before.before.before.args.buffer.now) c.before.before.before.args.input ≡ true
 tidied c = sym c.before.tidy.ensures ∙ not-false _ c.if1.false
 
 tidy-requires : tie.Need-tidy-requires
@@ -32,17 +32,17 @@ returns-2 : tie.Need-returns-2
 returns-2 c =
     let test = c.before.before.before.before in
     let lost = sym test.before.lost.ensures ∙ test.if2.true in
-    filled-lost _ _ (tidied test.before.before) lost c.before.before.read_behind.ensures
+    filled_lost _ _ (tidied test.before.before) lost c.before.before.read_behind.ensures
 
 sub-n : tie.Need-overflow-sub-n
-sub-n c = let k = tidy-is _ _ (tidied c.before.before.before) in omega arith
+sub-n c = let k = tidy_is _ _ (tidied c.before.before.before) in omega arith
 
 move-down-requires : tie.Need-move-down-requires
-move-down-requires c κs = let k = tidy-is _ _ (tidied c.before.before.before.before) in omega arith
+move-down-requires c κs = let k = tidy_is _ _ (tidied c.before.before.before.before) in omega arith
 
 read-behind-requires-2 : tie.Need-read-behind-requires-2
 read-behind-requires-2 c κs =
-    let k = tidy-is _ _ (tidied c.before.before.before.before.before.before.before.before) in
+    let k = tidy_is _ _ (tidied c.before.before.before.before.before.before.before.before) in
     omega arith
 
 same-length-2 : tie.Need-same-length-2
@@ -53,7 +53,7 @@ returns-3 c =
     let moved = c.before.before.before.before.before.before in
     let test = moved.before.before.before in
     let kept = sym test.before.lost.ensures ∙ test.if2.false in
-    filled-kept _ _ (tidied test.before.before) kept moved.move_down.ensures c.before.before.read-behind2.ensures
+    filled_kept _ _ (tidied test.before.before) kept moved.move_down.ensures c.before.before.read-behind2.ensures
 
 pub fill_spec : {M : Type 1} → statement M
 fill_spec =

@@ -1,6 +1,6 @@
 -- `read_behind` meets its contract: a read touches only the part behind what is kept, and counts within it. Assumes nothing.
 use native.Mathlib.Omega.{arith}
-use Rattle.lines.proofs.Laws.{behind-is}
+use Rattle.lines.proofs.Laws.{behind_is}
 use borrow.Author.Rules.{rules}
 use Rattle.lines.proofs.read_behind.Statement.{statement}
 use Rattle.lines.proofs.read_behind.Tie as tie
@@ -33,7 +33,7 @@ returns : tie.Need-returns
 returns c =
     let counted = c.before.before.before in
     let read = counted.before.before.before.before.read in
-    behind-is _ _ _ _ _ read.new.1.0 (omega arith) read.auto.1.0 counted.count.ensures.0.0 counted.count.ensures.1 c.after.ensures
+    behind_is _ _ _ _ _ read.new.1.0 (omega arith) read.auto.1.0 counted.count.ensures.0.0 counted.count.ensures.1 c.after.ensures
 
 pub read-behind-spec : {M : Type 1} → statement M
 read-behind-spec =

@@ -8,12 +8,12 @@ use Rattle.quantity.specs.Limits.{CHANNEL-IDS}
 use Rattle.meaning.specs.declared.message.Control.{Control}
 use Rattle.read_option.specs.declared.answer.Item.{Item}
 use Rattle.read_option.specs.declared.answer.OptionAnswer.{OptionAnswer}
-use Rattle.read_rules.specs.Sorts.{finishOf, unstatedDatalink}
+use Rattle.read_rules.specs.Sorts.{finish_of, unstated_datalink}
 use Rattle.read_rules.proofs.Turn.{ends, cuts}
 use Rattle.read_rules.proofs.Taking.{Framed, room_of}
-use Rattle.read_control.specs.Message.{unstatedInstance, unstatedContext, controlSort}
-use Rattle.read_control.proofs.Message.{whole_of, Stating, refusing, stating, passing, refuses-whole, accepts-whole}
-use Rattle.note_control.proofs.Told.{Told, Judged, told-nothing, status-free, status-there, window-free, window-there, sequence-free, sequence-there, told-datalink, told-instance, told-context, told-status, told-sequence, told-window, unnoted-is, noted-is, fault-told}
+use Rattle.read_control.specs.Message.{unstated_instance, unstated_context, control_sort}
+use Rattle.read_control.proofs.Message.{whole_of, Stating, refusing, stating, passing, refuses_whole, accepts_whole}
+use Rattle.note_control.proofs.Told.{Told, Judged, told_nothing, status_free, status_there, window_free, window_there, sequence_free, sequence_there, told_datalink, told_instance, told_context, told_status, told_sequence, told_window, unnoted_is, noted_is, fault_told}
 use Rattle.note_control.proofs.note.Statement.{statement}
 use Rattle.note_control.proofs.note.Tie as tie
 
@@ -33,7 +33,7 @@ framed : (c : tie.After-known-told invariant-loop decreases-loop) →
     let head = c.before.before.before.before.before.before in
     let args = head.before.before.before.before.before.args in
     let option = c.before.kind.given.0 in
-    Framed (controlSort args.end args.id) (whole_of args.end args.id args.datagram.now) args.datagram.now head.loop.at (stated head) option.0 option.1.0
+    Framed (control_sort args.end args.id) (whole_of args.end args.id args.datagram.now) args.datagram.now head.loop.at (stated head) option.0 option.1.0
 framed c =
     let test = c.before.before.before.before.before in
     record { inv = test.before.loop.invariant.reached; inside = test.loop-test.true; frame = sym c.before.kind.given.1 ∙ c.before.before.before.first.ensures }
@@ -62,13 +62,13 @@ telling c = c.before.before.before.before.before.before.before.before.before.bef
 
 -- the lent tables are as long as they were
 statuses-same : (c : tie.At-loop invariant-loop decreases-loop) → length c.loop.statuses ≡ length c.before.before.before.before.before.args.statuses.now
-statuses-same c = c.loop.invariant.told.statuses-long ∙ sym (ap length c.before.before.before.before.before.requires.0 ∙ length-replicate {A = ℕ} CHANNEL-IDS 0)
+statuses-same c = c.loop.invariant.told.statuses_long ∙ sym (ap length c.before.before.before.before.before.requires.0 ∙ length-replicate {A = ℕ} CHANNEL-IDS 0)
 
 tags-same : (c : tie.At-loop invariant-loop decreases-loop) → length c.loop.tags ≡ length c.before.before.before.before.before.args.tags.now
-tags-same c = c.loop.invariant.told.tags-long ∙ sym (ap length c.before.before.before.before.before.requires.1 ∙ length-replicate {A = ℕ} CHANNEL-IDS 0)
+tags-same c = c.loop.invariant.told.tags_long ∙ sym (ap length c.before.before.before.before.before.requires.1 ∙ length-replicate {A = ℕ} CHANNEL-IDS 0)
 
 windows-same : (c : tie.At-loop invariant-loop decreases-loop) → length c.loop.windows ≡ length c.before.before.before.before.before.args.windows.now
-windows-same c = c.loop.invariant.told.windows-long ∙ sym (ap length c.before.before.before.before.before.requires.2 ∙ length-replicate {A = ℕ} CHANNEL-IDS 0)
+windows-same c = c.loop.invariant.told.windows_long ∙ sym (ap length c.before.before.before.before.before.requires.2 ∙ length-replicate {A = ℕ} CHANNEL-IDS 0)
 
 datalink-arm : (c : tie.After-item invariant-loop decreases-loop) → Arm c.before.before (Item.Datalink c.item.given.0.0)
 datalink-arm c = arm c.before.before c.item.given.1
@@ -89,13 +89,13 @@ window-arm : (c : tie.After-item6 invariant-loop decreases-loop) → Arm c.befor
 window-arm c = arm c.before.before c.item6.given.1
 
 loop-holds : tie.Need-loop-init invariant-loop decreases-loop
-loop-holds c = let pre = c.before.before.before.before.requires in record { stated = _; reached = refl; told = rw (pre.0, pre.1, pre.2) told-nothing }
+loop-holds c = let pre = c.before.before.before.before.requires in record { stated = _; reached = refl; told = rw (pre.0, pre.1, pre.2) told_nothing }
 
 returns : tie.Need-returns invariant-loop decreases-loop
 returns c =
     let test = c.before.before.before.before.before in
     let head = test.before in
-    unnoted-is c.unnoted.ensures (sym (cuts _ _ head.loop.at (stated head) head.loop.invariant.reached test.loop-test.true (sym c.before.enum_told.given.1 ∙ c.before.before.before.first.ensures)))
+    unnoted_is c.unnoted.ensures (sym (cuts _ _ head.loop.at (stated head) head.loop.invariant.reached test.loop-test.true (sym c.before.enum_told.given.1 ∙ c.before.before.before.first.ensures)))
 
 add-from : tie.Need-overflow-add-from invariant-loop decreases-loop
 add-from c = omega (arith, room_of (framed c))
@@ -109,16 +109,16 @@ part-of-noted-end c = room_of (framed c)
 returns-2 : tie.Need-returns-2 invariant-loop decreases-loop
 returns-2 c =
     let answered = c.before.before.before.before in
-    unnoted-is c.unnoted2.ensures (rw c.before.number_of_lem.ensures (refusing (framed answered.before.before) answered.of-noted.ensures.0 c.before.before.enum-told2.given.1))
+    unnoted_is c.unnoted2.ensures (rw c.before.number_of_lem.ensures (refusing (framed answered.before.before) answered.of-noted.ensures.0 c.before.before.enum-told2.given.1))
 
 returns-3 : tie.Need-returns-3 invariant-loop decreases-loop
-returns-3 c = unnoted-is c.unnoted3.ensures ((datalink-arm c.before.before.before.before).repeated (ap unstatedDatalink ((telling c.before.before.before.before.before.before).datalink-is ∙ c.before.enum-told4.given.1)))
+returns-3 c = unnoted_is c.unnoted3.ensures ((datalink-arm c.before.before.before.before).repeated (ap unstated_datalink ((telling c.before.before.before.before.before.before).datalink_is ∙ c.before.enum-told4.given.1)))
 
 returns-4 : tie.Need-returns-4 invariant-loop decreases-loop
-returns-4 c = unnoted-is c.unnoted4.ensures ((instance-arm c.before.before.before.before).repeated (ap unstatedInstance ((telling c.before.before.before.before.before.before).instance-is ∙ c.before.enum-told6.given.1)))
+returns-4 c = unnoted_is c.unnoted4.ensures ((instance-arm c.before.before.before.before).repeated (ap unstated_instance ((telling c.before.before.before.before.before.before).instance_is ∙ c.before.enum-told6.given.1)))
 
 returns-5 : tie.Need-returns-5 invariant-loop decreases-loop
-returns-5 c = unnoted-is c.unnoted5.ensures ((context-arm c.before.before.before.before).repeated (ap unstatedContext ((telling c.before.before.before.before.before.before).context-is ∙ c.before.enum-told8.given.1)))
+returns-5 c = unnoted_is c.unnoted5.ensures ((context-arm c.before.before.before.before).repeated (ap unstated_context ((telling c.before.before.before.before.before.before).context_is ∙ c.before.enum-told8.given.1)))
 
 cast-i : tie.Need-overflow-cast-i invariant-loop decreases-loop
 cast-i c = omega (arith, (status-arm c.before).in_table)
@@ -127,10 +127,10 @@ mul-if1 : tie.Need-overflow-mul-if1 invariant-loop decreases-loop
 mul-if1 c = omega (arith, (status-arm c.before).in_table)
 
 slice-read-if1 : tie.Need-slice-read-if1 invariant-loop decreases-loop
-slice-read-if1 c = omega (arith, (status-arm c.before.before).in_table, (telling c.before.before.before.before).statuses-long)
+slice-read-if1 c = omega (arith, (status-arm c.before.before).in_table, (telling c.before.before.before.before).statuses_long)
 
 returns-6 : tie.Need-returns-6 invariant-loop decreases-loop
-returns-6 c = unnoted-is c.unnoted6.ensures ((status-arm c.before.before.before.before).repeated (status-there (telling c.before.before.before.before.before.before) _ c.before.if1.true))
+returns-6 c = unnoted_is c.unnoted6.ensures ((status-arm c.before.before.before.before).repeated (status_there (telling c.before.before.before.before.before.before) _ c.before.if1.true))
 
 cast-statuses : tie.Need-overflow-cast-statuses invariant-loop decreases-loop
 cast-statuses c = search rules
@@ -142,7 +142,7 @@ mul-statuses : tie.Need-overflow-mul-statuses invariant-loop decreases-loop
 mul-statuses c = omega (arith, (status-arm c.before.before.before).in_table)
 
 slice-write-statuses : tie.Need-slice-write-statuses invariant-loop decreases-loop
-slice-write-statuses c = omega (arith, (status-arm c.before.before.before).in_table, (telling c.before.before.before.before.before).statuses-long)
+slice-write-statuses c = omega (arith, (status-arm c.before.before.before).in_table, (telling c.before.before.before.before.before).statuses_long)
 
 cast-i-2 : tie.Need-overflow-cast-i-2 invariant-loop decreases-loop
 cast-i-2 c = omega (arith, (sequence-arm c.before).in_table)
@@ -151,7 +151,7 @@ array-read-if2 : tie.Need-array-read-if2 invariant-loop decreases-loop
 array-read-if2 c = (sequence-arm c.before).in_table
 
 returns-7 : tie.Need-returns-7 invariant-loop decreases-loop
-returns-7 c = unnoted-is c.unnoted7.ensures ((sequence-arm c.before.before.before).repeated (sequence-there (telling c.before.before.before.before.before) _ c.before.if2.true))
+returns-7 c = unnoted_is c.unnoted7.ensures ((sequence-arm c.before.before.before).repeated (sequence_there (telling c.before.before.before.before.before) _ c.before.if2.true))
 
 array-write-sequences : tie.Need-array-write-sequences invariant-loop decreases-loop
 array-write-sequences c = (sequence-arm c.before.before).in_table
@@ -160,55 +160,55 @@ cast-i-3 : tie.Need-overflow-cast-i-3 invariant-loop decreases-loop
 cast-i-3 c = omega (arith, (window-arm c.before).in_table)
 
 slice-read-if3 : tie.Need-slice-read-if3 invariant-loop decreases-loop
-slice-read-if3 c = omega (arith, (window-arm c.before.before).in_table, (telling c.before.before.before.before).tags-long)
+slice-read-if3 c = omega (arith, (window-arm c.before.before).in_table, (telling c.before.before.before.before).tags_long)
 
 returns-8 : tie.Need-returns-8 invariant-loop decreases-loop
-returns-8 c = unnoted-is c.unnoted8.ensures ((window-arm c.before.before.before.before).repeated (window-there (telling c.before.before.before.before.before.before) _ c.before.if3.true))
+returns-8 c = unnoted_is c.unnoted8.ensures ((window-arm c.before.before.before.before).repeated (window_there (telling c.before.before.before.before.before.before) _ c.before.if3.true))
 
 slice-write-tags : tie.Need-slice-write-tags invariant-loop decreases-loop
-slice-write-tags c = omega (arith, (window-arm c.before.before.before.before).in_table, (telling c.before.before.before.before.before.before).tags-long)
+slice-write-tags c = omega (arith, (window-arm c.before.before.before.before).in_table, (telling c.before.before.before.before.before.before).tags_long)
 
 mul-windows : tie.Need-overflow-mul-windows invariant-loop decreases-loop
 mul-windows c = omega (arith, (window-arm c.before.before.before.before.before).in_table)
 
 slice-write-windows : tie.Need-slice-write-windows invariant-loop decreases-loop
-slice-write-windows c = omega (arith, (window-arm c.before.before.before.before.before).in_table, (telling c.before.before.before.before.before.before.before).windows-long)
+slice-write-windows c = omega (arith, (window-arm c.before.before.before.before.before).in_table, (telling c.before.before.before.before.before.before.before).windows_long)
 
 loop-less : tie.Need-loop-smaller invariant-loop decreases-loop
 loop-less c = (datalink-arm c.before.before.before).less
 
 loop-again : tie.Need-loop-preserved invariant-loop decreases-loop
-loop-again c = record { stated = _; reached = (datalink-arm c.before.before.before).taken (ap unstatedDatalink ((telling c.before.before.before.before.before).datalink-is ∙ c.enum-told3.given.1)); told = told-datalink (telling c.before.before.before.before.before) _ }
+loop-again c = record { stated = _; reached = (datalink-arm c.before.before.before).taken (ap unstated_datalink ((telling c.before.before.before.before.before).datalink_is ∙ c.enum-told3.given.1)); told = told_datalink (telling c.before.before.before.before.before) _ }
 
 loop-less-2 : tie.Need-loop-smaller-2 invariant-loop decreases-loop
 loop-less-2 c = (instance-arm c.before.before.before).less
 
 loop-again-2 : tie.Need-loop-preserved-2 invariant-loop decreases-loop
-loop-again-2 c = record { stated = _; reached = (instance-arm c.before.before.before).taken (ap unstatedInstance ((telling c.before.before.before.before.before).instance-is ∙ c.enum-told5.given.1)); told = told-instance (telling c.before.before.before.before.before) _ _ }
+loop-again-2 c = record { stated = _; reached = (instance-arm c.before.before.before).taken (ap unstated_instance ((telling c.before.before.before.before.before).instance_is ∙ c.enum-told5.given.1)); told = told_instance (telling c.before.before.before.before.before) _ _ }
 
 loop-less-3 : tie.Need-loop-smaller-3 invariant-loop decreases-loop
 loop-less-3 c = (context-arm c.before.before.before).less
 
 loop-again-3 : tie.Need-loop-preserved-3 invariant-loop decreases-loop
-loop-again-3 c = record { stated = _; reached = (context-arm c.before.before.before).taken (ap unstatedContext ((telling c.before.before.before.before.before).context-is ∙ c.enum-told7.given.1)); told = told-context (telling c.before.before.before.before.before) _ _ }
+loop-again-3 c = record { stated = _; reached = (context-arm c.before.before.before).taken (ap unstated_context ((telling c.before.before.before.before.before).context_is ∙ c.enum-told7.given.1)); told = told_context (telling c.before.before.before.before.before) _ _ }
 
 loop-less-4 : tie.Need-loop-smaller-4 invariant-loop decreases-loop
 loop-less-4 c = (status-arm c.before.before.before).less
 
 loop-again-4 : tie.Need-loop-preserved-4 invariant-loop decreases-loop
-loop-again-4 c = record { stated = _; reached = (status-arm c.before.before.before).taken (status-free (telling c.before.before.before.before.before) _ c.if1.false); told = told-status (telling c.before.before.before.before.before) _ _ (status-arm c.before.before.before).in_table }
+loop-again-4 c = record { stated = _; reached = (status-arm c.before.before.before).taken (status_free (telling c.before.before.before.before.before) _ c.if1.false); told = told_status (telling c.before.before.before.before.before) _ _ (status-arm c.before.before.before).in_table }
 
 loop-less-5 : tie.Need-loop-smaller-5 invariant-loop decreases-loop
 loop-less-5 c = (sequence-arm c.before.before).less
 
 loop-again-5 : tie.Need-loop-preserved-5 invariant-loop decreases-loop
-loop-again-5 c = record { stated = _; reached = (sequence-arm c.before.before).taken (sequence-free (telling c.before.before.before.before) _ c.if2.false); told = told-sequence (telling c.before.before.before.before) _ _ (sequence-arm c.before.before).in_table }
+loop-again-5 c = record { stated = _; reached = (sequence-arm c.before.before).taken (sequence_free (telling c.before.before.before.before) _ c.if2.false); told = told_sequence (telling c.before.before.before.before) _ _ (sequence-arm c.before.before).in_table }
 
 loop-less-6 : tie.Need-loop-smaller-6 invariant-loop decreases-loop
 loop-less-6 c = (window-arm c.before.before.before.before.before).less
 
 loop-again-6 : tie.Need-loop-preserved-6 invariant-loop decreases-loop
-loop-again-6 c = record { stated = _; reached = (window-arm c.before.before.before.before.before).taken (window-free (telling c.before.before.before.before.before.before.before) _ c.before.before.if3.false); told = rw (c.before.window-tag.ensures, c.window-word.ensures) (told-window (telling c.before.before.before.before.before.before.before) _ _ (window-arm c.before.before.before.before.before).in_table) }
+loop-again-6 c = record { stated = _; reached = (window-arm c.before.before.before.before.before).taken (window_free (telling c.before.before.before.before.before.before.before) _ c.before.before.if3.false); told = rw (c.before.window-tag.ensures, c.window_word_lem.ensures) (told_window (telling c.before.before.before.before.before.before.before) _ _ (window-arm c.before.before.before.before.before).in_table) }
 
 loop-less-7 : tie.Need-loop-smaller-7 invariant-loop decreases-loop
 loop-less-7 c = (arm c.before refl).less
@@ -217,12 +217,12 @@ loop-again-7 : tie.Need-loop-preserved-7 invariant-loop decreases-loop
 loop-again-7 c = record { stated = _; reached = passing _ c.match3.keys7 (arm c.before refl); told = telling c.before }
 
 slice-read-fault : tie.Need-slice-read-fault invariant-loop decreases-loop
-slice-read-fault c = omega (arith, c.before.before.loop.invariant.told.statuses-long)
+slice-read-fault c = omega (arith, c.before.before.loop.invariant.told.statuses_long)
 
 -- behind the last option
 ended : (c : tie.After-fault invariant-loop decreases-loop) → let head = c.before.before.before in
     let args = head.before.before.before.before.before.args in
-    whole_of args.end args.id args.datagram.now ≡ finishOf (controlSort args.end args.id) head.loop.at (stated head)
+    whole_of args.end args.id args.datagram.now ≡ finish_of (control_sort args.end args.id) head.loop.at (stated head)
 ended c =
     let test = c.before.before in
     let head = test.before in
@@ -233,14 +233,14 @@ returns-9 c =
     let faulty = c.before.before in
     let head = faulty.before.before.before in
     let args = head.before.before.before.before.before.args in
-    unnoted-is c.unnoted9.ensures (refuses-whole _ _ _ (stated head) (fault-told head.loop.invariant.told args.end args.id faulty.fault.ensures) c.before.if4.true ∙ sym (ended faulty))
+    unnoted_is c.unnoted9.ensures (refuses_whole _ _ _ (stated head) (fault_told head.loop.invariant.told args.end args.id faulty.fault.ensures) c.before.if4.true ∙ sym (ended faulty))
 
 returns-10 : tie.Need-returns-10 invariant-loop decreases-loop
 returns-10 c =
     let faulty = c.before in
     let head = faulty.before.before.before in
     let args = head.before.before.before.before.before.args in
-    noted-is head.loop.invariant.told (accepts-whole _ _ _ (stated head) (fault-told head.loop.invariant.told args.end args.id faulty.fault.ensures) c.if4.false ∙ sym (ended faulty))
+    noted_is head.loop.invariant.told (accepts_whole _ _ _ (stated head) (fault_told head.loop.invariant.told args.end args.id faulty.fault.ensures) c.if4.false ∙ sym (ended faulty))
 
 same_length : tie.Need-same-length invariant-loop decreases-loop
 same_length c = statuses-same c.before.before.before.before.before.before

@@ -1,18 +1,18 @@
 -- `control` meets its contract. Assumes nothing.
 use borrow.Author.Rules.{rules}
 use Rattle.radio_end_words.proofs.Whole.{fit_words}
-use Rattle.radio_end_hearing.proofs.Heard.{by-accepted, by-other, by-refused}
+use Rattle.radio_end_hearing.proofs.Heard.{by_accepted, by_other, by_refused}
 use Rattle.radio_end_hearing.proofs.control.Statement.{statement}
 use Rattle.radio_end_hearing.proofs.control.Tie as tie
 
 returns : tie.Need-returns
-returns c = by-accepted _ _ _ (fit_words _ c.before.before.before.before.before.before.before.before.before.before.before.before.requires) _ _ c.before.before.before.before.before.before.before.before.enum_told.given.1 _ _ _ c.before.before.before.before.control-accepted.ensures
+returns c = by_accepted _ _ _ (fit_words _ c.before.before.before.before.before.before.before.before.before.before.before.before.requires) _ _ c.before.before.before.before.before.before.before.before.enum_told.given.1 _ _ _ c.before.before.before.before.control-accepted.ensures
 
 returns-2 : tie.Need-returns-2
-returns-2 c = by-other _ _ _ (fit_words _ c.before.before.before.before.requires) _ _ c.enum-told2.given.1
+returns-2 c = by_other _ _ _ (fit_words _ c.before.before.before.before.requires) _ _ c.enum-told2.given.1
 
 returns-3 : tie.Need-returns-3
-returns-3 c = by-refused _ _ _ (fit_words _ c.before.before.before.before.before.requires) _ _ _ c.before.verdict.given.1
+returns-3 c = by_refused _ _ _ (fit_words _ c.before.before.before.before.before.requires) _ _ _ c.before.verdict.given.1
 
 pub control-spec : {M : Type 1} → statement M
 control-spec =

@@ -4,19 +4,19 @@ use borrow.Author.Rules.{rules}
 use native.Mathlib.Omega.{arith}
 use borrow.Author.Tests.{not-true, not-false}
 use Rattle.quantity.specs.Limits.{CHANNEL-IDS}
-use Rattle.radio_end_words.specs.Words.{stateIn}
-use Rattle.radio_end_hearing.proofs.Passing.{Asking, ask-start, ask_out, ask-on, ask-end}
+use Rattle.radio_end_words.specs.Words.{state_in}
+use Rattle.radio_end_hearing.proofs.Passing.{Asking, ask_start, ask_out, ask_on, ask_end}
 use Rattle.radio_end_hearing.proofs.lacks_none.Statement.{statement}
 use Rattle.radio_end_hearing.proofs.lacks_none.Tie as tie
 
 abbrev invariant-loop : tie.invariant-loop
-invariant-loop words message id₀ id = Asking (stateIn words) message id
+invariant-loop words message id₀ id = Asking (state_in words) message id
 
 abbrev decreases-loop : tie.decreases-loop
 decreases-loop words message id₀ id = CHANNEL-IDS - id
 
 loop-holds : tie.Need-loop-init invariant-loop decreases-loop
-loop-holds c = ask-start _ _
+loop-holds c = ask_start _ _
 
 names-own-requires : tie.Need-names-own-requires invariant-loop decreases-loop
 names-own-requires c κs = c.before.before.before.before.requires
@@ -31,10 +31,10 @@ loop-less : tie.Need-loop-smaller invariant-loop decreases-loop
 loop-less c = omega (arith, c.before.before.before.loop-test.true)
 
 loop-again : tie.Need-loop-preserved invariant-loop decreases-loop
-loop-again c = ask-on _ _ _ c.before.before.before.before.loop.invariant c.before.before.before.loop-test.true _ c.before.names-own.ensures (not-false _ c.if1.false)
+loop-again c = ask_on _ _ _ c.before.before.before.before.loop.invariant c.before.before.before.loop-test.true _ c.before.names-own.ensures (not-false _ c.if1.false)
 
 returns-2 : tie.Need-returns-2 invariant-loop decreases-loop
-returns-2 c = ask-end _ _ _ c.before.loop.invariant c.loop-test.false
+returns-2 c = ask_end _ _ _ c.before.loop.invariant c.loop-test.false
 
 pub lacks-none-spec : {M : Type 1} → statement M
 lacks-none-spec =

@@ -4,32 +4,32 @@ use mathlib.Core.Path.{◌≡◌, sym, ◌∙◌}
 use native.Mathlib.Omega.{arith}
 use borrow.Author.Rules.{rules}
 use borrow.Author.Tests.{not-true, not-false}
-use Rattle.radio_end_state.specs.Limits.{configurationFits}
-use Rattle.radio_end_start.specs.Start.{configurationIn}
-use Rattle.radio_end_start.proofs.Beginning.{configuration-long, few-are, configured, startable, begin-unfit, begin-words, begin-large, begun}
+use Rattle.radio_end_state.specs.Limits.{configuration_fits}
+use Rattle.radio_end_start.specs.Start.{configuration_in}
+use Rattle.radio_end_start.proofs.Beginning.{configuration_long, few_are, configured, startable, begin_unfit, begin_words, begin_large, begun}
 use Rattle.radio_end_start.proofs.start.Statement.{statement}
 use Rattle.radio_end_start.proofs.start.Tie as tie
 
-good : (c : tie.Else1) → configurationFits (configurationIn c.before.before.before.before.args.configuration.now) ≡ true
+good : (c : tie.Else1) → configuration_fits (configuration_in c.before.before.before.before.args.configuration.now) ≡ true
 good c = sym c.before.fits2.ensures ∙ not-false _ c.if1.false
 
 returns : tie.Need-returns
-returns c = begin-unfit _ _ _ c.before.before.fits2.ensures (not-true _ c.before.if1.true) _ c.refused.ensures
+returns c = begin_unfit _ _ _ c.before.before.fits2.ensures (not-true _ c.before.if1.true) _ c.refused.ensures
 
 shared-slice-read-narrow : tie.Need-shared-slice-read-narrow
-shared-slice-read-narrow c = omega (arith, configuration-long _ (good c.before))
+shared-slice-read-narrow c = omega (arith, configuration_long _ (good c.before))
 
 mul-if2 : tie.Need-overflow-mul-if2
-mul-if2 c = omega (arith, few-are _ (good c.before.before), c.narrow.ensures)
+mul-if2 c = omega (arith, few_are _ (good c.before.before), c.narrow.ensures)
 
 add-if2 : tie.Need-overflow-add-if2
-add-if2 c = omega (arith, few-are _ (good c.before.before), c.narrow.ensures)
+add-if2 c = omega (arith, few_are _ (good c.before.before), c.narrow.ensures)
 
 returns-2 : tie.Need-returns-2
 returns-2 c =
     let counted = c.before.before in
     let fits = counted.before.before in
-    begin-words _ _ _ fits.before.fits2.ensures (not-false _ fits.if1.false) _ counted.narrow.ensures c.before.if2.true _ c.refused2.ensures
+    begin_words _ _ _ fits.before.fits2.ensures (not-false _ fits.if1.false) _ counted.narrow.ensures c.before.if2.true _ c.refused2.ensures
 
 allowances-fit-requires : tie.Need-allowances-fit-requires
 allowances-fit-requires c κs = configured _ (good c.before.before.before) _ c.before.narrow.ensures
@@ -40,7 +40,7 @@ returns-3 c =
     let room = tested.before in
     let counted = room.before in
     let fits = counted.before.before in
-    begin-large _ _ _ fits.before.fits2.ensures (not-false _ fits.if1.false) _ counted.narrow.ensures room.if2.false _ tested.allowances-fit.ensures (not-true _ c.before.if3.true) _ c.refused3.ensures
+    begin_large _ _ _ fits.before.fits2.ensures (not-false _ fits.if1.false) _ counted.narrow.ensures room.if2.false _ tested.allowances-fit.ensures (not-true _ c.before.if3.true) _ c.refused3.ensures
 
 write-requires : tie.Need-write-requires
 write-requires c κs =

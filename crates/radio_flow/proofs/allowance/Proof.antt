@@ -4,12 +4,12 @@ use mathlib.Core.Path.{ap}
 use Prim.Native.Nat.{ℕ}
 use native.Mathlib.Omega.{arith}
 use Rattle.quantity.specs.declared.count.ByteCount.{ByteCount}
-use Rattle.radio_flow.specs.Granting.{allowanceOf}
+use Rattle.radio_flow.specs.Granting.{allowance_of}
 use Rattle.radio_flow.proofs.allowance.Statement.{statement}
 use Rattle.radio_flow.proofs.allowance.Tie as tie
 
 returns : tie.Need-returns
-unfolding allowanceOf
+unfolding allowance_of
 returns c = ap {B = ByteCount} (λ (n : ℕ). record { 0 = n }) (omega (arith, c.sum-cut.ensures, c.before.less3.ensures, c.before.before.less2.ensures, c.before.before.before.less.ensures))
 
 pub allowance-spec : {M : Type 1} → statement M

@@ -2,16 +2,16 @@
 use borrow.Author.Rules.{rules}
 use mathlib.Core.Path.{sym, ◌∙◌}
 use Rattle.quantity.specs.Distance.{fits_of}
-use Rattle.radio_flow.specs.Granting.{isAhead}
+use Rattle.radio_flow.specs.Granting.{is_ahead}
 use Rattle.radio_flow.proofs.later.Statement.{statement}
 use Rattle.radio_flow.proofs.later.Tie as tie
 
 returns : tie.Need-returns
-unfolding fits_of isAhead
+unfolding fits_of is_ahead
 returns c = rw (sym c.before.fits2.ensures ∙ c.if1.true)
 
 returns-2 : tie.Need-returns-2
-unfolding fits_of isAhead
+unfolding fits_of is_ahead
 returns-2 c = rw (sym c.before.fits2.ensures ∙ c.if1.false)
 
 pub later-spec : {M : Type 1} → statement M

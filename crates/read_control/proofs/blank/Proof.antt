@@ -1,13 +1,13 @@
 -- `blank` meets its contract by computing. Assumes nothing.
 use mathlib.Core.Path.{refl}
 use Rattle.facts.specs.Tables.{tabulate}
-use Rattle.read_option.specs.Stated.{controlStated}
-use Rattle.read_control.specs.Message.{blankControl}
+use Rattle.read_option.specs.Stated.{control_stated}
+use Rattle.read_control.specs.Message.{blank_control}
 use Rattle.read_control.proofs.blank.Statement.{statement}
 use Rattle.read_control.proofs.blank.Tie as tie
 
 returns : tie.Need-returns
-unfolding blankControl controlStated tabulate
+unfolding blank_control control_stated tabulate
 returns c = refl
 
 pub blank-spec : {M : Type 1} → statement M

@@ -9,12 +9,12 @@ use Rattle.facts.specs.Tables.{tabulate}
 use Rattle.meaning.specs.declared.message.Control.{Control}
 use Rattle.read_option.specs.declared.answer.Item.{Item}
 use Rattle.read_option.specs.declared.answer.OptionAnswer.{OptionAnswer}
-use Rattle.read_option.specs.Stated.{controlStated}
-use Rattle.read_rules.specs.Sorts.{finishOf, unstatedDatalink}
+use Rattle.read_option.specs.Stated.{control_stated}
+use Rattle.read_rules.specs.Sorts.{finish_of, unstated_datalink}
 use Rattle.read_rules.proofs.Turn.{ends, cuts}
 use Rattle.read_rules.proofs.Taking.{Framed, room_of}
-use Rattle.read_control.specs.Message.{unstatedInstance, unstatedContext, unstatedStatus, unstatedSequence, unstatedWindow, blankControl, controlAccepted, controlSort}
-use Rattle.read_control.proofs.Message.{whole_of, Reached, Stating, refusing, stating, passing, window-repeated, refuses-whole, accepts-whole}
+use Rattle.read_control.specs.Message.{unstated_instance, unstated_context, unstated_status, unstated_sequence, unstated_window, blank_control, control_accepted, control_sort}
+use Rattle.read_control.proofs.Message.{whole_of, Reached, Stating, refusing, stating, passing, window_repeated, refuses_whole, accepts_whole}
 use Rattle.read_control.proofs.options.Statement.{statement}
 use Rattle.read_control.proofs.options.Tie as tie
 
@@ -34,7 +34,7 @@ framed : (c : tie.After-known-told invariant-loop decreases-loop) →
     let head = c.before.before.before.before.before.before in
     let args = head.before.before.args in
     let option = c.before.kind.given.0 in
-    Framed (controlSort args.end args.id) (whole_of args.end args.id args.datagram.now) args.datagram.now head.loop.at (stated head) option.0 option.1.0
+    Framed (control_sort args.end args.id) (whole_of args.end args.id args.datagram.now) args.datagram.now head.loop.at (stated head) option.0 option.1.0
 framed c =
     let test = c.before.before.before.before.before in
     record { inv = test.before.loop.invariant; inside = test.loop-test.true; frame = sym c.before.kind.given.1 ∙ c.before.before.before.first.ensures }
@@ -50,7 +50,7 @@ Arm c item =
 arm : (c : tie.After-known-told2 invariant-loop decreases-loop) {item : Item} → c.before.answer.given.0.0 ≡ item → Arm c item
 arm c e =
     let answered = c.before.before.before in
-    stating (framed answered.before.before) answered.of-control.ensures.0 answered.of-control.ensures.1 (c.before.answer.given.1 ∙ ap OptionAnswer.Took e)
+    stating (framed answered.before.before) answered.of_control_lem.ensures.0 answered.of_control_lem.ensures.1 (c.before.answer.given.1 ∙ ap OptionAnswer.Took e)
 
 datalink-arm : (c : tie.After-item invariant-loop decreases-loop) → Arm c.before.before (Item.Datalink c.item.given.0.0)
 datalink-arm c = arm c.before.before c.item.given.1
@@ -71,7 +71,7 @@ window-arm : (c : tie.After-item6 invariant-loop decreases-loop) → Arm c.befor
 window-arm c = arm c.before.before c.item6.given.1
 
 loop-holds : tie.Need-loop-init invariant-loop decreases-loop
-unfolding blankControl controlStated tabulate
+unfolding blank_control control_stated tabulate
 loop-holds c = refl
 
 returns : tie.Need-returns invariant-loop decreases-loop
@@ -92,16 +92,16 @@ part-of-control-end c = room_of (framed c)
 returns-2 : tie.Need-returns-2 invariant-loop decreases-loop
 returns-2 c =
     let answered = c.before.before.before.before in
-    c.refused2.ensures ∙ rw c.before.number_of_lem.ensures (refusing (framed answered.before.before) answered.of-control.ensures.0 c.before.before.enum-told2.given.1)
+    c.refused2.ensures ∙ rw c.before.number_of_lem.ensures (refusing (framed answered.before.before) answered.of_control_lem.ensures.0 c.before.before.enum-told2.given.1)
 
 returns-3 : tie.Need-returns-3 invariant-loop decreases-loop
-returns-3 c = c.refused3.ensures ∙ (datalink-arm c.before.before.before.before).repeated (ap unstatedDatalink c.before.enum-told4.given.1)
+returns-3 c = c.refused3.ensures ∙ (datalink-arm c.before.before.before.before).repeated (ap unstated_datalink c.before.enum-told4.given.1)
 
 returns-4 : tie.Need-returns-4 invariant-loop decreases-loop
-returns-4 c = c.refused4.ensures ∙ (instance-arm c.before.before.before.before).repeated (ap unstatedInstance c.before.enum-told6.given.1)
+returns-4 c = c.refused4.ensures ∙ (instance-arm c.before.before.before.before).repeated (ap unstated_instance c.before.enum-told6.given.1)
 
 returns-5 : tie.Need-returns-5 invariant-loop decreases-loop
-returns-5 c = c.refused5.ensures ∙ (context-arm c.before.before.before.before).repeated (ap unstatedContext c.before.enum-told8.given.1)
+returns-5 c = c.refused5.ensures ∙ (context-arm c.before.before.before.before).repeated (ap unstated_context c.before.enum-told8.given.1)
 
 mul-cell : tie.Need-overflow-mul-cell invariant-loop decreases-loop
 mul-cell c = omega (arith, (status-arm c.before).in_table)
@@ -110,7 +110,7 @@ array-copy-out-cell : tie.Need-array-copy-out-cell invariant-loop decreases-loop
 array-copy-out-cell c = (status-arm c.before).in_table
 
 returns-6 : tie.Need-returns-6 invariant-loop decreases-loop
-returns-6 c = c.refused6.ensures ∙ (status-arm c.before.before.before.before.before).repeated (ap unstatedStatus c.before.enum-told10.given.1)
+returns-6 c = c.refused6.ensures ∙ (status-arm c.before.before.before.before.before).repeated (ap unstated_status c.before.enum-told10.given.1)
 
 mul-statuses : tie.Need-overflow-mul-statuses invariant-loop decreases-loop
 mul-statuses c = omega (arith, (status-arm c.before.before.before.before).in_table)
@@ -125,7 +125,7 @@ array-copy-out-cell-2 : tie.Need-array-copy-out-cell-2 invariant-loop decreases-
 array-copy-out-cell-2 c = (sequence-arm c.before).in_table
 
 returns-7 : tie.Need-returns-7 invariant-loop decreases-loop
-returns-7 c = c.refused7.ensures ∙ (sequence-arm c.before.before.before.before.before).repeated (ap unstatedSequence c.before.enum-told12.given.1)
+returns-7 c = c.refused7.ensures ∙ (sequence-arm c.before.before.before.before.before).repeated (ap unstated_sequence c.before.enum-told12.given.1)
 
 mul-sequences : tie.Need-overflow-mul-sequences invariant-loop decreases-loop
 mul-sequences c = omega (arith, (sequence-arm c.before.before.before.before).in_table)
@@ -140,7 +140,7 @@ array-copy-out-cell-3 : tie.Need-array-copy-out-cell-3 invariant-loop decreases-
 array-copy-out-cell-3 c = (window-arm c.before).in_table
 
 returns-8 : tie.Need-returns-8 invariant-loop decreases-loop
-returns-8 c = c.refused8.ensures ∙ window-repeated (window-arm c.before.before.before.before) c.before.match9.keys2
+returns-8 c = c.refused8.ensures ∙ window_repeated (window-arm c.before.before.before.before) c.before.match9.keys2
 
 mul-windows : tie.Need-overflow-mul-windows invariant-loop decreases-loop
 mul-windows c = omega (arith, (window-arm c.before.before.before.before.before).in_table)
@@ -152,37 +152,37 @@ loop-less : tie.Need-loop-smaller invariant-loop decreases-loop
 loop-less c = (datalink-arm c.before.before.before).less
 
 loop-again : tie.Need-loop-preserved invariant-loop decreases-loop
-loop-again c = (datalink-arm c.before.before.before).taken (ap unstatedDatalink c.enum-told3.given.1)
+loop-again c = (datalink-arm c.before.before.before).taken (ap unstated_datalink c.enum-told3.given.1)
 
 loop-less-2 : tie.Need-loop-smaller-2 invariant-loop decreases-loop
 loop-less-2 c = (instance-arm c.before.before.before).less
 
 loop-again-2 : tie.Need-loop-preserved-2 invariant-loop decreases-loop
-loop-again-2 c = (instance-arm c.before.before.before).taken (ap unstatedInstance c.enum-told5.given.1)
+loop-again-2 c = (instance-arm c.before.before.before).taken (ap unstated_instance c.enum-told5.given.1)
 
 loop-less-3 : tie.Need-loop-smaller-3 invariant-loop decreases-loop
 loop-less-3 c = (context-arm c.before.before.before).less
 
 loop-again-3 : tie.Need-loop-preserved-3 invariant-loop decreases-loop
-loop-again-3 c = (context-arm c.before.before.before).taken (ap unstatedContext c.enum-told7.given.1)
+loop-again-3 c = (context-arm c.before.before.before).taken (ap unstated_context c.enum-told7.given.1)
 
 loop-less-4 : tie.Need-loop-smaller-4 invariant-loop decreases-loop
 loop-less-4 c = (status-arm c.before.before.before.before).less
 
 loop-again-4 : tie.Need-loop-preserved-4 invariant-loop decreases-loop
-loop-again-4 c = (status-arm c.before.before.before.before).taken (ap unstatedStatus c.enum-told9.given.1)
+loop-again-4 c = (status-arm c.before.before.before.before).taken (ap unstated_status c.enum-told9.given.1)
 
 loop-less-5 : tie.Need-loop-smaller-5 invariant-loop decreases-loop
 loop-less-5 c = (sequence-arm c.before.before.before.before).less
 
 loop-again-5 : tie.Need-loop-preserved-5 invariant-loop decreases-loop
-loop-again-5 c = (sequence-arm c.before.before.before.before).taken (ap unstatedSequence c.enum-told11.given.1)
+loop-again-5 c = (sequence-arm c.before.before.before.before).taken (ap unstated_sequence c.enum-told11.given.1)
 
 loop-less-6 : tie.Need-loop-smaller-6 invariant-loop decreases-loop
 loop-less-6 c = (window-arm c.before.before.before.before.before).less
 
 loop-again-6 : tie.Need-loop-preserved-6 invariant-loop decreases-loop
-loop-again-6 c = rw c.window-cell.ensures ((window-arm c.before.before.before.before.before).taken (ap unstatedWindow c.before.enum-told13.given.1))
+loop-again-6 c = rw c.window_cell.ensures ((window-arm c.before.before.before.before.before).taken (ap unstated_window c.before.enum-told13.given.1))
 
 loop-less-7 : tie.Need-loop-smaller-7 invariant-loop decreases-loop
 loop-less-7 c = (arm c.before refl).less
@@ -193,7 +193,7 @@ loop-again-7 c = passing _ c.match3.keys7 (arm c.before refl)
 -- behind the last option
 ended : (c : tie.After-fault invariant-loop decreases-loop) → let head = c.before.before.before in
     let args = head.before.before.args in
-    whole_of args.end args.id args.datagram.now ≡ finishOf (controlSort args.end args.id) head.loop.at (stated head)
+    whole_of args.end args.id args.datagram.now ≡ finish_of (control_sort args.end args.id) head.loop.at (stated head)
 ended c =
     let test = c.before.before in
     let head = test.before in
@@ -202,13 +202,13 @@ ended c =
 returns-9 : tie.Need-returns-9 invariant-loop decreases-loop
 returns-9 c =
     let faulty = c.before.before in
-    c.refused9.ensures ∙ refuses-whole _ _ _ (stated faulty.before.before.before) faulty.fault.ensures c.before.if1.true ∙ sym (ended faulty)
+    c.refused9.ensures ∙ refuses_whole _ _ _ (stated faulty.before.before.before) faulty.fault.ensures c.before.if1.true ∙ sym (ended faulty)
 
 returns-10 : tie.Need-returns-10 invariant-loop decreases-loop
-unfolding controlAccepted
+unfolding control_accepted
 returns-10 c =
     let faulty = c.before in
-    accepts-whole _ _ _ (stated faulty.before.before.before) faulty.fault.ensures c.if1.false ∙ sym (ended faulty)
+    accepts_whole _ _ _ (stated faulty.before.before.before) faulty.fault.ensures c.if1.false ∙ sym (ended faulty)
 
 pub options-spec : {M : Type 1} → statement M
 options-spec =

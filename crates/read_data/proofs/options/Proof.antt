@@ -6,27 +6,27 @@ use Prim.Native.Nat.{◌-◌}
 use mathlib.Core.Path.{◌≡◌, refl, sym, ◌∙◌}
 use lib.ListN.{length, drop}
 use Rattle.wire.specs.Options.{split}
-use Rattle.read_option.specs.Stated.{dataStated}
+use Rattle.read_option.specs.Stated.{data_stated}
 use Rattle.read_rules.specs.Judging.{judge}
-use Rattle.read_rules.specs.Sorts.{Sort, rulesOf}
+use Rattle.read_rules.specs.Sorts.{Sort, rules_of}
 use Rattle.read_rules.proofs.Turn.{ends, cuts}
 use Rattle.read_rules.proofs.Taking.{Framed, Parting, room_of, behind, faulty, parting}
 use Rattle.read_data.specs.declared.DataReading.{DataReading}
-use Rattle.read_data.specs.Message.{Gathered, blankData, dataSort}
+use Rattle.read_data.specs.Message.{Gathered, blank_data, data_sort}
 use Rattle.read_data.proofs.Message.{gathered, add, adding, passed_over}
 use Rattle.read_data.proofs.options.Statement.{statement}
 use Rattle.read_data.proofs.options.Tie as tie
 
 abbrev invariant-loop : tie.invariant-loop
 invariant-loop datagram end id n datalink₀ sequence₀ channel₀ expiration₀ packet₀ at₀ datalink sequence channel expiration packet at =
-    judge (rulesOf (dataSort end id)) (split (drop 1 datagram)) 1 (dataSort end id).blank
-    ≡ judge (rulesOf (dataSort end id)) (split (drop at datagram)) at (gathered datalink sequence channel expiration packet)
+    judge (rules_of (data_sort end id)) (split (drop 1 datagram)) 1 (data_sort end id).blank
+    ≡ judge (rules_of (data_sort end id)) (split (drop at datagram)) at (gathered datalink sequence channel expiration packet)
 
 abbrev decreases-loop : tie.decreases-loop
 decreases-loop datagram end id n datalink₀ sequence₀ channel₀ expiration₀ packet₀ at₀ datalink sequence channel expiration packet at = length datagram - at
 
 loop-holds : tie.Need-loop-init invariant-loop decreases-loop
-unfolding blankData dataStated
+unfolding blank_data data_stated
 loop-holds c = refl
 
 -- what the code keeps at the loop's head
@@ -34,10 +34,10 @@ abbrev kept : tie.At-loop invariant-loop decreases-loop → Gathered
 kept c = gathered c.loop.datalink c.loop.sequence c.loop.channel c.loop.expiration c.loop.packet
 
 abbrev sort : tie.Start invariant-loop decreases-loop → Sort Gathered DataReading
-sort c = dataSort c.args.end c.args.id
+sort c = data_sort c.args.end c.args.id
 
 abbrev whole : tie.Start invariant-loop decreases-loop → DataReading
-whole c = judge (rulesOf (sort c)) (split (drop 1 c.args.datagram.now)) 1 (sort c).blank
+whole c = judge (rules_of (sort c)) (split (drop 1 c.args.datagram.now)) 1 (sort c).blank
 
 framed : (c : tie.After-known-told invariant-loop decreases-loop)
     → let turn = c.before.before.before.before.before.before in
@@ -65,7 +65,7 @@ returns c =
     let called = c.before.before.before in
     let turn = called.before.before.before in
     c.refused.ensures ∙ sym
-    (cuts (rulesOf (sort turn.before.before)) _ turn.loop.at (kept turn) turn.loop.invariant called.before.before.loop-test.true (sym c.before.enum_told.given.1 ∙ called.first.ensures))
+    (cuts (rules_of (sort turn.before.before)) _ turn.loop.at (kept turn) turn.loop.invariant called.before.before.loop-test.true (sym c.before.enum_told.given.1 ∙ called.first.ensures))
 
 returns-2 : tie.Need-returns-2 invariant-loop decreases-loop
 returns-2 c = c.refused2.ensures ∙ sym (behind (framed c.before.before) (adding _ _) c.before.if1.true)
@@ -138,7 +138,7 @@ returns-8 : tie.Need-returns-8 invariant-loop decreases-loop
 returns-8 c =
     let turn = c.before.before in
     let start = turn.before.before in
-    c.finished.ensures start.args.end ∙ sym (ends (rulesOf (sort start)) _ turn.loop.at (kept turn) turn.loop.invariant c.before.loop-test.false)
+    c.finished.ensures start.args.end ∙ sym (ends (rules_of (sort start)) _ turn.loop.at (kept turn) turn.loop.invariant c.before.loop-test.false)
 
 pub options-spec : {M : Type 1} → statement M
 options-spec =

@@ -1,5 +1,5 @@
 -- `handed` meets its contract. Assumes nothing.
-use Rattle.records.specs.Reading.{cameBy}
+use Rattle.records.specs.Reading.{came_by}
 use borrow.Author.Rules.{rules}
 use Rattle.records.proofs.handed.Statement.{statement}
 use Rattle.records.proofs.handed.Tie as tie
@@ -20,23 +20,23 @@ enum-known-found-2 : tie.Need-enum-known-found-2
 enum-known-found-2 c = search rules
 
 returns : tie.Need-returns
-unfolding cameBy
+unfolding came_by
 returns c = rw c.enum_told.given.1
 
 returns-2 : tie.Need-returns-2
-unfolding cameBy
+unfolding came_by
 returns-2 c = rw c.enum-told2.given.1
 
 returns-3 : tie.Need-returns-3
-unfolding cameBy
+unfolding came_by
 returns-3 c = rw c.enum-told3.given.1
 
 returns-4 : tie.Need-returns-4
-unfolding cameBy
+unfolding came_by
 returns-4 c = rw c.before.found.given.1
 
 returns-5 : tie.Need-returns-5
-unfolding cameBy
+unfolding came_by
 returns-5 c = rw c.before.found2.given.1
 
 pub handed-spec : {M : Type 1} → statement M

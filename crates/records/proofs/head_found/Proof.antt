@@ -1,5 +1,5 @@
 -- `head_found` meets its contract: too few bytes, or by the order that the head tells. Assumes nothing.
-use Rattle.records.specs.Unread.{headFound}
+use Rattle.records.specs.Unread.{head_found}
 use borrow.Author.Tests.{lt-ltb, le-ltb}
 use borrow.Author.Rules.{rules}
 use Rattle.records.proofs.head_found.Statement.{statement}
@@ -9,7 +9,7 @@ short-requires : tie.Need-short-requires
 short-requires c κs = search rules
 
 returns : tie.Need-returns
-unfolding headFound
+unfolding head_found
 returns c = simp (lt-ltb _ 24 c.before.if1.true) c.short.ensures
 
 sub-order-of : tie.Need-overflow-sub-order-of
@@ -40,15 +40,15 @@ behind-requires-2 : tie.Need-behind-requires-2
 behind-requires-2 c κs = search rules
 
 returns-2 : tie.Need-returns-2
-unfolding headFound
+unfolding head_found
 returns-2 c = rw (le-ltb _ 24 c.before.before.before.before.if1.false, ← c.before.before.order-of.ensures, c.enum_told.given.1)
 
 returns-3 : tie.Need-returns-3
-unfolding headFound
+unfolding head_found
 returns-3 c = rw (le-ltb _ 24 c.before.before.before.before.before.if1.false, ← c.before.before.before.order-of.ensures, c.before.enum-told2.given.1, c.behind.ensures)
 
 returns-4 : tie.Need-returns-4
-unfolding headFound
+unfolding head_found
 returns-4 c = rw (le-ltb _ 24 c.before.before.before.before.before.if1.false, ← c.before.before.before.order-of.ensures, c.before.enum-told3.given.1, c.behind2.ensures)
 
 pub head-found-spec : {M : Type 1} → statement M

@@ -3,7 +3,7 @@ use mathlib.Core.Path.{◌≡◌, sym, ◌∙◌}
 use native.Mathlib.Omega.{arith}
 use borrow.Author.Rules.{rules}
 use Rattle.records.specs.Reading.{ending, finding, refusing}
-use Rattle.records.proofs.Pieces.{Passing, passing-start, passing-tired, passing-head, passing-fill}
+use Rattle.records.proofs.Pieces.{Passing, passing_start, passing_tired, passing_head, passing_fill}
 use Rattle.records.proofs.read_record.Statement.{statement}
 use Rattle.records.proofs.read_record.Tie as tie
 
@@ -14,7 +14,7 @@ abbrev decreases-loop : tie.decreases-loop
 decreases-loop buffer₀ at₀ turns₀ buffer at turns = turns
 
 loop-holds : tie.Need-loop-init invariant-loop decreases-loop
-loop-holds c = passing-start _ _
+loop-holds c = passing_start _ _
 
 sub-turns : tie.Need-overflow-sub-turns invariant-loop decreases-loop
 sub-turns c = search rules
@@ -32,7 +32,7 @@ loop-less : tie.Need-loop-smaller invariant-loop decreases-loop
 loop-less c = search rules
 
 loop-again : tie.Need-loop-preserved invariant-loop decreases-loop
-loop-again c = passing-fill c.before.before.before.before.before.before.before.before.before.loop.invariant (omega (arith, c.before.before.before.before.before.before.before.before.loop-test.true)) (sym c.before.before.before.before.before.before.next.ensures ∙ c.before.before.before.before.enum_told.given.1) c.before.before.fill.ensures c.before.buffer.given
+loop-again c = passing_fill c.before.before.before.before.before.before.before.before.before.loop.invariant (omega (arith, c.before.before.before.before.before.before.before.before.loop-test.true)) (sym c.before.before.before.before.before.before.next.ensures ∙ c.before.before.before.before.enum_told.given.1) c.before.before.fill.ensures c.before.buffer.given
 
 enum-told-2 : tie.Need-enum-told-2 invariant-loop decreases-loop
 enum-told-2 c = search rules
@@ -50,7 +50,7 @@ loop-less-2 : tie.Need-loop-smaller-2 invariant-loop decreases-loop
 loop-less-2 c = search rules
 
 loop-again-2 : tie.Need-loop-preserved-2 invariant-loop decreases-loop
-loop-again-2 c = passing-head c.before.before.before.before.before.before.loop.invariant (omega (arith, c.before.before.before.before.before.loop-test.true)) (sym c.before.before.before.next.ensures ∙ c.before.rest.given.1)
+loop-again-2 c = passing_head c.before.before.before.before.before.before.loop.invariant (omega (arith, c.before.before.before.before.before.loop-test.true)) (sym c.before.before.before.next.ensures ∙ c.before.rest.given.1)
 
 enum-known-from : tie.Need-enum-known-from invariant-loop decreases-loop
 enum-known-from c = search rules
@@ -74,7 +74,7 @@ same-length-4 : tie.Need-same-length-4 invariant-loop decreases-loop
 same-length-4 c = c.before.loop.invariant.size
 
 returns-4 : tie.Need-returns-4 invariant-loop decreases-loop
-returns-4 c = passing-tired c.before.loop.invariant (omega (arith, c.loop-test.false))
+returns-4 c = passing_tired c.before.loop.invariant (omega (arith, c.loop-test.false))
 
 pub read-record-spec : {M : Type 1} → statement M
 read-record-spec =

@@ -1,6 +1,6 @@
 -- `record_in` meets its contract. Assumes nothing.
 use mathlib.Core.Path.{◌∙◌}
-use Rattle.records.specs.Reading.{recordIn}
+use Rattle.records.specs.Reading.{record_in}
 use borrow.Author.Rules.{rules}
 use Rattle.records.proofs.record_in.Statement.{statement}
 use Rattle.records.proofs.record_in.Tie as tie
@@ -42,23 +42,23 @@ handed-requires-5 : tie.Need-handed-requires-5
 handed-requires-5 c κs = search rules
 
 returns : tie.Need-returns
-unfolding recordIn
+unfolding record_in
 returns c = c.handed.ensures ∙ rw (← c.before.before.before.next.ensures, c.before.enum_told.given.1)
 
 returns-2 : tie.Need-returns-2
-unfolding recordIn
+unfolding record_in
 returns-2 c = c.handed2.ensures ∙ rw (← c.before.before.before.next.ensures, c.before.enum-told2.given.1)
 
 returns-3 : tie.Need-returns-3
-unfolding recordIn
+unfolding record_in
 returns-3 c = c.handed3.ensures ∙ rw (c.before.next2.ensures, ← c.before.before.before.before.before.next.ensures, c.before.before.before.found.given.1)
 
 returns-4 : tie.Need-returns-4
-unfolding recordIn
+unfolding record_in
 returns-4 c = c.handed4.ensures ∙ rw (← c.before.before.before.next.ensures, c.before.enum-told3.given.1)
 
 returns-5 : tie.Need-returns-5
-unfolding recordIn
+unfolding record_in
 returns-5 c = c.handed5.ensures ∙ rw (← c.before.before.before.next.ensures, c.before.enum-told4.given.1)
 
 pub record-in-spec : {M : Type 1} → statement M

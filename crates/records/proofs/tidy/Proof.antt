@@ -1,15 +1,15 @@
 -- `tidy` meets its contract: both ends are tested. Assumes nothing.
-use Rattle.lines.specs.Unread.{tidyOf}
+use Rattle.lines.specs.Unread.{tidy_of}
 use borrow.Author.Tests.{lt-leb, le-leb}
 use Rattle.records.proofs.tidy.Statement.{statement}
 use Rattle.records.proofs.tidy.Tie as tie
 
 returns : tie.Need-returns
-unfolding tidyOf
+unfolding tidy_of
 returns c = rw (lt-leb _ _ c.if1.true)
 
 returns-2 : tie.Need-returns-2
-unfolding tidyOf
+unfolding tidy_of
 returns-2 c = rw (le-leb _ _ c.before.if1.false)
 
 pub tidy-spec : {M : Type 1} → statement M

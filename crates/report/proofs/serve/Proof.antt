@@ -4,7 +4,7 @@ use Prim.Native.Nat.{◌-◌}
 use native.Mathlib.Omega.{arith}
 use borrow.Author.Rules.{rules}
 use Rattle.records.specs.Reading.{MOST-TURNS}
-use Rattle.report.proofs.Serving.{Serving, serving-start, serving-end, serving-refused, serving-tired, serving-on}
+use Rattle.report.proofs.Serving.{Serving, serving_start, serving_end, serving_refused, serving_tired, serving_on}
 use Rattle.report.proofs.serve.Statement.{statement}
 use Rattle.report.proofs.serve.Tie as tie
 
@@ -18,7 +18,7 @@ start-requires : tie.Need-start-requires invariant-loop decreases-loop
 start-requires c κs = search rules
 
 loop-holds : tie.Need-loop-init invariant-loop decreases-loop
-loop-holds c = rw c.start.ensures (serving-start _ _)
+loop-holds c = rw c.start.ensures (serving_start _ _)
 
 add-number : tie.Need-overflow-add-number invariant-loop decreases-loop
 add-number c = search rules
@@ -33,10 +33,10 @@ same_length : tie.Need-same-length invariant-loop decreases-loop
 same_length c = c.before.before.before.before.before.buffer.given ∙ c.before.before.before.before.before.before.before.before.before.before.loop.invariant.going.size
 
 same-length-2 : tie.Need-same-length-2 invariant-loop decreases-loop
-same-length-2 c = c.before.before.before.counts.given ∙ c.before.before.before.before.before.before.before.before.before.before.loop.invariant.counts-size
+same-length-2 c = c.before.before.before.counts.given ∙ c.before.before.before.before.before.before.before.before.before.before.loop.invariant.counts_size
 
 returns : tie.Need-returns invariant-loop decreases-loop
-returns c = serving-end c.before.before.before.before.before.before.before.before.before.before.loop.invariant c.before.before.before.before.before.before.turn.ensures c.enum_told.given.1
+returns c = serving_end c.before.before.before.before.before.before.before.before.before.before.loop.invariant c.before.before.before.before.before.before.turn.ensures c.enum_told.given.1
 
 enum-known-rest : tie.Need-enum-known-rest invariant-loop decreases-loop
 enum-known-rest c = search rules
@@ -45,7 +45,7 @@ loop-less : tie.Need-loop-smaller invariant-loop decreases-loop
 loop-less c = omega (arith, c.before.before.before.before.before.before.before.before.before.before.loop-test.true)
 
 loop-again : tie.Need-loop-preserved invariant-loop decreases-loop
-loop-again c = serving-on c.before.before.before.before.before.before.before.before.before.before.before.loop.invariant c.before.before.before.before.before.before.before.turn.ensures c.before.before.before.before.before.before.before.before.before.before.loop-test.true (omega arith) c.before.rest.given.1 c.before.before.before.before.before.before.buffer.given c.before.before.before.before.counts.given
+loop-again c = serving_on c.before.before.before.before.before.before.before.before.before.before.before.loop.invariant c.before.before.before.before.before.before.before.turn.ensures c.before.before.before.before.before.before.before.before.before.before.loop-test.true (omega arith) c.before.rest.given.1 c.before.before.before.before.before.before.buffer.given c.before.before.before.before.counts.given
 
 enum-known-refusal : tie.Need-enum-known-refusal invariant-loop decreases-loop
 enum-known-refusal c = search rules
@@ -54,19 +54,19 @@ same-length-3 : tie.Need-same-length-3 invariant-loop decreases-loop
 same-length-3 c = c.before.before.before.before.before.before.buffer.given ∙ c.before.before.before.before.before.before.before.before.before.before.before.loop.invariant.going.size
 
 same-length-4 : tie.Need-same-length-4 invariant-loop decreases-loop
-same-length-4 c = c.before.before.before.before.counts.given ∙ c.before.before.before.before.before.before.before.before.before.before.before.loop.invariant.counts-size
+same-length-4 c = c.before.before.before.before.counts.given ∙ c.before.before.before.before.before.before.before.before.before.before.before.loop.invariant.counts_size
 
 returns-2 : tie.Need-returns-2 invariant-loop decreases-loop
-returns-2 c = serving-refused c.before.before.before.before.before.before.before.before.before.before.before.loop.invariant c.before.before.before.before.before.before.before.turn.ensures c.before.refusal.given.1
+returns-2 c = serving_refused c.before.before.before.before.before.before.before.before.before.before.before.loop.invariant c.before.before.before.before.before.before.before.turn.ensures c.before.refusal.given.1
 
 same-length-5 : tie.Need-same-length-5 invariant-loop decreases-loop
 same-length-5 c = c.before.loop.invariant.going.size
 
 same-length-6 : tie.Need-same-length-6 invariant-loop decreases-loop
-same-length-6 c = c.before.loop.invariant.counts-size
+same-length-6 c = c.before.loop.invariant.counts_size
 
 returns-3 : tie.Need-returns-3 invariant-loop decreases-loop
-returns-3 c = serving-tired c.before.loop.invariant (omega (arith, c.loop-test.false))
+returns-3 c = serving_tired c.before.loop.invariant (omega (arith, c.loop-test.false))
 
 pub serve-spec : {M : Type 1} → statement M
 serve-spec =

@@ -1,7 +1,7 @@
 -- `turn` meets its contract, by what came. Assumes nothing.
 use borrow.Author.Rules.{rules}
-use Rattle.report.proofs.Serving.{turn_end, turn-refused, turn-record}
-use Rattle.records.proofs.Pieces.{came-inside}
+use Rattle.report.proofs.Serving.{turn_end, turn_refused, turn_record}
+use Rattle.records.proofs.Pieces.{came_inside}
 use Rattle.report.proofs.turn.Statement.{statement}
 use Rattle.report.proofs.turn.Tie as tie
 
@@ -15,13 +15,13 @@ enum-known-came : tie.Need-enum-known-came
 enum-known-came c = search rules
 
 sub-count : tie.Need-overflow-sub-count
-sub-count c = (came-inside c.before.before.before.before.before.before.read-record.ensures c.before.before.came.given.1).0
+sub-count c = (came_inside c.before.before.before.before.before.before.read-record.ensures c.before.before.came.given.1).0
 
 part-count-start : tie.Need-slice-bounds-count-start
-part-count-start c = (came-inside c.before.before.before.before.before.before.before.read-record.ensures c.before.before.before.came.given.1).0
+part-count-start c = (came_inside c.before.before.before.before.before.before.before.read-record.ensures c.before.before.before.came.given.1).0
 
 part-count-end : tie.Need-slice-bounds-count-end
-part-count-end c = (came-inside c.before.before.before.before.before.before.before.read-record.ensures c.before.before.before.came.given.1).1
+part-count-end c = (came_inside c.before.before.before.before.before.before.before.read-record.ensures c.before.before.before.came.given.1).1
 
 count-requires : tie.Need-count-requires
 count-requires c κs = search rules
@@ -42,13 +42,13 @@ same-length-3 : tie.Need-same-length-3
 same-length-3 c = search rules
 
 returns-2 : tie.Need-returns-2
-returns-2 c = turn-record c.before.before.before.before.before.before.before.before.before.before.before.read-record.ensures c.before.before.before.before.before.before.before.came.given.1 c.before.before.count.ensures
+returns-2 c = turn_record c.before.before.before.before.before.before.before.before.before.before.before.read-record.ensures c.before.before.before.before.before.before.before.came.given.1 c.before.before.count.ensures
 
 same-length-4 : tie.Need-same-length-4
 same-length-4 c = search rules
 
 returns-3 : tie.Need-returns-3
-returns-3 c = turn-refused c.before.before.before.before.read-record.ensures c.enum-told2.given.1
+returns-3 c = turn_refused c.before.before.before.before.read-record.ensures c.enum-told2.given.1
 
 pub turn_spec : {M : Type 1} → statement M
 turn_spec =

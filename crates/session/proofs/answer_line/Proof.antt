@@ -1,7 +1,7 @@
 -- `answer_line` meets its contract: what was read of a line decides whether it is about a state, and a message's answer is its definition's. Assumes nothing.
 use mathlib.Core.Path.{sym, ◌∙◌}
-use Rattle.session_print.proofs.Lines.{bytes-within}
-use Rattle.session.proofs.Laws.{answers-state, answers-message}
+use Rattle.session_print.proofs.Lines.{bytes_within}
+use Rattle.session.proofs.Laws.{answers_state, answers_message}
 use borrow.Author.Rules.{rules}
 use Rattle.session.proofs.answer_line.Statement.{statement}
 use Rattle.session.proofs.answer_line.Tie as tie
@@ -13,7 +13,7 @@ about-state-requires : tie.Need-about-state-requires
 about-state-requires c κs = search rules
 
 first-requires : tie.Need-first-requires
-first-requires c κs = bytes-within c.before.before.before.before.before.before.before.before.read.ensures
+first-requires c κs = bytes_within c.before.before.before.before.before.before.before.before.read.ensures
 
 state-line-requires : tie.Need-state-line-requires
 state-line-requires c κs = search rules
@@ -36,10 +36,10 @@ same-length-5 c = search rules
 returns : tie.Need-returns
 returns c =
     let tested = c.before.before.before.before.before.before.before.before.before.before.before.before.before.before.before.before in
-    answers-state tested.before.before.before.before.read.ensures _ (sym tested.before.about-state.ensures ∙ tested.if1.true)
+    answers_state tested.before.before.before.before.read.ensures _ (sym tested.before.about-state.ensures ∙ tested.if1.true)
 
 first-requires-2 : tie.Need-first-requires-2
-first-requires-2 c κs = bytes-within c.before.before.before.before.before.read.ensures
+first-requires-2 c κs = bytes_within c.before.before.before.before.before.read.ensures
 
 message-requires : tie.Need-message-requires
 message-requires c κs = search rules
@@ -60,7 +60,7 @@ returns-2 : tie.Need-returns-2
 returns-2 c =
     let message = c.before.before.before.before.before in
     let first = message.before.before.before in
-    rw c.still-held.ensures (answers-message first.before.before.before.before.before.before.read.ensures _ first.first2.ensures message.message.ensures)
+    rw c.still-held.ensures (answers_message first.before.before.before.before.before.before.read.ensures _ first.first2.ensures message.message.ensures)
 
 pub answer-line-spec : {M : Type 1} → statement M
 answer-line-spec =

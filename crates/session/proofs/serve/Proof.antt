@@ -2,7 +2,7 @@
 use Prim.Native.Nat.{◌≤◌}
 use mathlib.Core.Path.{◌≡◌, sym, ◌∙◌}
 use lib.ListN.{length}
-use Rattle.lines.proofs.Laws.{next-inside}
+use Rattle.lines.proofs.Laws.{next_inside}
 use borrow.Author.Rules.{rules}
 use Rattle.session.proofs.serve.Statement.{statement}
 use Rattle.session.proofs.serve.Tie as tie
@@ -16,7 +16,7 @@ decreases-loop buffer₀ words₀ memory₀ bytes₀ output₀ out₀ held₀ in
     turns
 
 inside : (c : tie.After-known-told invariant-loop decreases-loop) → let line = c.before.from.given.0 in (line.0 ≤ line.1.0) × (line.1.0 ≤ length c.before.before.before.before.before.before.loop.buffer)
-inside c = next-inside _ _ (sym c.before.before.before.next.ensures ∙ c.before.from.given.1)
+inside c = next_inside _ _ (sym c.before.before.before.next.ensures ∙ c.before.from.given.1)
 
 nothing-requires : tie.Need-nothing-requires invariant-loop decreases-loop
 nothing-requires c κs = search rules

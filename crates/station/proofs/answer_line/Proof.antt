@@ -1,6 +1,6 @@
 -- `answer_line` meets its contract: what was read of a line is what it asks for. Assumes nothing.
 use borrow.Author.Rules.{rules}
-use Rattle.station.proofs.Laws.{bytes-within, answers}
+use Rattle.station.proofs.Laws.{bytes_within, answers}
 use Rattle.station.proofs.answer_line.Statement.{statement}
 use Rattle.station.proofs.answer_line.Tie as tie
 
@@ -8,7 +8,7 @@ read-requires : tie.Need-read-requires
 read-requires c κs = search rules
 
 first-requires : tie.Need-first-requires
-first-requires c κs = bytes-within c.before.before.before.before.before.read.ensures
+first-requires c κs = bytes_within c.before.before.before.before.before.read.ensures
 
 asked-line-requires : tie.Need-asked-line-requires
 asked-line-requires c κs = search rules

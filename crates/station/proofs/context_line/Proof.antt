@@ -30,7 +30,7 @@ same-length-3 : tie.Need-same-length-3
 same-length-3 c = search rules
 
 returns : tie.Need-returns
-returns c = calls UNASKED UNCHANGED (rw c.before.before.before.before.before.before.before.before.before.before.before.before.before.context-said.ensures at c.before.before.before.before.before.before.before.before.before.before.before.tell-context.ensures) c.before.before.answered.ensures
+returns c = calls UNASKED UNCHANGED (rw c.before.before.before.before.before.before.before.before.before.before.before.before.before.context_said_lem.ensures at c.before.before.before.before.before.before.before.before.before.before.before.tell-context.ensures) c.before.before.answered.ensures
 
 pub context-line-spec : {M : Type 1} → statement M
 context-line-spec =

@@ -1,6 +1,6 @@
 -- `show_line` meets its contract: the channel, or refused. Assumes nothing.
 use borrow.Author.Rules.{rules}
-use Rattle.station.proofs.Laws.{shows, shows-refused}
+use Rattle.station.proofs.Laws.{shows, shows_refused}
 use Rattle.station.proofs.show_line.Statement.{statement}
 use Rattle.station.proofs.show_line.Tie as tie
 
@@ -29,7 +29,7 @@ same-length-2 : tie.Need-same-length-2
 same-length-2 c = search rules
 
 returns-2 : tie.Need-returns-2
-returns-2 c = shows-refused _ _ c.before.before.before.before.before.before.before.show.ensures c.before.before.before.before.before.refusal.given.1 c.before.before.refused.ensures
+returns-2 c = shows_refused _ _ c.before.before.before.before.before.before.before.show.ensures c.before.before.before.before.before.refusal.given.1 c.before.before.refused.ensures
 
 pub show-line-spec : {M : Type 1} → statement M
 show-line-spec =

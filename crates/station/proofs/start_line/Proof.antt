@@ -1,6 +1,6 @@
 -- `start_line` meets its contract: started on the first words, or refused. Assumes nothing.
 use borrow.Author.Rules.{rules}
-use Rattle.station.proofs.Laws.{starts, starts-refused}
+use Rattle.station.proofs.Laws.{starts, starts_refused}
 use Rattle.station.proofs.start_line.Statement.{statement}
 use Rattle.station.proofs.start_line.Tie as tie
 
@@ -53,7 +53,7 @@ same-length-4 : tie.Need-same-length-4
 same-length-4 c = search rules
 
 returns-2 : tie.Need-returns-2
-returns-2 c = let args = c.before.before.before.before.before.before.before.before.before.before.before.before.before.before.before.before.before.args in starts-refused args.held args.words.now args.channels args.numbers.now c.before.before.before.before.before.before.before.before.before.before.before.before.before.before.words-for.ensures c.before.before.before.before.before.before.before.before.before.before.before.before.before.least.ensures c.before.before.before.before.before.before.before.before.before.before.before.configuration.ensures c.before.before.before.before.before.before.before.before.before.start.ensures c.before.before.before.before.before.refusal.given.1 c.before.before.refused.ensures
+returns-2 c = let args = c.before.before.before.before.before.before.before.before.before.before.before.before.before.before.before.before.before.args in starts_refused args.held args.words.now args.channels args.numbers.now c.before.before.before.before.before.before.before.before.before.before.before.before.before.before.words-for.ensures c.before.before.before.before.before.before.before.before.before.before.before.before.before.least.ensures c.before.before.before.before.before.before.before.before.before.before.before.configuration.ensures c.before.before.before.before.before.before.before.before.before.start.ensures c.before.before.before.before.before.refusal.given.1 c.before.before.refused.ensures
 
 pub start-line-spec : {M : Type 1} → statement M
 start-line-spec =

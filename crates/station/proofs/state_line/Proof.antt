@@ -1,6 +1,6 @@
 -- `state_line` meets its contract: a bad line, or a command on the state's own words. Assumes nothing.
 use borrow.Author.Rules.{rules}
-use Rattle.station.proofs.Laws.{states-bad, states}
+use Rattle.station.proofs.Laws.{states_bad, states}
 use Rattle.station.proofs.state_line.Statement.{statement}
 use Rattle.station.proofs.state_line.Tie as tie
 
@@ -11,7 +11,7 @@ same_length : tie.Need-same-length
 same_length c = search rules
 
 returns : tie.Need-returns
-returns c = states-bad _ _ _ _ _ _ c.before.before.before.before.if1.true c.before.before.bad-line.ensures
+returns c = states_bad _ _ _ _ _ _ c.before.before.before.before.if1.true c.before.before.bad-line.ensures
 
 least-requires : tie.Need-least-requires
 least-requires c κs = search rules

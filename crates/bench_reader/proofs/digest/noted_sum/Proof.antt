@@ -1,5 +1,5 @@
 -- `digest::noted_sum` meets its contract, part by part. Assumes nothing.
-use Rattle.bench_reader.specs.Digests.{notedSum}
+use Rattle.bench_reader.specs.Digests.{noted_sum}
 use Rattle.std.proofs.Common.{rules}
 use Rattle.bench_reader.proofs.digest.noted_sum.Statement.{statement}
 use Rattle.bench_reader.proofs.digest.noted_sum.Tie as tie
@@ -35,8 +35,8 @@ mix-requires-6 : tie.Need-mix-requires-6
 mix-requires-6 c κs = search rules
 
 returns : tie.Need-returns
-unfolding notedSum
-returns c = rw (c.mix6.ensures, c.before.mix5.ensures, c.before.before.mix4.ensures, c.before.before.before.context-length.ensures, c.before.before.before.before.mix3.ensures, c.before.before.before.before.before.context.ensures, c.before.before.before.before.before.before.mix2.ensures, c.before.before.before.before.before.before.before.instance-length.ensures, c.before.before.before.before.before.before.before.before.mix.ensures, c.before.before.before.before.before.before.before.before.before.instance.ensures)
+unfolding noted_sum
+returns c = rw (c.mix6.ensures, c.before.mix5.ensures, c.before.before.mix4.ensures, c.before.before.before.context_length_lem.ensures, c.before.before.before.before.mix3.ensures, c.before.before.before.before.before.context.ensures, c.before.before.before.before.before.before.mix2.ensures, c.before.before.before.before.before.before.before.instance_length_lem.ensures, c.before.before.before.before.before.before.before.before.mix.ensures, c.before.before.before.before.before.before.before.before.before.instance.ensures)
 
 pub noted-sum-spec : {M : Type 1} → statement M
 noted-sum-spec =

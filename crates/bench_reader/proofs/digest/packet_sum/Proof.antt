@@ -1,12 +1,12 @@
 -- `digest::packet_sum` meets its contract, with a last byte and without. Assumes nothing.
 use Rattle.std.proofs.Common.{◌-◌, length, arith, rules}
 use lib.ListN.{get_or-eq_default}
-use Rattle.bench_reader.specs.Digests.{packetSum}
+use Rattle.bench_reader.specs.Digests.{packet_sum}
 use Rattle.bench_reader.proofs.digest.packet_sum.Statement.{statement}
 use Rattle.bench_reader.proofs.digest.packet_sum.Tie as tie
 
 returns : tie.Need-returns
-unfolding packetSum
+unfolding packet_sum
 returns c =
     let tested = c.before.before in
     rw (c.mix2.ensures, c.before.mix.ensures, get_or-eq_default tested.before.before.args.packet.now 0 {n = length tested.before.before.args.packet.now - 1} (omega arith), tested.if1.true)
@@ -15,7 +15,7 @@ cast-mix : tie.Need-overflow-cast-mix
 cast-mix c = omega (arith, c.shared-slice-known2.given (length c.before.before.before.before.args.packet.now - 1))
 
 returns-2 : tie.Need-returns-2
-unfolding packetSum
+unfolding packet_sum
 returns-2 c = rw (c.mix4.ensures, c.before.before.mix3.ensures)
 
 pub packet-sum-spec : {M : Type 1} → statement M

@@ -1,16 +1,16 @@
 -- `call::next` meets its contract. Assumes nothing.
 use mathlib.Core.Path.{sym, ◌∙◌}
 use borrow.Author.Rules.{rules}
-use Rattle.endpoint.specs.Lent.{lent, worldIn}
+use Rattle.endpoint.specs.Lent.{lent, world_in}
 use Rattle.ips_words_survey.proofs.Finding.{Finds, place_found}
-use Rattle.endpoint.proofs.Calling.{performed-found, performed-refused}
+use Rattle.endpoint.proofs.Calling.{performed_found, performed_refused}
 use Rattle.endpoint.proofs.call.next.Statement.{statement}
 use Rattle.endpoint.proofs.call.next.Tie as tie
 
 abbrev start : tie.After-find → tie.Start
 start c = c.before.before.before.before.before
 
-finds : (c : tie.After-found) → let begun = (start c.before.before).args in Finds (worldIn (lent begun.words.now begun.memory.now)) begun.id c.found.given.0.0
+finds : (c : tie.After-found) → let begun = (start c.before.before).args in Finds (world_in (lent begun.words.now begun.memory.now)) begun.id c.found.given.0.0
 finds c = place_found _ _ _ (sym c.before.before.find.ensures ∙ c.found.given.1)
 
 next-at-requires : tie.Need-next-at-requires
@@ -19,10 +19,10 @@ next-at-requires c κs = (finds c.before.before.before.before).located
 returns : tie.Need-returns
 returns c =
     let called = c.before.before.before.before.before.before in
-    performed-found _ _ _ (finds called.before.before.before.before.before) _ _ _ called.next-at.ensures.0
+    performed_found _ _ _ (finds called.before.before.before.before.before) _ _ _ called.next-at.ensures.0
 
 returns-2 : tie.Need-returns-2
-returns-2 c = performed-refused _ _ _ (sym c.before.before.before.find.ensures ∙ c.before.number.given.1) _
+returns-2 c = performed_refused _ _ _ (sym c.before.before.before.find.ensures ∙ c.before.number.given.1) _
 
 pub next-spec : {M : Type 1} → statement M
 next-spec =

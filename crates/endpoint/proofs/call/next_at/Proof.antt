@@ -5,10 +5,10 @@ use native.Mathlib.Omega.{arith}
 use borrow.Author.Rules.{rules}
 use lib.ListN.{length}
 use Rattle.ips_state.specs.State.{State}
-use Rattle.ips_words.specs.Words.{stateIn}
-use Rattle.ips_words_query.proofs.Gathering.{said-setting}
+use Rattle.ips_words.specs.Words.{state_in}
+use Rattle.ips_words_query.proofs.Gathering.{said_setting}
 use Rattle.endpoint.proofs.Placing.{says_so}
-use Rattle.endpoint.proofs.Calling.{state-fits, placed, store-ends, ready, kept_at, saved-at, moved_at}
+use Rattle.endpoint.proofs.Calling.{state_fits_lem, placed, store_ends, ready, kept_at, saved_at, moved_at_lem}
 use Rattle.endpoint.proofs.call.next_at.Statement.{statement}
 use Rattle.endpoint.proofs.call.next_at.Tie as tie
 
@@ -16,16 +16,16 @@ abbrev start : tie.After-load → tie.Start
 start c = c.before.before.before.before.before.before.before
 
 setting-requires : tie.Need-setting-requires
-setting-requires c κs = said-setting _ (state-fits _ _ c.before.before.before.before.requires)
+setting-requires c κs = said_setting _ (state_fits_lem _ _ c.before.before.before.before.requires)
 
-named : (c : tie.After-setting) → let start = c.before.before.before.before.before in c.setting.result ≡ (stateIn start.args.words.now).datalink
-named c = says_so _ (state-fits _ _ c.before.before.before.before.before.requires) (λ (s : State). s.datalink) _ c.setting.ensures
+named : (c : tie.After-setting) → let start = c.before.before.before.before.before in c.setting.result ≡ (state_in start.args.words.now).datalink
+named c = says_so _ (state_fits_lem _ _ c.before.before.before.before.before.requires) (λ (s : State). s.datalink) _ c.setting.ensures
 
 load-requires : tie.Need-load-requires
 load-requires c κs = placed _ _ c.before.before.before.before.before.before.requires
 
 ends : (c : tie.After-load) → (start c).args.found.start + c.load.result.setting.size.0 ≤ length (start c).args.memory.now
-ends c = store-ends _ _ (start c).requires _ c.load.ensures
+ends c = store_ends _ _ (start c).requires _ c.load.ensures
 
 add-end : tie.Need-overflow-add-end
 add-end c = omega (arith, ends c.before.before)
@@ -42,7 +42,7 @@ returns c =
     let asked = told.before.before.before.before.before.before in
     let loaded = asked.before.before.before.before.before in
     let datalink = named loaded.before.before in
-    (kept_at _ _ (start loaded).requires _ loaded.load.ensures _ _ _ _ (rw datalink at asked.next.ensures.0) (sym told.next-refused.ensures ∙ c.if1.true), moved_at _ _ (start loaded).requires _ loaded.load.ensures _ _ (rw datalink at asked.next.ensures.1))
+    (kept_at _ _ (start loaded).requires _ loaded.load.ensures _ _ _ _ (rw datalink at asked.next.ensures.0) (sym told.next_refused_lem.ensures ∙ c.if1.true), moved_at_lem _ _ (start loaded).requires _ loaded.load.ensures _ _ (rw datalink at asked.next.ensures.1))
 
 save-requires : tie.Need-save-requires
 save-requires c κs = placed _ _ (start c.before.before.before.before.before.before.before.before.before.before.before.before.before.before).requires
@@ -55,7 +55,7 @@ returns-2 c =
     let asked = told.before.before.before.before.before.before in
     let loaded = asked.before.before.before.before.before in
     let datalink = named loaded.before.before in
-    (saved-at _ _ (start loaded).requires _ loaded.load.ensures _ _ _ _ (rw datalink at asked.next.ensures.0) (sym told.next-refused.ensures ∙ other.if1.false) _ saved.save.ensures, moved_at _ _ (start loaded).requires _ loaded.load.ensures _ _ (rw datalink at asked.next.ensures.1))
+    (saved_at _ _ (start loaded).requires _ loaded.load.ensures _ _ _ _ (rw datalink at asked.next.ensures.0) (sym told.next_refused_lem.ensures ∙ other.if1.false) _ saved.save.ensures, moved_at_lem _ _ (start loaded).requires _ loaded.load.ensures _ _ (rw datalink at asked.next.ensures.1))
 
 pub next-at-spec : {M : Type 1} → statement M
 next-at-spec =

@@ -4,7 +4,7 @@ use mathlib.Core.Path.{refl}
 use native.Mathlib.Omega.{arith}
 use borrow.Author.Rules.{rules}
 use lib.ListN.{length}
-use Rattle.endpoint.proofs.Calling.{placed, store-ends, ready, saved-at, moved_at}
+use Rattle.endpoint.proofs.Calling.{placed, store_ends, ready, saved_at, moved_at_lem}
 use Rattle.endpoint.proofs.call.withdraw_at.Statement.{statement}
 use Rattle.endpoint.proofs.call.withdraw_at.Tie as tie
 
@@ -15,7 +15,7 @@ load-requires : tie.Need-load-requires
 load-requires c κs = placed _ _ c.before.before.before.requires
 
 ends : (c : tie.After-load) → (start c).args.found.start + c.load.result.setting.size.0 ≤ length (start c).args.memory.now
-ends c = store-ends _ _ (start c).requires _ c.load.ensures
+ends c = store_ends _ _ (start c).requires _ c.load.ensures
 
 add-end : tie.Need-overflow-add-end
 add-end c = omega (arith, ends c.before.before)
@@ -34,7 +34,7 @@ returns c =
     let saved = c.before.before in
     let emptied = saved.before.before.before.before.before.before in
     let loaded = emptied.before.before.before.before in
-    (saved-at _ _ (start loaded).requires _ loaded.load.ensures _ _ _ _ (emptied.withdraw.ensures.0 _) refl _ saved.save.ensures, moved_at _ _ (start loaded).requires _ loaded.load.ensures _ _ (emptied.withdraw.ensures.1 _))
+    (saved_at _ _ (start loaded).requires _ loaded.load.ensures _ _ _ _ (emptied.withdraw.ensures.0 _) refl _ saved.save.ensures, moved_at_lem _ _ (start loaded).requires _ loaded.load.ensures _ _ (emptied.withdraw.ensures.1 _))
 
 pub withdraw-at-spec : {M : Type 1} → statement M
 withdraw-at-spec =

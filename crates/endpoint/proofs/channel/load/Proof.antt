@@ -1,7 +1,7 @@
 -- `channel::load` meets its contract. Assumes nothing.
 use native.Mathlib.Omega.{arith}
 use borrow.Author.Rules.{rules}
-use Rattle.endpoint.proofs.Placing.{few, slot-ends, part-loadable, part-loaded}
+use Rattle.endpoint.proofs.Placing.{few, slot_ends, part_loadable, part_loaded}
 use Rattle.endpoint.proofs.channel.load.Statement.{statement}
 use Rattle.endpoint.proofs.channel.load.Tie as tie
 
@@ -18,13 +18,13 @@ mul-load : tie.Need-overflow-mul-load
 mul-load c = omega (arith, few _ _ c.before.requires)
 
 part-load-end : tie.Need-slice-bounds-load-end
-part-load-end c = slot-ends _ _ c.before.requires
+part-load-end c = slot_ends _ _ c.before.requires
 
 load-requires : tie.Need-load-requires
-load-requires c κs = part-loadable _ _ c.before.before.requires
+load-requires c κs = part_loadable _ _ c.before.before.requires
 
 returns : tie.Need-returns
-returns c = part-loaded _ _ c.before.before.before.requires _ c.load.ensures
+returns c = part_loaded _ _ c.before.before.before.requires _ c.load.ensures
 
 pub load_spec : {M : Type 1} → statement M
 load_spec = tie.close (tie.spec mul-from add-from add-to mul-load (λ c. search rules) (λ c. search rules) part-load-end load-requires returns)

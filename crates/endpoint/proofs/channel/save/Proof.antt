@@ -1,7 +1,7 @@
 -- `channel::save` meets its contract. Assumes nothing.
 use native.Mathlib.Omega.{arith}
 use borrow.Author.Rules.{rules}
-use Rattle.endpoint.proofs.Placing.{few, slot-ends, part-long, part-saved}
+use Rattle.endpoint.proofs.Placing.{few, slot_ends, part_long, part_saved}
 use Rattle.endpoint.proofs.channel.save.Statement.{statement}
 use Rattle.endpoint.proofs.channel.save.Tie as tie
 
@@ -18,13 +18,13 @@ mul-save : tie.Need-overflow-mul-save
 mul-save c = omega (arith, few _ _ c.before.requires)
 
 part-save-end : tie.Need-slice-bounds-save-end
-part-save-end c = slot-ends _ _ c.before.requires
+part-save-end c = slot_ends _ _ c.before.requires
 
 save-requires : tie.Need-save-requires
-save-requires c κs = part-long _ _ c.before.before.requires
+save-requires c κs = part_long _ _ c.before.before.requires
 
 returns : tie.Need-returns
-returns c = let saved = c.before.before in part-saved _ _ saved.before.before.before.requires _ _ saved.save.ensures
+returns c = let saved = c.before.before in part_saved _ _ saved.before.before.before.requires _ _ saved.save.ensures
 
 pub save-spec : {M : Type 1} → statement M
 save-spec =

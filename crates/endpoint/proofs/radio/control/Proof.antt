@@ -7,13 +7,13 @@ returns : tie.Need-returns
 returns c =
     let heard = c.before.before in
     let told = heard.before.before.enum_told.given.1 in
-    record { answer-is = rw told heard.accepted.ensures.answer-is; words_are = rw told heard.accepted.ensures.words_are }
+    record { answer_is = rw told heard.accepted.ensures.answer_is; words_are = rw told heard.accepted.ensures.words_are }
 
 returns-2 : tie.Need-returns-2
-returns-2 c = let told = c.enum-told2.given.1 in record { answer-is = rw told; words_are = rw told }
+returns-2 c = let told = c.enum-told2.given.1 in record { answer_is = rw told; words_are = rw told }
 
 returns-3 : tie.Need-returns-3
-returns-3 c = let told = c.before.verdict.given.1 in record { answer-is = rw told; words_are = rw told }
+returns-3 c = let told = c.before.verdict.given.1 in record { answer_is = rw told; words_are = rw told }
 
 pub control-spec : {M : Type 1} → statement M
 control-spec =

@@ -6,7 +6,7 @@ use borrow.Author.Rules.{rules}
 use lib.ListN.{length, get_or}
 use Rattle.endpoint.specs.Lent.{lent}
 use Rattle.quantity.specs.Limits.{MOST-AT-ONCE}
-use Rattle.handful.proofs.Turning.{Turning, turning-start, within-lists, stretch-ends, few-turns, moved-fits, turning-again, answers-long, turning-end}
+use Rattle.handful.proofs.Turning.{Turning, turning_start, within_lists, stretch_ends, few_turns, moved_fits, turning_again, answers_long, turning_end}
 use Rattle.handful.proofs.each.offer_each.Statement.{statement}
 use Rattle.handful.proofs.each.offer_each.Tie as tie
 
@@ -19,7 +19,7 @@ decreases-loop words₀ memory₀ channels expiries lengths packets time answers
     length channels - at
 
 loop-holds : tie.Need-loop-init invariant-loop decreases-loop
-loop-holds c = (turning-start _ _ _ c.before.before.before.before.before.before.before.requires, refl, refl)
+loop-holds c = (turning_start _ _ _ c.before.before.before.before.before.before.before.requires, refl, refl)
 
 -- what holds in the loop
 module _ (c : tie.In-loop invariant-loop decreases-loop) where
@@ -30,13 +30,13 @@ module _ (c : tie.In-loop invariant-loop decreases-loop) where
   begun = loop.before.before.before.before.before.before.before.before
 
   within : (loop.loop.at < length begun.args.expiries.now) × (loop.loop.at < length begun.args.lengths.now) × (loop.loop.at < length loop.loop.answers)
-  within = within-lists _ _ _ begun.pre _ _ _ _ _ loop.loop.inv.0 c.loop-test.true
+  within = within_lists _ _ _ begun.pre _ _ _ _ _ loop.loop.inv.0 c.loop-test.true
 
   ends : loop.loop.from + get_or begun.args.lengths.now loop.loop.at 0 ≤ length begun.args.packets.now
-  ends = stretch-ends _ _ _ begun.pre _ _ _ _ _ loop.loop.inv.0 c.loop-test.true
+  ends = stretch_ends _ _ _ begun.pre _ _ _ _ _ loop.loop.inv.0 c.loop-test.true
 
   few : loop.loop.at < MOST-AT-ONCE
-  few = few-turns _ _ _ begun.pre _ _ _ _ _ loop.loop.inv.0 c.loop-test.true
+  few = few_turns _ _ _ begun.pre _ _ _ _ _ loop.loop.inv.0 c.loop-test.true
 
 mul-narrow : tie.Need-overflow-mul-narrow invariant-loop decreases-loop
 mul-narrow c = omega (arith, few c)
@@ -75,13 +75,13 @@ add-moved : tie.Need-overflow-add-moved invariant-loop decreases-loop
 add-moved c =
     let here = c.before.before.before.before.before.before.before.before.before.before.before.before.before.before.before in
     let called = c.before.before.before.before.before.before.before in
-    omega (arith, moved-fits _ _ _ (begun here).requires _ _ _ _ _ (loop here).loop.invariant.0 here.loop-test.true _ c.before.before.before.before.before.before.before.before.before.before.before.before.before.narrow.ensures _ _ _ called.offer-one.ensures.0 called.offer-one.ensures.1)
+    omega (arith, moved_fits _ _ _ (begun here).requires _ _ _ _ _ (loop here).loop.invariant.0 here.loop-test.true _ c.before.before.before.before.before.before.before.before.before.before.before.before.before.narrow.ensures _ _ _ called.offer-one.ensures.0 called.offer-one.ensures.1)
 
 loop-again : tie.Need-loop-preserved invariant-loop decreases-loop
 loop-again c =
     let here = c.before.before.before.before.before.before.before.before.before.before.before.before.before.before.before in
     let called = c.before.before.before.before.before.before.before in
-    (turning-again _ _ _ (begun here).requires _ _ _ _ _ (loop here).loop.invariant.0 here.loop-test.true _ c.before.before.before.before.before.before.before.before.before.before.before.before.before.narrow.ensures _ _ _ called.offer-one.ensures.0 called.offer-one.ensures.1 _ c.before.before.number_of_lem.ensures, c.before.before.before.before.before.before.words.given ∙ (loop here).loop.invariant.1, c.before.before.before.before.memory.given ∙ (loop here).loop.invariant.2)
+    (turning_again _ _ _ (begun here).requires _ _ _ _ _ (loop here).loop.invariant.0 here.loop-test.true _ c.before.before.before.before.before.before.before.before.before.before.before.before.before.narrow.ensures _ _ _ called.offer-one.ensures.0 called.offer-one.ensures.1 _ c.before.before.number_of_lem.ensures, c.before.before.before.before.before.before.words.given ∙ (loop here).loop.invariant.1, c.before.before.before.before.memory.given ∙ (loop here).loop.invariant.2)
 
 same_length : tie.Need-same-length invariant-loop decreases-loop
 same_length c = c.before.loop.invariant.1
@@ -90,10 +90,10 @@ same-length-2 : tie.Need-same-length-2 invariant-loop decreases-loop
 same-length-2 c = c.before.loop.invariant.2
 
 same-length-3 : tie.Need-same-length-3 invariant-loop decreases-loop
-same-length-3 c = answers-long _ _ _ c.before.before.before.before.before.before.before.before.before.requires _ _ _ _ _ c.before.loop.invariant.0
+same-length-3 c = answers_long _ _ _ c.before.before.before.before.before.before.before.before.before.requires _ _ _ _ _ c.before.loop.invariant.0
 
 returns : tie.Need-returns invariant-loop decreases-loop
-returns c = turning-end _ _ _ c.before.before.before.before.before.before.before.before.before.requires _ _ _ _ _ c.before.loop.invariant.0 c.loop-test.false
+returns c = turning_end _ _ _ c.before.before.before.before.before.before.before.before.before.requires _ _ _ _ _ c.before.loop.invariant.0 c.loop-test.false
 
 pub offer-each-spec : {M : Type 1} → statement M
 offer-each-spec =

@@ -2,7 +2,7 @@
 use Prim.Native.Nat.{◌-◌}
 use borrow.Author.Rules.{rules}
 use lib.ListN.{length}
-use Rattle.handful.proofs.Summing.{Adding, adding-start, adding-next, adding-more, adding-end}
+use Rattle.handful.proofs.Summing.{Adding, adding_start, adding_next, adding_more, adding_end}
 use Rattle.handful.proofs.judged.adds_up.Statement.{statement}
 use Rattle.handful.proofs.judged.adds_up.Tie as tie
 
@@ -13,16 +13,16 @@ abbrev decreases-loop : tie.decreases-loop
 decreases-loop lengths bytes left₀ at₀ left at = length lengths - at
 
 loop-holds : tie.Need-loop-init invariant-loop decreases-loop
-loop-holds c = adding-start _ _
+loop-holds c = adding_start _ _
 
 returns : tie.Need-returns invariant-loop decreases-loop
-returns c = adding-more _ _ _ _ c.before.before.before.before.loop.invariant c.before.before.before.loop-test.true _ c.before.narrow.ensures c.if1.true
+returns c = adding_more _ _ _ _ c.before.before.before.before.loop.invariant c.before.before.before.loop-test.true _ c.before.narrow.ensures c.if1.true
 
 loop-again : tie.Need-loop-preserved invariant-loop decreases-loop
-loop-again c = adding-next _ _ _ _ c.before.before.before.before.loop.invariant c.before.before.before.loop-test.true _ c.before.narrow.ensures c.if1.false
+loop-again c = adding_next _ _ _ _ c.before.before.before.before.loop.invariant c.before.before.before.loop-test.true _ c.before.narrow.ensures c.if1.false
 
 returns-2 : tie.Need-returns-2 invariant-loop decreases-loop
-returns-2 c = adding-end _ _ _ _ c.before.loop.invariant c.loop-test.false
+returns-2 c = adding_end _ _ _ _ c.before.loop.invariant c.loop-test.false
 
 pub adds-up-spec : {M : Type 1} → statement M
 adds-up-spec =

@@ -1,11 +1,11 @@
 -- `state::fresh` meets its contract. Assumes nothing.
 use borrow.Author.Rules.{rules}
-use Rattle.ips_channel.specs.Channel.{freshChannel}
+use Rattle.ips_channel.specs.Channel.{fresh_channel}
 use Rattle.ips_channel.proofs.state.fresh.Statement.{statement}
 use Rattle.ips_channel.proofs.state.fresh.Tie as tie
 
 returns : tie.Need-returns
-unfolding freshChannel
+unfolding fresh_channel
 returns c = rw (c.before.first.ensures, c.empty.ensures)
 
 pub fresh-spec : {M : Type 1} → statement M

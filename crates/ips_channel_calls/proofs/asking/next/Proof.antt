@@ -4,8 +4,8 @@ use mathlib.Core.Path.{◌≡◌, sym, ◌∙◌}
 use borrow.Author.Rules.{rules}
 use borrow.Author.Tests.{not-true, not-false}
 use Rattle.meaning.specs.Statuses.{operational}
-use Rattle.flow.specs.Counting.{mayGo}
-use Rattle.ips_channel_calls.proofs.NextWays.{asks-early, asks_nothing, asks-not-operational, asks-shut, asks-no-room, asks-sent}
+use Rattle.flow.specs.Counting.{may_go}
+use Rattle.ips_channel_calls.proofs.NextWays.{asks_early, asks_nothing, asks_not_operational, asks_shut, asks_no_room, asks_sent}
 use Rattle.ips_channel_calls.proofs.asking.next.Statement.{statement}
 use Rattle.ips_channel_calls.proofs.asking.next.Tie as tie
 
@@ -17,11 +17,11 @@ is-operational : (c : tie.Else3) → operational (start c.before).args.datalink.
 is-operational c = sym c.before.before.is-operational.ensures ∙ not-false _ c.if3.false
 
 may-go : (c : tie.Else4) → let waiting = c.before.before.before.before in let channel = (start waiting).args.channel in
-    mayGo channel.flow channel.sequence waiting.before.before.before.first-length.result ≡ true
+    may_go channel.flow channel.sequence waiting.before.before.before.first-length.result ≡ true
 may-go c = sym c.before.may-go.ensures ∙ not-false _ c.if4.false
 
 returns : tie.Need-returns
-returns c = asks-early _ _ _ _ _ c.before.if1.true _ c.refused.ensures
+returns c = asks_early _ _ _ _ _ c.before.if1.true _ c.refused.ensures
 
 returns-2 : tie.Need-returns-2
 returns-2 c =
@@ -37,7 +37,7 @@ returns-3 c =
     let tested = left.before.before in
     let waiting = tested.before in
     let judged = waiting.before.before.before in
-    asks-not-operational _ _ _ _ _ judged.before.before.if1.false _ judged.first-length.ensures waiting.if2.false
+    asks_not_operational _ _ _ _ _ judged.before.before.if1.false _ judged.first-length.ensures waiting.if2.false
     (sym waiting.before.is-operational.ensures ∙ not-true _ tested.if3.true) _ _ left.expired2.ensures
 
 returns-4 : tie.Need-returns-4
@@ -47,7 +47,7 @@ returns-4 c =
     let up = tested.before.before.before in
     let waiting = up.before in
     let judged = waiting.before.before.before in
-    asks-shut _ _ _ _ _ judged.before.before.if1.false _ judged.first-length.ensures waiting.if2.false (is-operational up)
+    asks_shut _ _ _ _ _ judged.before.before.if1.false _ judged.first-length.ensures waiting.if2.false (is-operational up)
     (sym tested.before.may-go.ensures ∙ not-true _ tested.if4.true) _ _ left.expired3.ensures
 
 returns-5 : tie.Need-returns-5
@@ -59,7 +59,7 @@ returns-5 c =
     let up = fits.before.before.before in
     let waiting = up.before in
     let judged = waiting.before.before.before in
-    asks-no-room _ _ _ _ _ judged.before.before.if1.false _ judged.first-length.ensures waiting.if2.false (is-operational up) (may-go fits)
+    asks_no_room _ _ _ _ _ judged.before.before.if1.false _ judged.first-length.ensures waiting.if2.false (is-operational up) (may-go fits)
     _ carried.before.counted.ensures _ carried.carried.ensures _ _ written.write-first.ensures _ told.enum_told.given.1 _ c.refused2.ensures
 
 returns-6 : tie.Need-returns-6
@@ -72,7 +72,7 @@ returns-6 c =
     let up = fits.before.before.before in
     let waiting = up.before in
     let judged = waiting.before.before.before in
-    asks-sent _ _ _ _ _ judged.before.before.if1.false _ judged.first-length.ensures waiting.if2.false (is-operational up) (may-go fits)
+    asks_sent _ _ _ _ _ judged.before.before.if1.false _ judged.first-length.ensures waiting.if2.false (is-operational up) (may-go fits)
     _ carried.before.counted.ensures _ carried.carried.ensures _ _ written.write-first.ensures _ wrote.length.given.1 _ _ left.sent.ensures
 
 pub next-spec : {M : Type 1} → statement M

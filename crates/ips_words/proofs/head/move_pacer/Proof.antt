@@ -3,12 +3,12 @@ use mathlib.Core.Path.{refl}
 use native.Mathlib.Omega.{arith}
 use borrow.Author.Rules.{rules}
 use lib.ListN.{length-set}
-use Rattle.ips_words.specs.Words.{putPacer}
+use Rattle.ips_words.specs.Words.{put_pacer}
 use Rattle.ips_words.proofs.head.move_pacer.Statement.{statement}
 use Rattle.ips_words.proofs.head.move_pacer.Tie as tie
 
 returns : tie.Need-returns
-unfolding putPacer
+unfolding put_pacer
 returns c = refl
 
 pub move-pacer-spec : {M : Type 1} → statement M

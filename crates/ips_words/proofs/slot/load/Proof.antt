@@ -1,21 +1,21 @@
 -- `slot::load` meets its contract. Assumes nothing.
 use borrow.Author.Rules.{rules}
-use Rattle.ips_words.specs.Words.{channelIn}
-use Rattle.ips_words.proofs.Slots.{spelled-facts}
+use Rattle.ips_words.specs.Words.{channel_in}
+use Rattle.ips_words.proofs.Slots.{spelled_facts}
 use Rattle.ips_words.proofs.slot.load.Statement.{statement}
 use Rattle.ips_words.proofs.slot.load.Tie as tie
 
 status-of-requires : tie.Need-status-of-requires
-status-of-requires c κs = (spelled-facts _ c.before.before.before.before.before.before.before.before.requires.says).status
+status-of-requires c κs = (spelled_facts _ c.before.before.before.before.before.before.before.before.requires.says).status
 
 flow-of-requires : tie.Need-flow-of-requires
-flow-of-requires c κs = (spelled-facts _ c.before.before.before.before.before.before.before.before.before.before.before.requires.says).window
+flow-of-requires c κs = (spelled_facts _ c.before.before.before.before.before.before.before.before.before.before.before.requires.says).window
 
 count-requires : tie.Need-count-requires
-count-requires c κs = (spelled-facts _ c.before.before.before.before.before.before.before.before.before.before.before.before.before.before.requires.says).sequence
+count-requires c κs = (spelled_facts _ c.before.before.before.before.before.before.before.before.before.before.before.before.before.before.requires.says).sequence
 
 returns : tie.Need-returns
-unfolding channelIn
+unfolding channel_in
 returns c =
     let counted = c.before in
     let loaded = counted.before.before in
@@ -23,7 +23,7 @@ returns c =
     let status = flow.before.before.before in
     let narrowed = status.before.before.before in
     let first = narrowed.before.before.before in
-    rw (counted.count.ensures, loaded.load.ensures, flow.flow-of.ensures, status.status-of.ensures, narrowed.narrow.ensures, first.byte.ensures)
+    rw (counted.count.ensures, loaded.load.ensures, flow.flow_of_lem.ensures, status.status_of_lem.ensures, narrowed.narrow.ensures, first.byte.ensures)
 
 pub load_spec : {M : Type 1} → statement M
 load_spec =

@@ -2,7 +2,7 @@
 use native.Mathlib.Omega.{arith}
 use borrow.Author.Rules.{rules}
 use lib.ListN.{length-set}
-use Rattle.ips_words.proofs.Slots.{fixed-saved}
+use Rattle.ips_words.proofs.Slots.{fixed_saved}
 use Rattle.ips_words.proofs.slot.save_fixed.Statement.{statement}
 use Rattle.ips_words.proofs.slot.save_fixed.Tie as tie
 
@@ -14,8 +14,8 @@ returns c =
     let tag = value.before in
     let size = tag.before in
     let start = size.before.before.before.before.before.before in
-    fixed-saved start.args.part.now start.args.channel _ _ _ _ _ _ (omega (arith, start.requires)) size.wide.ensures tag.status-tag.ensures
-    value.status-value.ensures flow.flow-tag.ensures window.flow-window.ensures c.wide2.ensures
+    fixed_saved start.args.part.now start.args.channel _ _ _ _ _ _ (omega (arith, start.requires)) size.wide.ensures tag.status_tag_lem.ensures
+    value.status-value.ensures flow.flow_tag_lem.ensures window.flow_window_lem.ensures c.wide2.ensures
 
 pub save-fixed-spec : {M : Type 1} → statement M
 save-fixed-spec =

@@ -1,16 +1,16 @@
 -- `slot::status_of` meets its contract. Assumes nothing.
 use borrow.Author.Rules.{rules}
 use borrow.Author.Tests.{ne_eqb}
-use Rattle.ips_words.specs.Words.{ABSENT, statusOf}
+use Rattle.ips_words.specs.Words.{ABSENT, status_of}
 use Rattle.ips_words.proofs.slot.status_of.Statement.{statement}
 use Rattle.ips_words.proofs.slot.status_of.Tie as tie
 
 returns : tie.Need-returns
-unfolding statusOf
+unfolding status_of
 returns c = rw c.if1.true
 
 returns-2 : tie.Need-returns-2
-unfolding statusOf
+unfolding status_of
 returns-2 c = rw (ne_eqb _ ABSENT c.before.if1.false, c.byte.ensures)
 
 pub status-of-spec : {M : Type 1} → statement M

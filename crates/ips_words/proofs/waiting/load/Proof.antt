@@ -2,7 +2,7 @@
 use mathlib.Core.Path.{refl}
 use Prim.Native.Nat.{◌-◌}
 use borrow.Author.Rules.{rules}
-use Rattle.ips_words.proofs.Entries.{Loading, load-start, load-more, load-end}
+use Rattle.ips_words.proofs.Entries.{Loading, load_start, load_more, load_end}
 use Rattle.ips_words.proofs.waiting.load.Statement.{statement}
 use Rattle.ips_words.proofs.waiting.load.Tie as tie
 
@@ -13,15 +13,15 @@ abbrev decreases-loop : tie.decreases-loop
 decreases-loop part left₀ count at₀ from₀ left at from = count - at
 
 loop-holds : tie.Need-loop-init invariant-loop decreases-loop
-loop-holds c = load-start _ _ _ c.before.before.empty.ensures
+loop-holds c = load_start _ _ _ c.before.before.empty.ensures
 
 loop-again : tie.Need-loop-preserved invariant-loop decreases-loop
 loop-again c =
     let turn = c.before.before.before in
-    load-more _ _ _ _ _ _ _ turn.before.loop.invariant turn.loop-test.true c.before.narrow2.ensures refl
+    load_more _ _ _ _ _ _ _ turn.before.loop.invariant turn.loop-test.true c.before.narrow2.ensures refl
 
 returns : tie.Need-returns invariant-loop decreases-loop
-returns c = load-end _ _ _ _ _ c.before.loop.invariant c.loop-test.false c.before.before.narrow.ensures
+returns c = load_end _ _ _ _ _ c.before.loop.invariant c.loop-test.false c.before.before.narrow.ensures
 
 pub load_spec : {M : Type 1} → statement M
 load_spec =

@@ -4,9 +4,9 @@ use Prim.Native.Nat.{◌-◌}
 use native.Mathlib.Omega.{arith}
 use borrow.Author.Rules.{rules}
 use lib.ListN.{length, length-set}
-use Rattle.facts.proofs.Lists.{length-mapped}
+use Rattle.facts.proofs.Lists.{length_mapped}
 use Rattle.quantity.specs.Limits.{MOST-WAITING}
-use Rattle.ips_words.proofs.Entries.{Saving, save-start, save-more, save-end}
+use Rattle.ips_words.proofs.Entries.{Saving, save_start, save_more, save_end}
 use Rattle.ips_words.proofs.waiting.save.Statement.{statement}
 use Rattle.ips_words.proofs.waiting.save.Tie as tie
 
@@ -17,10 +17,10 @@ abbrev decreases-loop : tie.decreases-loop
 decreases-loop part₀ queue at₀ from₀ part at from = MOST-WAITING - at
 
 places : (c : tie.Start invariant-loop decreases-loop) → length c.args.t2.entries ≡ MOST-WAITING
-places c = search (length-mapped, rules)
+places c = search (length_mapped, rules)
 
 loop-holds : tie.Need-loop-init invariant-loop decreases-loop
-loop-holds c = save-start _ _ c.before.requires
+loop-holds c = save_start _ _ c.before.requires
 
 slice-write-part-2 : tie.Need-slice-write-part-2 invariant-loop decreases-loop
 slice-write-part-2 c = simp length-set (omega arith)
@@ -28,10 +28,10 @@ slice-write-part-2 c = simp length-set (omega arith)
 loop-again : tie.Need-loop-preserved invariant-loop decreases-loop
 loop-again c =
     let turn = c.before.before.before in
-    save-more _ _ _ _ _ _ (places turn.before.before.before) turn.before.loop.invariant turn.loop-test.true c.wide.ensures
+    save_more _ _ _ _ _ _ (places turn.before.before.before) turn.before.loop.invariant turn.loop-test.true c.wide.ensures
 
 returns : tie.Need-returns invariant-loop decreases-loop
-returns c = save-end _ _ _ _ _ (places c.before.before.before) c.before.loop.invariant c.loop-test.false
+returns c = save_end _ _ _ _ _ (places c.before.before.before) c.before.loop.invariant c.loop-test.false
 
 pub save-spec : {M : Type 1} → statement M
 save-spec =

@@ -4,7 +4,7 @@ use Prim.Native.Nat.{◌+◌, ◌-◌}
 use native.Mathlib.Omega.{arith}
 use borrow.Author.Rules.{rules}
 use borrow.Author.Tests.{not-true, not-false}
-use Rattle.ips_words_start.proofs.Judging.{Judging, judge-start, judge-most, judge-on, judge-end, id-small, out-unfit, out-twice, out_none}
+use Rattle.ips_words_start.proofs.Judging.{Judging, judge_start, judge_most, judge_on, judge_end, id_small, out_unfit, out_twice, out_none}
 use Rattle.ips_words_start.proofs.judge.walk.Statement.{statement}
 use Rattle.ips_words_start.proofs.judge.walk.Tie as tie
 
@@ -15,7 +15,7 @@ abbrev decreases-loop : tie.decreases-loop
 decreases-loop configuration count seen₀ total₀ at₀ from₀ seen total at from = count - at
 
 loop-holds : tie.Need-loop-init invariant-loop decreases-loop
-loop-holds c = judge-start _ _
+loop-holds c = judge_start _ _
 
 returns : tie.Need-returns invariant-loop decreases-loop
 returns c =
@@ -24,7 +24,7 @@ returns c =
     let id = size.before.before in
     let turn = id.before.before in
     c.outside.ensures
-    ∙ out-unfit _ _ _ _ _ _ turn.before.loop.invariant turn.loop-test.true _ _ _ _ id.narrow.ensures refl refl size.narrow2.ensures (sym tested.start_fits.ensures ∙ not-true _ c.before.if1.true)
+    ∙ out_unfit _ _ _ _ _ _ turn.before.loop.invariant turn.loop-test.true _ _ _ _ id.narrow.ensures refl refl size.narrow2.ensures (sym tested.start_fits.ensures ∙ not-true _ c.before.if1.true)
 
 array-read-if2 : tie.Need-array-read-if2 invariant-loop decreases-loop
 array-read-if2 c =
@@ -32,7 +32,7 @@ array-read-if2 c =
     let size = tested.before.before.before in
     let id = size.before.before in
     let turn = id.before.before in
-    id-small _ _ _ _ _ _ turn.before.loop.invariant turn.loop-test.true _ _ _ _ id.narrow.ensures refl refl size.narrow2.ensures (sym tested.start_fits.ensures ∙ not-false _ c.if1.false)
+    id_small _ _ _ _ _ _ turn.before.loop.invariant turn.loop-test.true _ _ _ _ id.narrow.ensures refl refl size.narrow2.ensures (sym tested.start_fits.ensures ∙ not-false _ c.if1.false)
 
 returns-2 : tie.Need-returns-2 invariant-loop decreases-loop
 returns-2 c =
@@ -41,7 +41,7 @@ returns-2 c =
     let id = size.before.before in
     let turn = id.before.before in
     c.outside2.ensures
-    ∙ out-twice _ _ _ _ _ _ turn.before.loop.invariant turn.loop-test.true _ _ _ _ id.narrow.ensures refl refl size.narrow2.ensures (sym tested.start_fits.ensures ∙ not-false _ c.before.before.if1.false) c.before.if2.true
+    ∙ out_twice _ _ _ _ _ _ turn.before.loop.invariant turn.loop-test.true _ _ _ _ id.narrow.ensures refl refl size.narrow2.ensures (sym tested.start_fits.ensures ∙ not-false _ c.before.before.if1.false) c.before.if2.true
 
 array-write-seen : tie.Need-array-write-seen invariant-loop decreases-loop
 array-write-seen c = array-read-if2 c.before
@@ -52,19 +52,19 @@ loop-again c =
     let size = tested.before.before.before in
     let id = size.before.before in
     let turn = id.before.before in
-    judge-on _ _ _ _ _ _ turn.before.loop.invariant turn.loop-test.true _ _ _ _ id.narrow.ensures refl refl size.narrow2.ensures (sym tested.start_fits.ensures ∙ not-false _ c.before.if1.false) c.if2.false
+    judge_on _ _ _ _ _ _ turn.before.loop.invariant turn.loop-test.true _ _ _ _ id.narrow.ensures refl refl size.narrow2.ensures (sym tested.start_fits.ensures ∙ not-false _ c.before.if1.false) c.if2.false
 
 add_total : tie.Need-overflow-add-total invariant-loop decreases-loop
 add_total c =
     let at = c.before.before.before.before.before.before.before.before.before.before.loop.at in
     let next = loop-again c in
-    omega (arith, judge-most _ _ _ _ (at + 1) _ next, next.inside)
+    omega (arith, judge_most _ _ _ _ (at + 1) _ next, next.inside)
 
 returns-3 : tie.Need-returns-3 invariant-loop decreases-loop
 returns-3 c = c.outside3.ensures ∙ out_none _ _ _ _ _ _ c.before.before.before.loop.invariant c.before.before.loop-test.false (not-true _ c.before.if3.true)
 
 returns-4 : tie.Need-returns-4 invariant-loop decreases-loop
-returns-4 c = judge-end _ _ _ _ _ _ c.before.before.loop.invariant c.before.loop-test.false (not-false _ c.if3.false)
+returns-4 c = judge_end _ _ _ _ _ _ c.before.before.loop.invariant c.before.loop-test.false (not-false _ c.if3.false)
 
 pub walk-spec : {M : Type 1} → statement M
 walk-spec =

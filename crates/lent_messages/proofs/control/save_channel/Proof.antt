@@ -2,7 +2,7 @@
 use borrow.Author.Rules.{rules}
 use native.Mathlib.Omega.{arith}
 use lib.ListN.{length-set}
-use Rattle.lent_messages.proofs.Saving.{channel-set}
+use Rattle.lent_messages.proofs.Saving.{channel_set}
 use Rattle.lent_messages.proofs.control.save_channel.Statement.{statement}
 use Rattle.lent_messages.proofs.control.save_channel.Tie as tie
 
@@ -11,7 +11,7 @@ returns c =
     let counted = c.before in
     let state = counted.before in
     let start = state.before.before in
-    rw (c.window.ensures, counted.sequence.ensures, state.status.ensures) (channel-set start.args.words.now start.args.from _ _ _ _ _ _ (omega arith))
+    rw (c.window.ensures, counted.sequence.ensures, state.status.ensures) (channel_set start.args.words.now start.args.from _ _ _ _ _ _ (omega arith))
 
 pub save-channel-spec : {M : Type 1} → statement M
 save-channel-spec =

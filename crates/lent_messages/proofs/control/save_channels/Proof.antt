@@ -6,13 +6,13 @@ use native.Mathlib.Omega.{arith}
 use lib.ListN.{take}
 use Rattle.quantity.specs.Limits.{CHANNEL-IDS}
 use Rattle.lent_messages.specs.Layout.{CONTROL-HEAD}
-use Rattle.lent_messages.specs.Words.{wordsAt}
+use Rattle.lent_messages.specs.Words.{words_at}
 use Rattle.lent_messages.proofs.Saving.{Going, going_start, going_on, going_end}
 use Rattle.lent_messages.proofs.control.save_channels.Statement.{statement}
 use Rattle.lent_messages.proofs.control.save_channels.Tie as tie
 
 abbrev invariant-loop : tie.invariant-loop
-invariant-loop words₀ statuses sequences windows from₀ id₀ words from id = Going (wordsAt statuses sequences windows) (take CONTROL-HEAD words₀) words from id
+invariant-loop words₀ statuses sequences windows from₀ id₀ words from id = Going (words_at statuses sequences windows) (take CONTROL-HEAD words₀) words from id
 
 abbrev decreases-loop : tie.decreases-loop
 decreases-loop words₀ statuses sequences windows from₀ id₀ words from id = CHANNEL-IDS - id
@@ -26,7 +26,7 @@ save-channel-requires c κs =
     omega (arith, turn.loop.invariant.place, turn.loop.invariant.long, turn.loop.invariant.most)
 
 loop-again : tie.Need-loop-preserved invariant-loop decreases-loop
-unfolding wordsAt
+unfolding words_at
 loop-again c =
     let saved = c.before.before in
     let turn = saved.before.before.before.before.before in

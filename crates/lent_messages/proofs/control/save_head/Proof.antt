@@ -2,7 +2,7 @@
 use borrow.Author.Rules.{rules}
 use native.Mathlib.Omega.{arith}
 use lib.ListN.{length-set}
-use Rattle.lent_messages.proofs.Saving.{head-set}
+use Rattle.lent_messages.proofs.Saving.{head_set}
 use Rattle.lent_messages.proofs.control.save_head.Statement.{statement}
 use Rattle.lent_messages.proofs.control.save_head.Tie as tie
 
@@ -10,7 +10,7 @@ returns : tie.Need-returns
 returns c =
     let named = c.before in
     let link = named.before in
-    rw (c.context.ensures, named.instance.ensures, link.datalink.ensures) (head-set link.before.before.args.words.now _ _ _ _ _ _ _ _ (omega arith))
+    rw (c.context.ensures, named.instance.ensures, link.datalink.ensures) (head_set link.before.before.args.words.now _ _ _ _ _ _ _ _ (omega arith))
 
 pub save-head-spec : {M : Type 1} → statement M
 save-head-spec =

@@ -2,19 +2,19 @@
 use borrow.Author.Rules.{rules}
 use native.Mathlib.Omega.{arith}
 use lib.ListN.{length-set}
-use Rattle.lent_messages.specs.Words.{dataWords}
-use Rattle.lent_messages.proofs.Saving.{data-set}
+use Rattle.lent_messages.specs.Words.{data_words}
+use Rattle.lent_messages.proofs.Saving.{data_set}
 use Rattle.lent_messages.proofs.data.save.Statement.{statement}
 use Rattle.lent_messages.proofs.data.save.Tie as tie
 
 returns : tie.Need-returns
-unfolding dataWords
+unfolding data_words
 returns c =
     let named = c.before in
     let counted = named.before in
     let link = counted.before in
     let start = link.before.before in
-    rw (c.expiration.ensures, named.channel.ensures, counted.counted.ensures, link.datalink.ensures) (data-set start.args.words.now _ _ _ _ _ _ _ _ _ _ _ start.requires)
+    rw (c.expiration.ensures, named.channel.ensures, counted.counted.ensures, link.datalink.ensures) (data_set start.args.words.now _ _ _ _ _ _ _ _ _ _ _ start.requires)
 
 pub save-spec : {M : Type 1} → statement M
 save-spec =

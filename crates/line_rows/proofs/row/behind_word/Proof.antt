@@ -1,5 +1,5 @@
 -- `row::behind_word` meets its contract. Assumes nothing.
-use Rattle.line_rows.proofs.Laws.{past-short, past-from}
+use Rattle.line_rows.proofs.Laws.{past_short, past_from}
 use borrow.Author.Rules.{rules}
 use Rattle.line_rows.proofs.row.behind_word.Statement.{statement}
 use Rattle.line_rows.proofs.row.behind_word.Tie as tie
@@ -17,10 +17,10 @@ beyond-requires : tie.Need-beyond-requires
 beyond-requires c κs = search rules
 
 sub-result : tie.Need-overflow-sub-result
-sub-result c = let at = c.before.before.before in past-short at.args.line.now at.args.at at.requires c.beyond.ensures
+sub-result c = let at = c.before.before.before in past_short at.args.line.now at.args.at at.requires c.beyond.ensures
 
 returns : tie.Need-returns
-returns c = let at = c.before.before.before in past-from at.args.line.now at.args.at at.requires c.beyond.ensures
+returns c = let at = c.before.before.before in past_from at.args.line.now at.args.at at.requires c.beyond.ensures
 
 pub behind-word-spec : {M : Type 1} → statement M
 behind-word-spec =

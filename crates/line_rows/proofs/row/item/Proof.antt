@@ -2,18 +2,18 @@
 use borrow.Author.Rules.{rules}
 use native.Mathlib.Omega.{arith}
 use borrow.Author.Tests.{not-true, not-false}
-use Rattle.line_rows.proofs.Laws.{advance-idle, advance-full, advance-bad, advance-fits, advance-value}
+use Rattle.line_rows.proofs.Laws.{advance_idle, advance_full, advance_bad, advance_fits, advance_value}
 use Rattle.line_rows.proofs.row.item.Statement.{statement}
 use Rattle.line_rows.proofs.row.item.Tie as tie
 
 returns : tie.Need-returns
-returns c = advance-idle c.before.before.before.before.before.args.line.now c.before.before.before.before.before.args.s c.before.before.before.before.before.args.numbers.now c.before.before.before.before.before.args.bytes.now c.before.before.before.before.before.requires c.before.before.before.before.before.args.a c.before.before.before.before.before.args.b (not-true _ c.if1.true)
+returns c = advance_idle c.before.before.before.before.before.args.line.now c.before.before.before.before.before.args.s c.before.before.before.before.before.args.numbers.now c.before.before.before.before.before.args.bytes.now c.before.before.before.before.before.requires c.before.before.before.before.before.args.a c.before.before.before.before.before.args.b (not-true _ c.if1.true)
 
 stop-requires : tie.Need-stop-requires
 stop-requires c κs = search rules
 
 returns-2 : tie.Need-returns-2
-returns-2 c = advance-full c.before.before.before.before.before.before.before.args.line.now c.before.before.before.before.before.before.before.args.s c.before.before.before.before.before.before.before.args.numbers.now c.before.before.before.before.before.before.before.args.bytes.now c.before.before.before.before.before.before.before.requires c.before.before.before.before.before.before.before.args.a c.before.before.before.before.before.before.before.args.b (not-false _ c.before.before.if1.false) c.before.if2.true c.stop.ensures
+returns-2 c = advance_full c.before.before.before.before.before.before.before.args.line.now c.before.before.before.before.before.before.before.args.s c.before.before.before.before.before.before.before.args.numbers.now c.before.before.before.before.before.before.before.args.bytes.now c.before.before.before.before.before.before.before.requires c.before.before.before.before.before.before.before.args.a c.before.before.before.before.before.before.before.args.b (not-false _ c.before.before.if1.false) c.before.if2.true c.stop.ensures
 
 sub_word : tie.Need-overflow-sub-word
 sub_word c = search rules
@@ -52,7 +52,7 @@ same_length : tie.Need-same-length
 same_length c = search rules
 
 returns-3 : tie.Need-returns-3
-returns-3 c = advance-bad c.before.before.before.before.before.before.before.before.before.before.before.before.before.before.before.args.line.now c.before.before.before.before.before.before.before.before.before.before.before.before.before.before.before.args.s c.before.before.before.before.before.before.before.before.before.before.before.before.before.before.before.args.numbers.now c.before.before.before.before.before.before.before.before.before.before.before.before.before.before.before.args.bytes.now c.before.before.before.before.before.before.before.before.before.before.before.before.before.before.before.requires c.before.before.before.before.before.before.before.before.before.before.before.before.before.before.before.args.a c.before.before.before.before.before.before.before.before.before.before.before.before.before.before.before.args.b (not-false _ c.before.before.before.before.before.before.before.before.before.before.if1.false) c.before.before.before.before.before.before.before.before.before.if2.false c.before.before.before.before.before.before.before.word.ensures c.before.before.before.before.before.value.ensures c.before.enum_told.given.1 c.stop2.ensures
+returns-3 c = advance_bad c.before.before.before.before.before.before.before.before.before.before.before.before.before.before.before.args.line.now c.before.before.before.before.before.before.before.before.before.before.before.before.before.before.before.args.s c.before.before.before.before.before.before.before.before.before.before.before.before.before.before.before.args.numbers.now c.before.before.before.before.before.before.before.before.before.before.before.before.before.before.before.args.bytes.now c.before.before.before.before.before.before.before.before.before.before.before.before.before.before.before.requires c.before.before.before.before.before.before.before.before.before.before.before.before.before.before.before.args.a c.before.before.before.before.before.before.before.before.before.before.before.before.before.before.before.args.b (not-false _ c.before.before.before.before.before.before.before.before.before.before.if1.false) c.before.before.before.before.before.before.before.before.before.if2.false c.before.before.before.before.before.before.before.word.ensures c.before.before.before.before.before.value.ensures c.before.enum_told.given.1 c.stop2.ensures
 
 mul-numbers : tie.Need-overflow-mul-numbers
 mul-numbers c = search rules
@@ -70,7 +70,7 @@ length-laid-requires : tie.Need-length-laid-requires
 length-laid-requires c κs = search rules
 
 add-t24 : tie.Need-overflow-add-t24
-add-t24 c = omega (arith, advance-fits c.before.before.before.before.before.before.before.before.before.before.before.before.before.before.before.before.before.args.line.now c.before.before.before.before.before.before.before.before.before.before.before.before.before.before.before.before.before.args.s c.before.before.before.before.before.before.before.before.before.before.before.before.before.before.before.before.before.args.numbers.now c.before.before.before.before.before.before.before.before.before.before.before.before.before.before.before.before.before.args.bytes.now c.before.before.before.before.before.before.before.before.before.before.before.before.before.before.before.before.before.requires c.before.before.before.before.before.before.before.before.before.before.before.before.before.before.before.before.before.args.a c.before.before.before.before.before.before.before.before.before.before.before.before.before.before.before.before.before.args.b (not-false _ c.before.before.before.before.before.before.before.before.before.before.before.before.if1.false) c.before.before.before.before.before.before.before.before.before.before.before.if2.false c.before.before.before.before.before.before.before.before.before.word.ensures c.before.before.before.before.before.before.before.value.ensures c.before.before.before.v.given.1 c.length-laid.ensures)
+add-t24 c = omega (arith, advance_fits c.before.before.before.before.before.before.before.before.before.before.before.before.before.before.before.before.before.args.line.now c.before.before.before.before.before.before.before.before.before.before.before.before.before.before.before.before.before.args.s c.before.before.before.before.before.before.before.before.before.before.before.before.before.before.before.before.before.args.numbers.now c.before.before.before.before.before.before.before.before.before.before.before.before.before.before.before.before.before.args.bytes.now c.before.before.before.before.before.before.before.before.before.before.before.before.before.before.before.before.before.requires c.before.before.before.before.before.before.before.before.before.before.before.before.before.before.before.before.before.args.a c.before.before.before.before.before.before.before.before.before.before.before.before.before.before.before.before.before.args.b (not-false _ c.before.before.before.before.before.before.before.before.before.before.before.before.if1.false) c.before.before.before.before.before.before.before.before.before.before.before.if2.false c.before.before.before.before.before.before.before.before.before.word.ensures c.before.before.before.before.before.before.before.value.ensures c.before.before.before.v.given.1 c.length-laid.ensures)
 
 same-length-2 : tie.Need-same-length-2
 same-length-2 c = search rules
@@ -79,7 +79,7 @@ same-length-3 : tie.Need-same-length-3
 same-length-3 c = search rules
 
 returns-4 : tie.Need-returns-4
-returns-4 c = advance-value c.before.before.before.before.before.before.before.before.before.before.before.before.before.before.before.before.before.args.line.now c.before.before.before.before.before.before.before.before.before.before.before.before.before.before.before.before.before.args.s c.before.before.before.before.before.before.before.before.before.before.before.before.before.before.before.before.before.args.numbers.now c.before.before.before.before.before.before.before.before.before.before.before.before.before.before.before.before.before.args.bytes.now c.before.before.before.before.before.before.before.before.before.before.before.before.before.before.before.before.before.requires c.before.before.before.before.before.before.before.before.before.before.before.before.before.before.before.before.before.args.a c.before.before.before.before.before.before.before.before.before.before.before.before.before.before.before.before.before.args.b (not-false _ c.before.before.before.before.before.before.before.before.before.before.before.before.if1.false) c.before.before.before.before.before.before.before.before.before.before.before.if2.false c.before.before.before.before.before.before.before.before.before.word.ensures c.before.before.before.before.before.before.before.value.ensures c.before.before.before.v.given.1 c.length-laid.ensures c.before.behind-item.ensures
+returns-4 c = advance_value c.before.before.before.before.before.before.before.before.before.before.before.before.before.before.before.before.before.args.line.now c.before.before.before.before.before.before.before.before.before.before.before.before.before.before.before.before.before.args.s c.before.before.before.before.before.before.before.before.before.before.before.before.before.before.before.before.before.args.numbers.now c.before.before.before.before.before.before.before.before.before.before.before.before.before.before.before.before.before.args.bytes.now c.before.before.before.before.before.before.before.before.before.before.before.before.before.before.before.before.before.requires c.before.before.before.before.before.before.before.before.before.before.before.before.before.before.before.before.before.args.a c.before.before.before.before.before.before.before.before.before.before.before.before.before.before.before.before.before.args.b (not-false _ c.before.before.before.before.before.before.before.before.before.before.before.before.if1.false) c.before.before.before.before.before.before.before.before.before.before.before.if2.false c.before.before.before.before.before.before.before.before.before.word.ensures c.before.before.before.before.before.before.before.value.ensures c.before.before.before.v.given.1 c.length-laid.ensures c.before.behind-item.ensures
 
 pub item-spec : {M : Type 1} → statement M
 item-spec =

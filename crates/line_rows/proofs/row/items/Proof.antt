@@ -3,7 +3,7 @@ use borrow.Author.Rules.{rules}
 use native.Mathlib.Omega.{arith}
 use Prim.Native.Nat.{◌-◌}
 use lib.ListN.{length}
-use Rattle.line_rows.proofs.Laws.{ItemsSoFar, items-none, items-on, items-end}
+use Rattle.line_rows.proofs.Laws.{ItemsSoFar, items_none, items_on, items_end}
 use Rattle.line_rows.proofs.row.items.Statement.{statement}
 use Rattle.line_rows.proofs.row.items.Tie as tie
 
@@ -14,7 +14,7 @@ abbrev decreases-loop : tie.decreases-loop
 decreases-loop line row numbers₀ bytes₀ r₀ i₀ numbers bytes r i = length row - i
 
 loop-holds : tie.Need-loop-init invariant-loop decreases-loop
-loop-holds c = items-none c.before.before.before.before.requires
+loop-holds c = items_none c.before.before.before.before.requires
 
 sub-loop : tie.Need-overflow-sub-loop invariant-loop decreases-loop
 sub-loop c = omega arith
@@ -44,16 +44,16 @@ loop-less : tie.Need-loop-smaller invariant-loop decreases-loop
 loop-less c = omega arith
 
 loop-again : tie.Need-loop-preserved invariant-loop decreases-loop
-loop-again c = items-on c.before.before.before.before.before.before.before.before.before.before.loop.invariant (omega arith) c.before.before.before.before.item.ensures
+loop-again c = items_on c.before.before.before.before.before.before.before.before.before.before.loop.invariant (omega arith) c.before.before.before.before.item.ensures
 
 same_length : tie.Need-same-length invariant-loop decreases-loop
-same_length c = c.before.loop.invariant.goes.size-numbers
+same_length c = c.before.loop.invariant.goes.size_numbers
 
 same-length-2 : tie.Need-same-length-2 invariant-loop decreases-loop
-same-length-2 c = c.before.loop.invariant.goes.size-bytes
+same-length-2 c = c.before.loop.invariant.goes.size_bytes
 
 returns : tie.Need-returns invariant-loop decreases-loop
-returns c = items-end c.before.loop.invariant (omega arith)
+returns c = items_end c.before.loop.invariant (omega arith)
 
 pub items-spec : {M : Type 1} → statement M
 items-spec =

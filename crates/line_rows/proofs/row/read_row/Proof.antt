@@ -3,7 +3,7 @@ use borrow.Author.Rules.{rules}
 use native.Mathlib.Omega.{arith}
 use Prim.Native.Nat.{◌-◌}
 use lib.ListN.{length}
-use Rattle.line_rows.proofs.Laws.{RowSoFar, at_start, row-none, row_on, row-end, reads_all}
+use Rattle.line_rows.proofs.Laws.{RowSoFar, at_start, row_none, row_on, row_end, reads_all}
 use Rattle.line_rows.proofs.row.read_row.Statement.{statement}
 use Rattle.line_rows.proofs.row.read_row.Tie as tie
 
@@ -14,7 +14,7 @@ abbrev decreases-loop : tie.decreases-loop
 decreases-loop line row numbers₀ bytes₀ r₀ skip₀ i₀ numbers bytes r skip i = length row - i
 
 loop-holds : tie.Need-loop-init invariant-loop decreases-loop
-loop-holds c = row-none _ _ _ _
+loop-holds c = row_none _ _ _ _
 
 sub-loop : tie.Need-overflow-sub-loop invariant-loop decreases-loop
 sub-loop c = omega arith
@@ -65,13 +65,13 @@ all-said-requires : tie.Need-all-said-requires invariant-loop decreases-loop
 all-said-requires c κs = search rules
 
 same_length : tie.Need-same-length invariant-loop decreases-loop
-same_length c = c.before.before.loop.invariant.goes.size-numbers
+same_length c = c.before.before.loop.invariant.goes.size_numbers
 
 same-length-2 : tie.Need-same-length-2 invariant-loop decreases-loop
-same-length-2 c = c.before.before.loop.invariant.goes.size-bytes
+same-length-2 c = c.before.before.loop.invariant.goes.size_bytes
 
 returns : tie.Need-returns invariant-loop decreases-loop
-returns c = reads_all (row-end c.before.before.loop.invariant (omega arith)) c.all_said.ensures
+returns c = reads_all (row_end c.before.before.loop.invariant (omega arith)) c.all_said.ensures
 
 pub read-row-spec : {M : Type 1} → statement M
 read-row-spec =

@@ -4,7 +4,7 @@ use mathlib.Core.Path.{refl}
 use native.Mathlib.Omega.{arith}
 use Prim.Native.Nat.{◌-◌}
 use lib.ListN.{length}
-use Rattle.line_rows.proofs.Tables.{Seeks, seek_found, seek-on, seek-end}
+use Rattle.line_rows.proofs.Tables.{Seeks, seek_found, seek_on, seek_end}
 use Rattle.line_rows.proofs.table.find.Statement.{statement}
 use Rattle.line_rows.proofs.table.find.Tie as tie
 
@@ -51,10 +51,10 @@ loop-less : tie.Need-loop-smaller invariant-loop decreases-loop
 loop-less c = omega arith
 
 loop-again : tie.Need-loop-preserved invariant-loop decreases-loop
-loop-again c = seek-on c.before.before.before.before.before.before.loop.invariant (omega arith) c.before.before.named.ensures c.before.if1.false c.items_left.ensures
+loop-again c = seek_on c.before.before.before.before.before.before.loop.invariant (omega arith) c.before.before.named.ensures c.before.if1.false c.items_left.ensures
 
 returns-2 : tie.Need-returns-2 invariant-loop decreases-loop
-returns-2 c = seek-end c.before.loop.invariant (omega arith)
+returns-2 c = seek_end c.before.loop.invariant (omega arith)
 
 pub find_spec : {M : Type 1} → statement M
 find_spec =

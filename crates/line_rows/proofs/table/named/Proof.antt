@@ -1,12 +1,12 @@
 -- `table::named` meets its contract. Assumes nothing.
 use native.Mathlib.Omega.{arith}
-use Rattle.line_rows.proofs.Tables.{named-not, named_here}
+use Rattle.line_rows.proofs.Tables.{named_not, named_here}
 use borrow.Author.Rules.{rules}
 use Rattle.line_rows.proofs.table.named.Statement.{statement}
 use Rattle.line_rows.proofs.table.named.Tie as tie
 
 returns : tie.Need-returns
-returns c = named-not _ _ _ (omega arith)
+returns c = named_not _ _ _ (omega arith)
 
 spells-requires : tie.Need-spells-requires
 spells-requires c κs = search rules

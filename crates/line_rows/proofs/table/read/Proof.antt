@@ -1,5 +1,5 @@
 -- `table::read` meets its contract: the row of the first word reads the rest. Assumes nothing.
-use Rattle.line_rows.proofs.Tables.{reads-good, reads-bad}
+use Rattle.line_rows.proofs.Tables.{reads_good, reads_bad}
 use borrow.Author.Rules.{rules}
 use Rattle.line_rows.proofs.table.read.Statement.{statement}
 use Rattle.line_rows.proofs.table.read.Tie as tie
@@ -29,7 +29,7 @@ same-length-2 : tie.Need-same-length-2
 same-length-2 c = search rules
 
 returns : tie.Need-returns
-returns c = reads-good c.before.before.before.before.before.before.before.before.before.before.before.before.before.before.before.before.before.args.line.now c.before.before.before.before.before.before.before.before.before.before.before.before.head.ensures c.before.before.before.before.before.before.before.before.before.before.before.find.ensures c.before.before.before.before.before.before.before.before.before.row_at.ensures c.before.before.before.before.before.before.before.before.before.before.tail.ensures c.before.before.before.before.before.before.read-row.ensures c.before.if1.true c.key-at.ensures
+returns c = reads_good c.before.before.before.before.before.before.before.before.before.before.before.before.before.before.before.before.before.args.line.now c.before.before.before.before.before.before.before.before.before.before.before.before.head.ensures c.before.before.before.before.before.before.before.before.before.before.before.find.ensures c.before.before.before.before.before.before.before.before.before.row_at.ensures c.before.before.before.before.before.before.before.before.before.before.tail.ensures c.before.before.before.before.before.before.read-row.ensures c.before.if1.true c.key-at.ensures
 
 same-length-3 : tie.Need-same-length-3
 same-length-3 c = search rules
@@ -38,7 +38,7 @@ same-length-4 : tie.Need-same-length-4
 same-length-4 c = search rules
 
 returns-2 : tie.Need-returns-2
-returns-2 c = reads-bad c.before.before.before.before.before.before.before.before.before.before.before.before.before.before.before.before.args.line.now c.before.before.before.before.before.before.before.before.before.before.before.head.ensures c.before.before.before.before.before.before.before.before.before.before.find.ensures c.before.before.before.before.before.before.before.before.row_at.ensures c.before.before.before.before.before.before.before.before.before.tail.ensures c.before.before.before.before.before.read-row.ensures c.if1.false
+returns-2 c = reads_bad c.before.before.before.before.before.before.before.before.before.before.before.before.before.before.before.before.args.line.now c.before.before.before.before.before.before.before.before.before.before.before.head.ensures c.before.before.before.before.before.before.before.before.before.before.find.ensures c.before.before.before.before.before.before.before.before.row_at.ensures c.before.before.before.before.before.before.before.before.before.tail.ensures c.before.before.before.before.before.read-row.ensures c.if1.false
 
 pub read_spec : {M : Type 1} → statement M
 read_spec =

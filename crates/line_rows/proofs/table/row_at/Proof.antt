@@ -1,6 +1,6 @@
 -- `table::row_at` meets its contract. Assumes nothing.
 use native.Mathlib.Omega.{arith}
-use Rattle.line_rows.proofs.Tables.{row-none, row-some}
+use Rattle.line_rows.proofs.Tables.{row_none, row_some}
 use borrow.Author.Rules.{rules}
 use Rattle.line_rows.proofs.table.row_at.Statement.{statement}
 use Rattle.line_rows.proofs.table.row_at.Tie as tie
@@ -18,7 +18,7 @@ part-result-end : tie.Need-slice-bounds-result-end
 part-result-end c = search rules
 
 returns : tie.Need-returns
-returns c = row-none c.before.before.before.args.table.now c.before.before.before.args.at (omega arith)
+returns c = row_none c.before.before.before.args.table.now c.before.before.before.args.at (omega arith)
 
 add-items : tie.Need-overflow-add-items
 add-items c = search rules
@@ -48,7 +48,7 @@ first-items-requires : tie.Need-first-items-requires
 first-items-requires c κs = search rules
 
 returns-2 : tie.Need-returns-2
-returns-2 c = row-some c.before.before.before.before.before.args.table.now c.before.before.before.before.before.args.at c.first-items.ensures
+returns-2 c = row_some c.before.before.before.before.before.args.table.now c.before.before.before.before.before.args.at c.first-items.ensures
 
 pub row-at-spec : {M : Type 1} → statement M
 row-at-spec =

@@ -4,7 +4,7 @@ use mathlib.Core.Path.{refl, sym, ◌∙◌}
 use Prim.Native.Nat.{◌-◌}
 use native.Mathlib.Omega.{arith}
 use lib.ListN.{length}
-use Rattle.line_rows.proofs.Laws.{SpellsSoFar, spells-short, spells-other, spells-on, spells-end}
+use Rattle.line_rows.proofs.Laws.{SpellsSoFar, spells_short, spells_other, spells_on, spells_end}
 use Rattle.line_rows.proofs.word.spells.Statement.{statement}
 use Rattle.line_rows.proofs.word.spells.Tie as tie
 
@@ -18,7 +18,7 @@ loop-holds : tie.Need-loop-init invariant-loop decreases-loop
 loop-holds c = record { within = omega arith; same = refl }
 
 returns : tie.Need-returns invariant-loop decreases-loop
-returns c = spells-short c.before.before.loop.invariant (omega arith) c.if1.true
+returns c = spells_short c.before.before.loop.invariant (omega arith) c.if1.true
 
 shared-slice-read-wide : tie.Need-shared-slice-read-wide invariant-loop decreases-loop
 shared-slice-read-wide c = search rules
@@ -29,7 +29,7 @@ wide-requires c κs = search rules
 returns-2 : tie.Need-returns-2 invariant-loop decreases-loop
 returns-2 c =
     let turn = c.before.before.before.before.before in
-    spells-other turn.loop.invariant (omega arith) c.before.before.before.if1.false (λ e. c.if2.true (c.before.wide.ensures ∙ e))
+    spells_other turn.loop.invariant (omega arith) c.before.before.before.if1.false (λ e. c.if2.true (c.before.wide.ensures ∙ e))
 
 add-i : tie.Need-overflow-add-i invariant-loop decreases-loop
 add-i c = search rules
@@ -40,10 +40,10 @@ loop-less c = search rules
 loop-again : tie.Need-loop-preserved invariant-loop decreases-loop
 loop-again c =
     let turn = c.before.before.before.before.before in
-    spells-on turn.loop.invariant (omega arith) c.before.before.before.if1.false (sym c.before.wide.ensures ∙ c.if2.false)
+    spells_on turn.loop.invariant (omega arith) c.before.before.before.if1.false (sym c.before.wide.ensures ∙ c.if2.false)
 
 returns-3 : tie.Need-returns-3 invariant-loop decreases-loop
-returns-3 c = spells-end c.before.loop.invariant (omega arith)
+returns-3 c = spells_end c.before.loop.invariant (omega arith)
 
 pub spells-spec : {M : Type 1} → statement M
 spells-spec =

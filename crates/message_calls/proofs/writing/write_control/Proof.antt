@@ -2,24 +2,24 @@
 use mathlib.Core.Path.{refl, sym, ◌∙◌}
 use borrow.Author.Rules.{rules}
 use borrow.Author.Tests.{not-true, not-false}
-use Rattle.writable.specs.Allowed.{controlAllowed}
-use Rattle.lent_messages.specs.Words.{controlOf}
-use Rattle.lent_messages.proofs.Saying.{control-says}
+use Rattle.writable.specs.Allowed.{control_allowed}
+use Rattle.lent_messages.specs.Words.{control_of}
+use Rattle.lent_messages.proofs.Saying.{control_says}
 use Rattle.message_calls.specs.Calls.{end_of}
-use Rattle.message_calls.proofs.Calls.{control-no-end, control-unspelled, control-may, writes-not, writes}
+use Rattle.message_calls.proofs.Calls.{control_no_end, control_unspelled, control_may_lem, writes_not, writes}
 use Rattle.message_calls.proofs.writing.write_control.Statement.{statement}
 use Rattle.message_calls.proofs.writing.write_control.Tie as tie
 
 returns : tie.Need-returns
 returns c =
     let asked = c.before.before in
-    writes-not _ _ _ _ _ (control-no-end _ _ (sym asked.is-end.ensures ∙ not-true _ c.before.if1.true)) c.refused-by.ensures refl
+    writes_not _ _ _ _ _ (control_no_end _ _ (sym asked.is-end.ensures ∙ not-true _ c.before.if1.true)) c.refused-by.ensures refl
 
 returns-2 : tie.Need-returns-2
-returns-2 c = writes-not _ _ _ _ _ (control-unspelled _ _ (sym c.before.before.spelled.ensures ∙ not-true _ c.before.if2.true)) c.refused-by2.ensures refl
+returns-2 c = writes_not _ _ _ _ _ (control_unspelled _ _ (sym c.before.before.spelled.ensures ∙ not-true _ c.before.if2.true)) c.refused-by2.ensures refl
 
 load-requires : tie.Need-load-requires
-load-requires c κs = control-says _ (sym c.before.before.spelled.ensures ∙ not-false _ c.before.if2.false)
+load-requires c κs = control_says _ (sym c.before.before.spelled.ensures ∙ not-false _ c.before.if2.false)
 
 returns-3 : tie.Need-returns-3
 returns-3 c =
@@ -28,7 +28,7 @@ returns-3 c =
     let spelled = loaded.before.before.before in
     let asked = spelled.before.before in
     let start = asked.before.before.before in
-    writes _ _ _ _ _ (controlAllowed (end_of start.args.end) (controlOf start.args.meaning.now)) wrote.write.result (control-may _ _ (sym asked.is-end.ensures ∙ not-false _ spelled.before.if1.false) (sym spelled.spelled.ensures ∙ not-false _ loaded.before.before.if2.false))
+    writes _ _ _ _ _ (control_allowed (end_of start.args.end) (control_of start.args.meaning.now)) wrote.write.result (control_may_lem _ _ (sym asked.is-end.ensures ∙ not-false _ spelled.before.if1.false) (sym spelled.spelled.ensures ∙ not-false _ loaded.before.before.if2.false))
     (rw (← loaded.before.end_of_lem.ensures, ← loaded.load.ensures) wrote.write.ensures) c.of-write.ensures
 
 pub write-control-spec : {M : Type 1} → statement M

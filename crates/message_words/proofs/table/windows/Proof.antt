@@ -2,15 +2,15 @@
 use Prim.Native.Nat.{◌-◌}
 use borrow.Author.Rules.{rules}
 use native.Mathlib.Omega.{arith}
-use Rattle.facts.proofs.Lists.{length-mapped}
+use Rattle.facts.proofs.Lists.{length_mapped}
 use Rattle.quantity.specs.Limits.{CHANNEL-IDS}
-use Rattle.meaning.specs.Cells.{noWindow}
-use Rattle.message_words.proofs.Tables.{windowAt, Going, going_start, going_on, going_end}
+use Rattle.meaning.specs.Cells.{no_window}
+use Rattle.message_words.proofs.Tables.{window_at, Going, going_start, going_on, going_end}
 use Rattle.message_words.proofs.table.windows.Statement.{statement}
 use Rattle.message_words.proofs.table.windows.Tie as tie
 
 abbrev invariant-loop : tie.invariant-loop
-invariant-loop out₀ at cells behind₀ channel₀ out behind channel = Going windowAt cells out₀ at channel out behind
+invariant-loop out₀ at cells behind₀ channel₀ out behind channel = Going window_at cells out₀ at channel out behind
 
 abbrev decreases-loop : tie.decreases-loop
 decreases-loop out₀ at cells behind₀ channel₀ out behind channel = CHANNEL-IDS - channel
@@ -21,13 +21,13 @@ windows-spec =
     (tie.spec
     invariant-loop
     decreases-loop
-    (λ c. going_start windowAt _ _ _ (search (length-mapped, rules)))
+    (λ c. going_start window_at _ _ _ (search (length_mapped, rules)))
     (λ c. search rules)
     (λ c. search rules)
     (λ c. search rules)
     (λ c κs. search rules)
     (λ c. search rules)
     (λ c. omega arith)
-    (λ c. going_on windowAt _ c.before.before.before.before.before.before.loop.invariant noWindow c.before.before.before.before.before.loop-test.true c.before.before.window.auto.0 c.before.before.window.ensures)
+    (λ c. going_on window_at _ c.before.before.before.before.before.before.loop.invariant no_window c.before.before.before.before.before.loop-test.true c.before.before.window.auto.0 c.before.before.window.ensures)
     (λ c. c.before.loop.invariant.long)
-    (λ c. going_end windowAt _ c.before.loop.invariant c.loop-test.false))
+    (λ c. going_end window_at _ c.before.loop.invariant c.loop-test.false))

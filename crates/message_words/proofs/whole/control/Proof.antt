@@ -1,14 +1,14 @@
 -- `whole::control` meets its contract: the parts, one behind another. Assumes nothing.
 use borrow.Author.Rules.{rules}
-use Rattle.message_words.specs.Phrases.{controlTexts}
-use Rattle.message_words.proofs.Saying.{says-one, says_then}
+use Rattle.message_words.specs.Phrases.{control_texts}
+use Rattle.message_words.proofs.Saying.{says_one, says_then}
 use Rattle.message_words.proofs.whole.control.Statement.{statement}
 use Rattle.message_words.proofs.whole.control.Tie as tie
 
 returns : tie.Need-returns
-unfolding controlTexts
+unfolding control_texts
 returns c =
-    says_then (says-one c.before.before.before.before.before.before.before.before.before.before.before.before.before.before.before.before.before.before.put.ensures)
+    says_then (says_one c.before.before.before.before.before.before.before.before.before.before.before.before.before.before.before.before.before.before.put.ensures)
     (says_then c.before.before.before.before.before.before.before.before.before.before.before.before.before.before.datalink.ensures (says_then c.before.before.before.before.before.before.before.before.before.before.instance.ensures (says_then c.before.before.before.before.before.before.context.ensures c.before.before.tables.ensures)))
 
 pub control-spec : {M : Type 1} → statement M

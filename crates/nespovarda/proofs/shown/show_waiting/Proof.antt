@@ -1,15 +1,15 @@
 -- `shown::show_waiting` meets its contract. Assumes nothing.
 use mathlib.Core.Path.{refl}
 use borrow.Author.Rules.{rules}
-use Rattle.nespovarda.proofs.Showing.{none-waits, one-waits}
+use Rattle.nespovarda.proofs.Showing.{none_waits, one_waits}
 use Rattle.nespovarda.proofs.shown.show_waiting.Statement.{statement}
 use Rattle.nespovarda.proofs.shown.show_waiting.Tie as tie
 
 returns : tie.Need-returns
-returns c = none-waits _ _ _ _ c.before.if1.true c.plain.ensures
+returns c = none_waits _ _ _ _ c.before.if1.true c.plain.ensures
 
 returns-2 : tie.Need-returns-2
-returns-2 c = one-waits _ _ _ _ c.before.before.before.before.if1.false c.plain2.ensures _ _ c.before.before.wide.ensures refl
+returns-2 c = one_waits _ _ _ _ c.before.before.before.before.if1.false c.plain2.ensures _ _ c.before.before.wide.ensures refl
 
 pub show-waiting-spec : {M : Type 1} → statement M
 show-waiting-spec =

@@ -5,7 +5,7 @@ use Rattle.nespovarda_station.proofs.calls.nespovarda_station_link.Statement.{st
 use Rattle.nespovarda_station.proofs.calls.nespovarda_station_link.Tie as tie
 
 returns : tie.Need-returns
-returns c = rw c.before.before.before.before.before.instance.ensures at (exports c.before.before.before.tell-link.ensures _ c.of-call.ensures)
+returns c = rw c.before.before.before.before.before.instance.ensures at (exports c.before.before.before.tell-link.ensures _ c.of_call.ensures)
 
 pub nespovarda-station-link-spec : {M : Type 1} → statement M
 nespovarda-station-link-spec = tie.close (tie.spec (λ c κs. search rules) (λ c κs. search rules) (λ c κs. search rules) (λ c. search rules) returns)

@@ -5,7 +5,7 @@ use Rattle.nespovarda_station.proofs.calls.nespovarda_station_queued.Statement.{
 use Rattle.nespovarda_station.proofs.calls.nespovarda_station_queued.Tie as tie
 
 returns : tie.Need-returns
-returns c = rw c.before.before.before.before.before.before.before.before.narrow.ensures at (exports c.before.before.before.before.before.tell-queued.ensures _ c.of-call.ensures)
+returns c = rw c.before.before.before.before.before.before.before.before.narrow.ensures at (exports c.before.before.before.before.before.tell-queued.ensures _ c.of_call.ensures)
 
 pub nespovarda-station-queued-spec : {M : Type 1} → statement M
 nespovarda-station-queued-spec = tie.close (tie.spec (λ c κs. search rules) (λ c κs. search rules) (λ c κs. search rules) (λ c. search rules) (λ c. search rules) returns)

@@ -5,7 +5,7 @@ use Rattle.nespovarda_station.proofs.calls.nespovarda_station_tell.Statement.{st
 use Rattle.nespovarda_station.proofs.calls.nespovarda_station_tell.Tie as tie
 
 returns : tie.Need-returns
-returns c = exports c.before.before.before.tell.ensures _ c.of-call.ensures
+returns c = exports c.before.before.before.tell.ensures _ c.of_call.ensures
 
 pub nespovarda-station-tell-spec : {M : Type 1} → statement M
 nespovarda-station-tell-spec = tie.close (tie.spec (λ c κs. search rules) (λ c κs. search rules) (λ c. search rules) returns)

@@ -1,16 +1,16 @@
 -- `named::context` meets its contract. Assumes nothing.
 use mathlib.Core.Path.{sym, ◌∙◌}
-use Rattle.nespovarda_station.specs.Named.{contextSaid}
+use Rattle.nespovarda_station.specs.Named.{context_said}
 use borrow.Author.Rules.{rules}
 use Rattle.nespovarda_station.proofs.named.context.Statement.{statement}
 use Rattle.nespovarda_station.proofs.named.context.Tie as tie
 
 returns : tie.Need-returns
-unfolding contextSaid
+unfolding context_said
 returns c = rw (sym c.before.says_none.ensures, c.if1.true)
 
 returns-2 : tie.Need-returns-2
-unfolding contextSaid
+unfolding context_said
 returns-2 c = rw (sym c.before.before.says_none.ensures, c.before.if1.false, c.narrow.ensures)
 
 pub context-spec : {M : Type 1} → statement M

@@ -1,13 +1,13 @@
 -- `fresh::write_head` meets its contract: the writes are one list over the old words. Assumes nothing.
 use native.Mathlib.Omega.{arith}
 use lib.ListN.{length-set}
-use Rattle.radio_end_start.proofs.Writing.{head-written}
+use Rattle.radio_end_start.proofs.Writing.{head_written}
 use borrow.Author.Rules.{rules}
 use Rattle.radio_end_start.proofs.fresh.write_head.Statement.{statement}
 use Rattle.radio_end_start.proofs.fresh.write_head.Tie as tie
 
 returns : tie.Need-returns
-returns c = head-written c.args.words.now _ _ c.requires
+returns c = head_written c.args.words.now _ _ c.requires
 
 pub write-head-spec : {M : Type 1} → statement M
 write-head-spec =

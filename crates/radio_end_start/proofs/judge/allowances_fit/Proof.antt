@@ -2,7 +2,7 @@
 use Prim.Native.Nat.{◌-◌}
 use borrow.Author.Rules.{rules}
 use borrow.Author.Tests.{not-true, not-false}
-use Rattle.radio_end_start.proofs.Allowing.{Allowing, allow-start, out-large, allow-on, allow-end}
+use Rattle.radio_end_start.proofs.Allowing.{Allowing, allow_start, out_large, allow_on, allow_end}
 use Rattle.radio_end_start.proofs.judge.allowances_fit.Statement.{statement}
 use Rattle.radio_end_start.proofs.judge.allowances_fit.Tie as tie
 
@@ -13,22 +13,22 @@ abbrev decreases-loop : tie.decreases-loop
 decreases-loop configuration count at₀ from₀ at from = count - at
 
 loop-holds : tie.Need-loop-init invariant-loop decreases-loop
-loop-holds c = allow-start _ _
+loop-holds c = allow_start _ _
 
 returns : tie.Need-returns invariant-loop decreases-loop
 returns c =
     let tested = c.before in
     let turn = tested.before.before.before in
-    out-large _ _ _ _ turn.before.loop.invariant turn.loop-test.true _ tested.allowance-fits.ensures (not-true _ c.if1.true)
+    out_large _ _ _ _ turn.before.loop.invariant turn.loop-test.true _ tested.allowance-fits.ensures (not-true _ c.if1.true)
 
 loop-again : tie.Need-loop-preserved invariant-loop decreases-loop
 loop-again c =
     let tested = c.before in
     let turn = tested.before.before.before in
-    allow-on _ _ _ _ turn.before.loop.invariant turn.loop-test.true _ tested.allowance-fits.ensures (not-false _ c.if1.false)
+    allow_on _ _ _ _ turn.before.loop.invariant turn.loop-test.true _ tested.allowance-fits.ensures (not-false _ c.if1.false)
 
 returns-2 : tie.Need-returns-2 invariant-loop decreases-loop
-returns-2 c = allow-end _ _ _ _ c.before.loop.invariant c.loop-test.false
+returns-2 c = allow_end _ _ _ _ c.before.loop.invariant c.loop-test.false
 
 pub allowances-fit-spec : {M : Type 1} → statement M
 allowances-fit-spec =

@@ -1,7 +1,7 @@
 -- `judge::index_of` meets its contract: the law of each turn is `Seeking`'s. Assumes nothing.
 use Prim.Native.Nat.{◌-◌}
 use native.Mathlib.Omega.{arith}
-use Rattle.radio_end_start.proofs.Seeking.{Seeking, seek-start, seek_found, seek-on, seek-end}
+use Rattle.radio_end_start.proofs.Seeking.{Seeking, seek_start, seek_found, seek_on, seek_end}
 use Rattle.radio_end_start.proofs.judge.index_of.Statement.{statement}
 use Rattle.radio_end_start.proofs.judge.index_of.Tie as tie
 
@@ -12,7 +12,7 @@ abbrev decreases-loop : tie.decreases-loop
 decreases-loop configuration count id at₀ from₀ at from = count - at
 
 loop-holds : tie.Need-loop-init invariant-loop decreases-loop
-loop-holds c = seek-start _ _ _
+loop-holds c = seek_start _ _ _
 
 add-if1 : tie.Need-overflow-add-if1 invariant-loop decreases-loop
 add-if1 c = omega (arith, c.before.before.requires.long, c.before.before.requires.few, c.before.loop.invariant.from_is, c.before.loop.invariant.inside)
@@ -36,10 +36,10 @@ loop-less : tie.Need-loop-smaller invariant-loop decreases-loop
 loop-less c = omega (arith, c.before.before.loop-test.true)
 
 loop-again : tie.Need-loop-preserved invariant-loop decreases-loop
-loop-again c = seek-on _ _ _ _ _ c.before.before.before.loop.invariant c.before.before.loop-test.true c.if1.false
+loop-again c = seek_on _ _ _ _ _ c.before.before.before.loop.invariant c.before.before.loop-test.true c.if1.false
 
 returns-2 : tie.Need-returns-2 invariant-loop decreases-loop
-returns-2 c = seek-end _ _ _ _ _ c.before.loop.invariant c.loop-test.false
+returns-2 c = seek_end _ _ _ _ _ c.before.loop.invariant c.loop-test.false
 
 pub index-of-spec : {M : Type 1} → statement M
 index-of-spec =

@@ -1,11 +1,11 @@
 -- `channel::window` meets its contract. Assumes nothing.
 use borrow.Author.Rules.{rules}
-use Rattle.radio_end_state.specs.Channel.{windowNow}
+use Rattle.radio_end_state.specs.Channel.{window_now}
 use Rattle.radio_end_state.proofs.channel.window.Statement.{statement}
 use Rattle.radio_end_state.proofs.channel.window.Tie as tie
 
 returns : tie.Need-returns
-unfolding windowNow
+unfolding window_now
 returns c = rw (c.window.ensures, c.before.allowance.ensures)
 
 pub window-spec : {M : Type 1} → statement M

@@ -1,17 +1,17 @@
 -- `survey::names_fit` meets its contract. Assumes nothing.
 use borrow.Author.Rules.{rules}
 use mathlib.Core.Path.{sym, ◌∙◌}
-use Rattle.radio_end_state.specs.Limits.{namesFit}
+use Rattle.radio_end_state.specs.Limits.{names_fit}
 use Rattle.radio_end_survey.proofs.survey.names_fit.Statement.{statement}
 use Rattle.radio_end_survey.proofs.survey.names_fit.Tie as tie
 
 returns : tie.Need-returns
-unfolding namesFit
-returns c = rw (← c.before.before.before.before.instance-said.ensures, ← c.before.before.before.context-said.ensures, sym c.before.before.instance.ensures ∙ c.before.if1.true) c.context.ensures
+unfolding names_fit
+returns c = rw (← c.before.before.before.before.instance_said_lem.ensures, ← c.before.before.before.context_said_lem.ensures, sym c.before.before.instance.ensures ∙ c.before.if1.true) c.context.ensures
 
 returns-2 : tie.Need-returns-2
-unfolding namesFit
-returns-2 c = rw (← c.before.before.before.instance-said.ensures, sym c.before.instance.ensures ∙ c.if1.false) c.if1.false
+unfolding names_fit
+returns-2 c = rw (← c.before.before.before.instance_said_lem.ensures, sym c.before.instance.ensures ∙ c.if1.false) c.if1.false
 
 pub names-fit-spec : {M : Type 1} → statement M
 names-fit-spec =

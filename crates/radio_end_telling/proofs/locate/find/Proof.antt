@@ -2,12 +2,12 @@
 use borrow.Author.Rules.{rules}
 use mathlib.Core.Path.{sym, ◌∙◌}
 use borrow.Author.Tests.{not-true, not-false}
-use Rattle.radio_end_telling.proofs.Settling.{find-unfit, find_at, find_none}
+use Rattle.radio_end_telling.proofs.Settling.{find_unfit, find_at, find_none}
 use Rattle.radio_end_telling.proofs.locate.find.Statement.{statement}
 use Rattle.radio_end_telling.proofs.locate.find.Tie as tie
 
 returns : tie.Need-returns
-returns c = find-unfit _ _ (sym c.before.fits2.ensures ∙ not-true _ c.if1.true)
+returns c = find_unfit _ _ (sym c.before.fits2.ensures ∙ not-true _ c.if1.true)
 
 find-requires : tie.Need-find-requires
 find-requires c κs = sym c.before.fits2.ensures ∙ not-false _ c.if1.false

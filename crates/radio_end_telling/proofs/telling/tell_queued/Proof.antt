@@ -2,24 +2,24 @@
 use borrow.Author.Rules.{rules}
 use mathlib.Core.Path.{sym, ap, ◌∙◌}
 use Rattle.radio_end_state.specs.declared.channel.Channel.{Channel}
-use Rattle.radio_end_state.specs.Channel.{withQueued}
-use Rattle.radio_end_telling.proofs.Told.{queued-unfound, queued-done}
-use Rattle.radio_end_telling.proofs.Settling.{found_at, found-placed, found-settles, found-low}
+use Rattle.radio_end_state.specs.Channel.{with_queued}
+use Rattle.radio_end_telling.proofs.Told.{queued_unfound, queued_done}
+use Rattle.radio_end_telling.proofs.Settling.{found_at, found_placed, found_settles, found_low}
 use Rattle.radio_end_telling.proofs.telling.tell_queued.Statement.{statement}
 use Rattle.radio_end_telling.proofs.telling.tell_queued.Tie as tie
 
 load-requires : tie.Need-load-requires
-load-requires c κs = found-placed _ c.before.before.before.before.before.before.before.before.args.id _ (found_at _ _ _ (sym c.before.before.index.given.1 ∙ c.before.before.before.before.find.ensures))
+load-requires c κs = found_placed _ c.before.before.before.before.before.before.before.before.args.id _ (found_at _ _ _ (sym c.before.before.index.given.1 ∙ c.before.before.before.before.find.ensures))
 
 channel-requires : tie.Need-channel-requires
-unfolding withQueued
-channel-requires c κs = found-settles _ c.before.before.before.before.before.before.before.before.before.before.before.before.args.id _ (found_at _ _ _ (sym c.before.before.before.before.before.before.index.given.1 ∙ c.before.before.before.before.before.before.before.before.find.ensures)) _ _ c.before.before.before.load.ensures (ap (λ (x : Channel). x.setting.id) c.before.with-queued.ensures) (rw c.before.with-queued.ensures (found-low _ c.before.before.before.before.before.before.before.before.before.before.before.before.args.id _ (found_at _ _ _ (sym c.before.before.before.before.before.before.index.given.1 ∙ c.before.before.before.before.before.before.before.before.find.ensures)) _ c.before.before.before.load.ensures))
+unfolding with_queued
+channel-requires c κs = found_settles _ c.before.before.before.before.before.before.before.before.before.before.before.before.args.id _ (found_at _ _ _ (sym c.before.before.before.before.before.before.index.given.1 ∙ c.before.before.before.before.before.before.before.before.find.ensures)) _ _ c.before.before.before.load.ensures (ap (λ (x : Channel). x.setting.id) c.before.with-queued.ensures) (rw c.before.with-queued.ensures (found_low _ c.before.before.before.before.before.before.before.before.before.before.before.before.args.id _ (found_at _ _ _ (sym c.before.before.before.before.before.before.index.given.1 ∙ c.before.before.before.before.before.before.before.before.find.ensures)) _ c.before.before.before.load.ensures))
 
 returns : tie.Need-returns
-returns c = queued-done _ _ _ _ _ (found_at _ _ _ (sym c.before.before.before.before.before.before.before.before.before.before.before.index.given.1 ∙ c.before.before.before.before.before.before.before.before.before.before.before.before.before.find.ensures)) _ _ c.before.before.before.before.before.before.before.before.load.ensures c.before.before.before.before.before.before.with-queued.ensures _ _ _ c.before.before.before.before.channel.ensures
+returns c = queued_done _ _ _ _ _ (found_at _ _ _ (sym c.before.before.before.before.before.before.before.before.before.before.before.index.given.1 ∙ c.before.before.before.before.before.before.before.before.before.before.before.before.before.find.ensures)) _ _ c.before.before.before.before.before.before.before.before.load.ensures c.before.before.before.before.before.before.with-queued.ensures _ _ _ c.before.before.before.before.channel.ensures
 
 returns-2 : tie.Need-returns-2
-returns-2 c = queued-unfound _ _ _ _ _ (sym c.before.before.number.given.1 ∙ c.before.before.before.before.find.ensures) _ c.refused.ensures
+returns-2 c = queued_unfound _ _ _ _ _ (sym c.before.before.number.given.1 ∙ c.before.before.before.before.find.ensures) _ c.refused.ensures
 
 pub tell-queued-spec : {M : Type 1} → statement M
 tell-queued-spec =

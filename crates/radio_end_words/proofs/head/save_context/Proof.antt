@@ -2,7 +2,7 @@
 use borrow.Author.Rules.{rules}
 use native.Mathlib.Omega.{arith}
 use lib.ListN.{length-set}
-use Rattle.radio_end_words.proofs.Placing.{fit_length, context-saved}
+use Rattle.radio_end_words.proofs.Placing.{fit_length, context_saved}
 use Rattle.radio_end_words.proofs.head.save_context.Statement.{statement}
 use Rattle.radio_end_words.proofs.head.save_context.Tie as tie
 
@@ -16,7 +16,7 @@ slice-write-words-3 : tie.Need-slice-write-words-3
 slice-write-words-3 c = simp length-set (omega (arith, fit_length _ c.before.before.requires))
 
 returns : tie.Need-returns
-returns c = context-saved _ c.before.before.requires _ _ c.context.ensures
+returns c = context_saved _ c.before.before.requires _ _ c.context.ensures
 
 pub save-context-spec : {M : Type 1} → statement M
 save-context-spec =

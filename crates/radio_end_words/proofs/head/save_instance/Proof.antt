@@ -2,7 +2,7 @@
 use borrow.Author.Rules.{rules}
 use native.Mathlib.Omega.{arith}
 use lib.ListN.{length-set}
-use Rattle.radio_end_words.proofs.Placing.{fit_length, instance-saved}
+use Rattle.radio_end_words.proofs.Placing.{fit_length, instance_saved}
 use Rattle.radio_end_words.proofs.head.save_instance.Statement.{statement}
 use Rattle.radio_end_words.proofs.head.save_instance.Tie as tie
 
@@ -16,7 +16,7 @@ slice-write-words-3 : tie.Need-slice-write-words-3
 slice-write-words-3 c = simp length-set (omega (arith, fit_length _ c.before.before.requires))
 
 returns : tie.Need-returns
-returns c = instance-saved _ c.before.before.requires _ _ c.instance.ensures
+returns c = instance_saved _ c.before.before.requires _ _ c.instance.ensures
 
 pub save-instance-spec : {M : Type 1} → statement M
 save-instance-spec =

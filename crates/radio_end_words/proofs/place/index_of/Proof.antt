@@ -3,7 +3,7 @@ use Prim.Native.Nat.{◌-◌}
 use borrow.Author.Rules.{rules}
 use native.Mathlib.Omega.{arith}
 use Rattle.radio_end_words.specs.Words.{Counted}
-use Rattle.radio_end_words.proofs.Placing.{Seeking, seek-start, seek_found, seek-on, seek-end}
+use Rattle.radio_end_words.proofs.Placing.{Seeking, seek_start, seek_found, seek_on, seek_end}
 use Rattle.radio_end_words.proofs.place.index_of.Statement.{statement}
 use Rattle.radio_end_words.proofs.place.index_of.Tie as tie
 
@@ -14,7 +14,7 @@ abbrev decreases-loop : tie.decreases-loop
 decreases-loop words count id at₀ from₀ at from = count - at
 
 loop-holds : tie.Need-loop-init invariant-loop decreases-loop
-loop-holds c = seek-start _ _ c.requires _
+loop-holds c = seek_start _ _ c.requires _
 
 add-if1 : tie.Need-overflow-add-if1 invariant-loop decreases-loop
 add-if1 c = omega (arith, c.before.before.requires.long, c.before.before.requires.few, c.before.loop.invariant.from_is, c.before.loop.invariant.inside)
@@ -38,10 +38,10 @@ loop-less : tie.Need-loop-smaller invariant-loop decreases-loop
 loop-less c = omega (arith, c.before.before.loop-test.true)
 
 loop-again : tie.Need-loop-preserved invariant-loop decreases-loop
-loop-again c = seek-on _ _ c.before.before.before.before.requires _ _ _ c.before.before.before.loop.invariant c.before.before.loop-test.true c.if1.false
+loop-again c = seek_on _ _ c.before.before.before.before.requires _ _ _ c.before.before.before.loop.invariant c.before.before.loop-test.true c.if1.false
 
 returns-2 : tie.Need-returns-2 invariant-loop decreases-loop
-returns-2 c = seek-end _ _ c.before.before.requires _ _ _ c.before.loop.invariant c.loop-test.false
+returns-2 c = seek_end _ _ c.before.before.requires _ _ _ c.before.loop.invariant c.loop-test.false
 
 pub index-of-spec : {M : Type 1} → statement M
 index-of-spec =

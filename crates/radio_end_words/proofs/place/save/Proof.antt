@@ -1,30 +1,30 @@
 -- `place::save` meets its contract. Assumes nothing.
 use borrow.Author.Rules.{rules}
 use native.Mathlib.Omega.{arith}
-use Rattle.radio_end_words.proofs.Placing.{place-few, place-ends, part-long, part-saved}
+use Rattle.radio_end_words.proofs.Placing.{place_few, place_ends, part_long, part_saved}
 use Rattle.radio_end_words.proofs.place.save.Statement.{statement}
 use Rattle.radio_end_words.proofs.place.save.Tie as tie
 
 mul-from : tie.Need-overflow-mul-from
-mul-from c = omega (arith, place-few _ _ c.before.requires)
+mul-from c = omega (arith, place_few _ _ c.before.requires)
 
 add-from : tie.Need-overflow-add-from
-add-from c = omega (arith, place-few _ _ c.before.requires)
+add-from c = omega (arith, place_few _ _ c.before.requires)
 
 add-to : tie.Need-overflow-add-to
-add-to c = omega (arith, place-few _ _ c.before.requires)
+add-to c = omega (arith, place_few _ _ c.before.requires)
 
 mul-save : tie.Need-overflow-mul-save
-mul-save c = omega (arith, place-few _ _ c.before.requires)
+mul-save c = omega (arith, place_few _ _ c.before.requires)
 
 part-save-end : tie.Need-slice-bounds-save-end
-part-save-end c = place-ends _ _ c.before.requires
+part-save-end c = place_ends _ _ c.before.requires
 
 save-requires : tie.Need-save-requires
-save-requires c κs = part-long _ _ c.before.before.requires
+save-requires c κs = part_long _ _ c.before.before.requires
 
 returns : tie.Need-returns
-returns c = let saved = c.before.before in part-saved _ _ saved.before.before.before.requires _ _ saved.save.ensures
+returns c = let saved = c.before.before in part_saved _ _ saved.before.before.before.requires _ _ saved.save.ensures
 
 pub save-spec : {M : Type 1} → statement M
 save-spec =

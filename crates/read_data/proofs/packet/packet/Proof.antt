@@ -5,13 +5,13 @@ use native.Mathlib.Omega.{arith}
 use borrow.Author.Rules.{rules}
 use lib.ListN.{length, drop}
 use Rattle.wire.specs.Options.{split}
-use Rattle.read_data.specs.Packet.{packetOf, packetIn}
-use Rattle.read_data.proofs.Carried.{none_left, cut_off, Turned, inside, here, further}
+use Rattle.read_data.specs.Packet.{packet_of, packet_in}
+use Rattle.read_data.proofs.Carried.{none_left, cut_off_lem, Turned, inside, here, further}
 use Rattle.read_data.proofs.packet.packet.Statement.{statement}
 use Rattle.read_data.proofs.packet.packet.Tie as tie
 
 abbrev invariant-loop : tie.invariant-loop
-invariant-loop datagram at₀ at = packetOf datagram ≡ packetIn (split (drop at datagram))
+invariant-loop datagram at₀ at = packet_of datagram ≡ packet_in (split (drop at datagram))
 
 abbrev decreases-loop : tie.decreases-loop
 decreases-loop datagram at₀ at = length datagram - at
@@ -20,26 +20,26 @@ decreases-loop datagram at₀ at = length datagram - at
 turned : (c : tie.After-known-told invariant-loop decreases-loop)
     → let head = c.before.before.before.before.before.before in
     let datagram = head.before.before.args.datagram.now in
-    Turned (packetOf datagram) datagram head.loop.at c.before.kind.given.0.0 c.before.kind.given.0.1.0
+    Turned (packet_of datagram) datagram head.loop.at c.before.kind.given.0.0 c.before.kind.given.0.1.0
 turned c =
     let framed = c.before.before.before in
     record { so_far = framed.before.before.before.loop.invariant; frame = sym c.before.kind.given.1 ∙ framed.first.ensures }
 
 loop-holds : tie.Need-loop-init invariant-loop decreases-loop
-unfolding packetOf
+unfolding packet_of
 loop-holds c = refl
 
 returns : tie.Need-returns invariant-loop decreases-loop
 returns c =
     let framed = c.before.before.before in
     let head = framed.before.before.before in
-    cut_off _ head.loop.at head.loop.invariant framed.before.before.loop-test.true (sym c.before.enum_told.given.1 ∙ framed.first.ensures)
+    cut_off_lem _ head.loop.at head.loop.invariant framed.before.before.loop-test.true (sym c.before.enum_told.given.1 ∙ framed.first.ensures)
 
 add-from : tie.Need-overflow-add-from invariant-loop decreases-loop
-add-from c = omega (arith, inside (turned c), c.before.before.before.before.before.before.before.before.well-formed.0)
+add-from c = omega (arith, inside (turned c), c.before.before.before.before.before.before.before.before.well_formed_lem.0)
 
 add-to : tie.Need-overflow-add-to invariant-loop decreases-loop
-add-to c = omega (arith, inside (turned c), c.before.before.before.before.before.before.before.before.well-formed.0)
+add-to c = omega (arith, inside (turned c), c.before.before.before.before.before.before.before.before.well_formed_lem.0)
 
 part-result-end : tie.Need-slice-bounds-result-end invariant-loop decreases-loop
 part-result-end c = inside (turned c.before)

@@ -2,21 +2,21 @@
 use mathlib.Core.Path.{sym, ◌∙◌}
 use borrow.Author.Rules.{rules}
 use borrow.Author.Tests.{not-true, not-false}
-use Rattle.meaning.specs.Kinds.{lengthListed, valueListed}
-use Rattle.read_option.specs.Items.{item_of, statedOf}
-use Rattle.read_option.proofs.Contents.{instance-fits}
+use Rattle.meaning.specs.Kinds.{length_listed, value_listed}
+use Rattle.read_option.specs.Items.{item_of, stated_of}
+use Rattle.read_option.proofs.Contents.{instance_fits}
 use Rattle.read_option.proofs.option.instance.Statement.{statement}
 use Rattle.read_option.proofs.option.instance.Tie as tie
 
 returns : tie.Need-returns
-unfolding statedOf lengthListed
+unfolding stated_of length_listed
 returns c = rw (sym c.before.is-instance-length.ensures ∙ not-true _ c.if1.true)
 
 read-requires : tie.Need-read-requires
-read-requires c κs = instance-fits _ (sym c.before.is-instance-length.ensures ∙ not-false _ c.if1.false)
+read-requires c κs = instance_fits _ (sym c.before.is-instance-length.ensures ∙ not-false _ c.if1.false)
 
 returns-2 : tie.Need-returns-2
-unfolding statedOf lengthListed valueListed item_of
+unfolding stated_of length_listed value_listed item_of
 returns-2 c = rw (sym c.before.before.is-instance-length.ensures ∙ not-false _ c.before.if1.false, c.read.ensures.0)
 
 pub instance-spec : {M : Type 1} → statement M

@@ -4,40 +4,40 @@ use mathlib.Core.Bool.{true, false}
 use borrow.Author.Rules.{rules}
 use borrow.Author.Tests.{ne_eqb, not-true, not-false}
 use Rattle.meaning.specs.declared.message.Plane.{Plane}
-use Rattle.meaning.specs.Kinds.{among, mayHold}
-use Rattle.read_option.proofs.Contents.{answer-listed, answer-unlisted, controlKeys, control-left}
+use Rattle.meaning.specs.Kinds.{among, may_hold}
+use Rattle.read_option.proofs.Contents.{answer_listed, answer_unlisted, control_keys, control_left}
 use Rattle.read_option.proofs.option.of_noted.Statement.{statement}
 use Rattle.read_option.proofs.option.of_noted.Tie as tie
 
 -- behind the test: the message may hold the option
-held : (c : tie.Else1) → let args = c.before.before.before.args in among args.kind (mayHold Plane.Control args.end) ≡ true
+held : (c : tie.Else1) → let args = c.before.before.before.args in among args.kind (may_hold Plane.Control args.end) ≡ true
 held c = sym c.before.may-hold.ensures ∙ not-false _ c.if1.false
 
 returns : tie.Need-returns
-returns c = answer-unlisted _ _ _ _ (sym c.before.before.may-hold.ensures ∙ not-true _ c.before.if1.true) c.unlisted.ensures
+returns c = answer_unlisted _ _ _ _ (sym c.before.before.may-hold.ensures ∙ not-true _ c.before.if1.true) c.unlisted.ensures
 
 returns-2 : tie.Need-returns-2
-returns-2 c = answer-listed _ _ _ _ (held c.before.before) (rw c.before.match.keys1 c.datalink.ensures)
+returns-2 c = answer_listed _ _ _ _ (held c.before.before) (rw c.before.match.keys1 c.datalink.ensures)
 
 returns-3 : tie.Need-returns-3
-returns-3 c = answer-listed _ _ _ _ (held c.before.before) (rw c.before.match.keys2 c.instance.ensures)
+returns-3 c = answer_listed _ _ _ _ (held c.before.before) (rw c.before.match.keys2 c.instance.ensures)
 
 returns-4 : tie.Need-returns-4
-returns-4 c = answer-listed _ _ _ _ (held c.before.before) (rw c.before.match.keys3 c.context.ensures)
+returns-4 c = answer_listed _ _ _ _ (held c.before.before) (rw c.before.match.keys3 c.context.ensures)
 
 returns-5 : tie.Need-returns-5
-returns-5 c = answer-listed _ _ _ _ (held c.before.before) (rw c.before.match.keys4 c.status.ensures)
+returns-5 c = answer_listed _ _ _ _ (held c.before.before) (rw c.before.match.keys4 c.status.ensures)
 
 returns-6 : tie.Need-returns-6
-returns-6 c = answer-listed _ _ _ _ (held c.before.before) (rw c.before.match.keys5 c.window.ensures)
+returns-6 c = answer_listed _ _ _ _ (held c.before.before) (rw c.before.match.keys5 c.window.ensures)
 
 returns-7 : tie.Need-returns-7
 returns-7 c =
     let tested = c.before.before in
     let args = tested.before.before.before.args in
     let rest = c.before.match.rest in
-    let none : among args.kind controlKeys ≡ false = simp (ne_eqb _ 1 rest.0.0.0.0.1, ne_eqb _ 3 rest.0.0.0.1, ne_eqb _ 4 rest.0.0.1, ne_eqb _ 5 rest.0.1, ne_eqb _ 6 rest.1) in
-    answer-listed _ _ _ _ (held tested) (rw (control-left args.end args.kind (held tested) none) c.sequence.ensures)
+    let none : among args.kind control_keys ≡ false = simp (ne_eqb _ 1 rest.0.0.0.0.1, ne_eqb _ 3 rest.0.0.0.1, ne_eqb _ 4 rest.0.0.1, ne_eqb _ 5 rest.0.1, ne_eqb _ 6 rest.1) in
+    answer_listed _ _ _ _ (held tested) (rw (control_left args.end args.kind (held tested) none) c.sequence.ensures)
 
 pub of-noted-spec : {M : Type 1} → statement M
 of-noted-spec =

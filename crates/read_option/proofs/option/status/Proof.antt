@@ -2,21 +2,21 @@
 use borrow.Author.Rules.{rules}
 use borrow.Author.Tests.{le-ltb, lt-ltb, eq-eqb, ne_eqb}
 use Rattle.quantity.specs.Limits.{RESERVED-CHANNEL}
-use Rattle.meaning.specs.Kinds.{lengthListed, valueListed}
-use Rattle.read_option.specs.Items.{item_of, statedOf}
+use Rattle.meaning.specs.Kinds.{length_listed, value_listed}
+use Rattle.read_option.specs.Items.{item_of, stated_of}
 use Rattle.read_option.proofs.option.status.Statement.{statement}
 use Rattle.read_option.proofs.option.status.Tie as tie
 
 returns : tie.Need-returns
-unfolding statedOf lengthListed
+unfolding stated_of length_listed
 returns c = simp (ne_eqb _ 2 c.if1.true)
 
 returns-2 : tie.Need-returns-2
-unfolding statedOf lengthListed valueListed
+unfolding stated_of length_listed value_listed
 returns-2 c = simp (eq-eqb _ 2 c.before.before.if1.false, le-ltb _ RESERVED-CHANNEL c.if2.true)
 
 returns-3 : tie.Need-returns-3
-unfolding statedOf lengthListed valueListed item_of
+unfolding stated_of length_listed value_listed item_of
 returns-3 c = simp (eq-eqb _ 2 c.before.before.before.if1.false, lt-ltb _ RESERVED-CHANNEL c.before.if2.false)
 
 pub status-spec : {M : Type 1} → statement M

@@ -7,33 +7,33 @@ use borrow.Author.Tests.{le-ltb, lt-ltb, eq-eqb, ne_eqb, not-true, not-false}
 use lib.ListN.{length, length-drop}
 use Rattle.facts.proofs.Lists.{rest_part}
 use Rattle.quantity.specs.Limits.{RESERVED-CHANNEL}
-use Rattle.meaning.specs.Kinds.{lengthListed, valueListed, FLOW-WINDOW}
-use Rattle.read_option.specs.Items.{item_of, statedOf}
-use Rattle.read_option.proofs.Contents.{window-there, window-five}
+use Rattle.meaning.specs.Kinds.{length_listed, value_listed, FLOW-WINDOW}
+use Rattle.read_option.specs.Items.{item_of, stated_of}
+use Rattle.read_option.proofs.Contents.{window_there, window_five}
 use Rattle.read_option.proofs.option.window.Statement.{statement}
 use Rattle.read_option.proofs.option.window.Tie as tie
 
 -- behind the test of the length
-listed : (c : tie.Else1) → lengthListed FLOW-WINDOW (length c.before.before.before.args.content.now) ≡ true
+listed : (c : tie.Else1) → length_listed FLOW-WINDOW (length c.before.before.before.args.content.now) ≡ true
 listed c = sym c.before.is-window-length.ensures ∙ not-false _ c.if1.false
 
 -- the field is there
 five : (c : tie.Else3) → length c.before.before.before.before.before.before.args.content.now ≡ 5
-five c = window-five _ (listed c.before.before.before) c.if3.false
+five c = window_five _ (listed c.before.before.before) c.if3.false
 
 returns : tie.Need-returns
-unfolding statedOf
+unfolding stated_of
 returns c = rw (sym c.before.is-window-length.ensures ∙ not-true _ c.if1.true)
 
 shared-slice-read-channel : tie.Need-shared-slice-read-channel
-shared-slice-read-channel c = window-there _ (listed c.before)
+shared-slice-read-channel c = window_there _ (listed c.before)
 
 returns-2 : tie.Need-returns-2
-unfolding statedOf valueListed
+unfolding stated_of value_listed
 returns-2 c = simp (listed c.before.before, le-ltb _ RESERVED-CHANNEL c.if2.true)
 
 returns-3 : tie.Need-returns-3
-unfolding statedOf valueListed item_of
+unfolding stated_of value_listed item_of
 returns-3 c = simp (listed c.before.before.before, lt-ltb _ RESERVED-CHANNEL c.before.if2.false, eq-eqb _ 1 c.if3.true)
 
 sub_read : tie.Need-overflow-sub-read
@@ -49,7 +49,7 @@ cast-word : tie.Need-overflow-cast-word
 cast-word c = record { fits = rw (rest_part, length-drop, five c.before.before) at c.read.ensures.1 }
 
 returns-4 : tie.Need-returns-4
-unfolding statedOf valueListed item_of
+unfolding stated_of value_listed item_of
 returns-4 c =
     let tested = c.before.before in
     simp (listed tested.before.before.before, lt-ltb _ RESERVED-CHANNEL tested.before.if2.false, ne_eqb _ 1 tested.if3.false, c.read.ensures.0, rest_part)

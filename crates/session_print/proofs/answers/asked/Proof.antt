@@ -1,6 +1,6 @@
 -- `answers::asked` meets its contract, case by case. Assumes nothing.
 use borrow.Author.Rules.{rules}
-use Rattle.message_words.proofs.Saying.{says-one}
+use Rattle.message_words.proofs.Saying.{says_one}
 use Rattle.session_print.proofs.answers.asked.Statement.{statement}
 use Rattle.session_print.proofs.answers.asked.Tie as tie
 
@@ -56,19 +56,19 @@ same-length-2 : tie.Need-same-length-2
 same-length-2 c = search rules
 
 returns-2 : tie.Need-returns-2
-returns-2 c = rw c.before.before.before.before.before.enum_told.given.1 (says-one c.before.before.put.ensures)
+returns-2 c = rw c.before.before.before.before.before.enum_told.given.1 (says_one c.before.before.put.ensures)
 
 same-length-3 : tie.Need-same-length-3
 same-length-3 c = search rules
 
 returns-3 : tie.Need-returns-3
-returns-3 c = rw c.before.before.before.before.before.enum-told2.given.1 (says-one c.before.before.put2.ensures)
+returns-3 c = rw c.before.before.before.before.before.enum-told2.given.1 (says_one c.before.before.put2.ensures)
 
 same-length-4 : tie.Need-same-length-4
 same-length-4 c = search rules
 
 returns-4 : tie.Need-returns-4
-returns-4 c = rw c.before.before.before.before.before.enum-told3.given.1 (says-one c.before.before.put3.ensures)
+returns-4 c = rw c.before.before.before.before.before.enum-told3.given.1 (says_one c.before.before.put3.ensures)
 
 same-length-5 : tie.Need-same-length-5
 same-length-5 c = search rules

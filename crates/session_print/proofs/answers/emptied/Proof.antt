@@ -1,6 +1,6 @@
 -- `answers::emptied` meets its contract: done, or refused. Assumes nothing.
 use borrow.Author.Rules.{rules}
-use Rattle.message_words.proofs.Saying.{says-one}
+use Rattle.message_words.proofs.Saying.{says_one}
 use Rattle.session_print.proofs.answers.emptied.Statement.{statement}
 use Rattle.session_print.proofs.answers.emptied.Tie as tie
 
@@ -23,7 +23,7 @@ same_length : tie.Need-same-length
 same_length c = search rules
 
 returns : tie.Need-returns
-returns c = rw c.before.before.before.before.before.enum_told.given.1 (says-one c.before.before.put.ensures)
+returns c = rw c.before.before.before.before.before.enum_told.given.1 (says_one c.before.before.put.ensures)
 
 same-length-2 : tie.Need-same-length-2
 same-length-2 c = search rules

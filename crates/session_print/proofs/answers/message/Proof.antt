@@ -1,7 +1,7 @@
 -- `answers::message` meets its contract: the label, and the bytes behind it. Assumes nothing.
 use borrow.Author.Rules.{rules}
 use native.Mathlib.Omega.{arith}
-use Rattle.session_print.proofs.Showing.{message-part, message-all}
+use Rattle.session_print.proofs.Showing.{message_part, message_all}
 use Rattle.session_print.proofs.answers.message.Statement.{statement}
 use Rattle.session_print.proofs.answers.message.Tie as tie
 
@@ -24,7 +24,7 @@ same_length : tie.Need-same-length
 same_length c = search rules
 
 returns : tie.Need-returns
-returns c = let args = c.before.before.before.before.before.before.before.before.before.before.before.before.before.args in message-part args.count args.lent.now c.before.before.before.before.before.before.before.before.put.ensures c.before.before.put-bytes.ensures
+returns c = let args = c.before.before.before.before.before.before.before.before.before.before.before.before.before.args in message_part args.count args.lent.now c.before.before.before.before.before.before.before.before.put.ensures c.before.before.put-bytes.ensures
 
 put-bytes-requires-2 : tie.Need-put-bytes-requires-2
 put-bytes-requires-2 c κs = search rules
@@ -35,7 +35,7 @@ same-length-2 c = search rules
 returns-2 : tie.Need-returns-2
 returns-2 c =
     let args = c.before.before.before.before.before.before.before.before.before.before.before.before.args in
-    message-all args.count args.lent.now c.before.before.before.before.before.before.before.put.ensures (omega arith) c.before.before.put-bytes2.ensures
+    message_all args.count args.lent.now c.before.before.before.before.before.before.before.put.ensures (omega arith) c.before.before.put-bytes2.ensures
 
 pub message-spec : {M : Type 1} → statement M
 message-spec =

@@ -29,7 +29,7 @@ returns : tie.Need-returns
 returns c =
     let at-control-written = c.before.before.before.before in
     let at-enum-told = at-control-written.before.before.before in
-    rw at-enum-told.enum_told.given.1 at-control-written.control-written.ensures
+    rw at-enum-told.enum_told.given.1 at-control-written.control_written_lem.ensures
 
 returns-2 : tie.Need-returns-2
 returns-2 c = rw c.enum-told2.given.1 (says_none _ _)

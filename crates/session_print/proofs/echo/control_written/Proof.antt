@@ -1,6 +1,6 @@
 -- `echo::control_written` meets its contract: the writer's outcome, said. Assumes nothing.
 use borrow.Author.Rules.{rules}
-use Rattle.session_print.proofs.Writing.{count-within, says-outcome}
+use Rattle.session_print.proofs.Writing.{count_within, says_outcome}
 use Rattle.session_print.proofs.echo.control_written.Statement.{statement}
 use Rattle.session_print.proofs.echo.control_written.Tie as tie
 
@@ -10,7 +10,7 @@ write-requires c κs = search rules
 outcome-requires : tie.Need-outcome-requires
 outcome-requires c κs =
     let at-write = c.before.before.before.before in
-    count-within at-write.write.ensures
+    count_within at-write.write.ensures
 
 same_length : tie.Need-same-length
 same_length c = search rules
@@ -22,7 +22,7 @@ returns : tie.Need-returns
 returns c =
     let at-outcome = c.before.before in
     let at-write = at-outcome.before.before.before.before.before in
-    says-outcome at-write.write.ensures at-outcome.outcome.ensures
+    says_outcome at-write.write.ensures at-outcome.outcome.ensures
 
 pub control-written-spec : {M : Type 1} → statement M
 control-written-spec =

@@ -1,7 +1,7 @@
 -- `echo::echoing` meets its contract, by the plane. Assumes nothing.
 use borrow.Author.Rules.{rules}
 use mathlib.Core.Path.{sym, ◌∙◌}
-use Rattle.session_print.proofs.Planes.{says-control, says-data, says-refused}
+use Rattle.session_print.proofs.Planes.{says_control, says_data, says_refused_lem}
 use Rattle.session_print.proofs.echo.echoing.Statement.{statement}
 use Rattle.session_print.proofs.echo.echoing.Tie as tie
 
@@ -47,7 +47,7 @@ returns c =
     let at_read = at-control-echoed.before.before.before in
     let at-enum-told = at_read.before in
     let at-plane = at-enum-told.before.before in
-    says-control _ _ _ _ _ (sym at-plane.plane.ensures ∙ at-enum-told.enum_told.given.1) at_read.read.ensures at-control-echoed.control-echoed.ensures
+    says_control _ _ _ _ _ (sym at-plane.plane.ensures ∙ at-enum-told.enum_told.given.1) at_read.read.ensures at-control-echoed.control-echoed.ensures
 
 same-length-3 : tie.Need-same-length-3
 same-length-3 c = search rules
@@ -62,7 +62,7 @@ returns-2 c =
     let at-read2 = at-packet.before in
     let at-enum-told2 = at-read2.before in
     let at-plane = at-enum-told2.before.before in
-    says-data _ _ _ _ _ (sym at-plane.plane.ensures ∙ at-enum-told2.enum-told2.given.1) at-read2.read2.ensures at-packet.packet.ensures at-data-echoed.data-echoed.ensures
+    says_data _ _ _ _ _ (sym at-plane.plane.ensures ∙ at-enum-told2.enum-told2.given.1) at-read2.read2.ensures at-packet.packet.ensures at-data-echoed.data-echoed.ensures
 
 same-length-5 : tie.Need-same-length-5
 same-length-5 c = search rules
@@ -70,9 +70,9 @@ same-length-5 c = search rules
 returns-3 : tie.Need-returns-3
 returns-3 c =
     let at-refused = c.before.before in
-    let at-refusal = at-refused.before.before.before in
-    let at-plane = at-refusal.before.before in
-    says-refused _ _ _ _ _ (sym at-plane.plane.ensures ∙ at-refusal.refusal.given.1) at-refused.refused.ensures
+    let at_refusal = at-refused.before.before.before in
+    let at-plane = at_refusal.before.before in
+    says_refused_lem _ _ _ _ _ (sym at-plane.plane.ensures ∙ at_refusal.refusal.given.1) at-refused.refused.ensures
 
 pub echoing-spec : {M : Type 1} → statement M
 echoing-spec =

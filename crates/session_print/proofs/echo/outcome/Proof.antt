@@ -1,7 +1,7 @@
 -- `echo::outcome` meets its contract, by the answer. Assumes nothing.
 use borrow.Author.Rules.{rules}
 use native.Mathlib.Omega.{arith}
-use Rattle.session_print.proofs.Writing.{says-written}
+use Rattle.session_print.proofs.Writing.{says_written}
 use Rattle.session_print.proofs.echo.outcome.Statement.{statement}
 use Rattle.session_print.proofs.echo.outcome.Tie as tie
 
@@ -44,7 +44,7 @@ returns c =
     let at-put = at-put-bytes.before.before.before.before.before in
     let at-answer = at-put.before.before.before.before in
     let entry = at-answer.before.before.before.before in
-    rw at-answer.answer.given.1 (says-written entry.args.lent.now at-answer.answer.given.0.0.0 at-put.put.ensures at-put-bytes.put-bytes.ensures)
+    rw at-answer.answer.given.1 (says_written entry.args.lent.now at-answer.answer.given.0.0.0 at-put.put.ensures at-put-bytes.put-bytes.ensures)
 
 same-length-2 : tie.Need-same-length-2
 same-length-2 c = search rules

@@ -1,6 +1,6 @@
 -- `messages::bad_line` meets its contract: one text. Assumes nothing.
 use borrow.Author.Rules.{rules}
-use Rattle.message_words.proofs.Saying.{says-one}
+use Rattle.message_words.proofs.Saying.{says_one}
 use Rattle.session_print.proofs.messages.bad_line.Statement.{statement}
 use Rattle.session_print.proofs.messages.bad_line.Tie as tie
 
@@ -16,7 +16,7 @@ same_length c = search rules
 returns : tie.Need-returns
 returns c =
     let at-put = c.before.before in
-    says-one at-put.put.ensures
+    says_one at-put.put.ensures
 
 pub bad-line-spec : {M : Type 1} → statement M
 bad-line-spec = tie.close (tie.spec slice-aggregate-put put-requires same_length returns)

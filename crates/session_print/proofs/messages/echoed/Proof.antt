@@ -1,6 +1,6 @@
 -- `messages::echoed` meets its contract: the part of the output is as long as ROOM, or all of it. Assumes nothing.
 use mathlib.Core.Path.{◌∙◌}
-use Rattle.message_words.proofs.Saying.{part-size}
+use Rattle.message_words.proofs.Saying.{part_size}
 use borrow.Author.Rules.{rules}
 use Rattle.session_print.proofs.messages.echoed.Statement.{statement}
 use Rattle.session_print.proofs.messages.echoed.Tie as tie
@@ -27,7 +27,7 @@ same-length-2 : tie.Need-same-length-2
 same-length-2 c = search rules
 
 returns : tie.Need-returns
-returns c = rw (part-size c.before.before.before.before.before.before.before.before.before.before.before.args.output.now c.before.before.before.before.before.before.before.least.result c.before.before.before.before.before.before.before.before.before.before.before.args.room c.before.before.before.before.before.before.before.least.ensures ∙ c.before.before.before.before.before.before.before.least.ensures) at c.before.before.before.before.echoing.ensures
+returns c = rw (part_size c.before.before.before.before.before.before.before.before.before.before.before.args.output.now c.before.before.before.before.before.before.before.least.result c.before.before.before.before.before.before.before.before.before.before.before.args.room c.before.before.before.before.before.before.before.least.ensures ∙ c.before.before.before.before.before.before.before.least.ensures) at c.before.before.before.before.echoing.ensures
 
 pub echoed-spec : {M : Type 1} → statement M
 echoed-spec =

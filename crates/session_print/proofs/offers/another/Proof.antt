@@ -1,6 +1,6 @@
 -- `offers::another` meets its contract. Assumes nothing.
 use borrow.Author.Rules.{rules}
-use Rattle.message_words.proofs.Saying.{says-one, says_then}
+use Rattle.message_words.proofs.Saying.{says_one, says_then}
 use Rattle.session_print.proofs.offers.another.Statement.{statement}
 use Rattle.session_print.proofs.offers.another.Tie as tie
 
@@ -20,7 +20,7 @@ same_length : tie.Need-same-length
 same_length c = search rules
 
 returns : tie.Need-returns
-returns c = says_then (says-one c.before.before.before.before.before.before.before.put.ensures) (rw c.before.before.before.answer-of.ensures at c.before.before.offered.ensures)
+returns c = says_then (says_one c.before.before.before.before.before.before.before.put.ensures) (rw c.before.before.before.answer-of.ensures at c.before.before.offered.ensures)
 
 pub another-spec : {M : Type 1} → statement M
 another-spec =

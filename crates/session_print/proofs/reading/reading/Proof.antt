@@ -1,7 +1,7 @@
 -- `reading::reading` meets its contract, by the plane. Assumes nothing.
 use borrow.Author.Rules.{rules}
 use mathlib.Core.Path.{sym, ◌∙◌}
-use Rattle.session_print.proofs.Planes.{says-control, says-data, says-refused}
+use Rattle.session_print.proofs.Planes.{says_control, says_data, says_refused_lem}
 use Rattle.session_print.proofs.reading.reading.Statement.{statement}
 use Rattle.session_print.proofs.reading.reading.Tie as tie
 
@@ -44,7 +44,7 @@ returns c =
     let at_read = at-control-said.before.before in
     let at-enum-told = at_read.before in
     let at-plane = at-enum-told.before.before in
-    says-control _ _ _ _ _ (sym at-plane.plane.ensures ∙ at-enum-told.enum_told.given.1) at_read.read.ensures at-control-said.control-said.ensures
+    says_control _ _ _ _ _ (sym at-plane.plane.ensures ∙ at-enum-told.enum_told.given.1) at_read.read.ensures at-control-said.control_said.ensures
 
 same-length-2 : tie.Need-same-length-2
 same-length-2 c = search rules
@@ -56,7 +56,7 @@ returns-2 c =
     let at-read2 = at-packet.before in
     let at-enum-told2 = at-read2.before in
     let at-plane = at-enum-told2.before.before in
-    says-data _ _ _ _ _ (sym at-plane.plane.ensures ∙ at-enum-told2.enum-told2.given.1) at-read2.read2.ensures at-packet.packet.ensures at-data-said.data-said.ensures
+    says_data _ _ _ _ _ (sym at-plane.plane.ensures ∙ at-enum-told2.enum-told2.given.1) at-read2.read2.ensures at-packet.packet.ensures at-data-said.data_said_lem.ensures
 
 same-length-3 : tie.Need-same-length-3
 same-length-3 c = search rules
@@ -64,9 +64,9 @@ same-length-3 c = search rules
 returns-3 : tie.Need-returns-3
 returns-3 c =
     let at-refused = c.before.before in
-    let at-refusal = at-refused.before.before.before in
-    let at-plane = at-refusal.before.before in
-    says-refused _ _ _ _ _ (sym at-plane.plane.ensures ∙ at-refusal.refusal.given.1) at-refused.refused.ensures
+    let at_refusal = at-refused.before.before.before in
+    let at-plane = at_refusal.before.before in
+    says_refused_lem _ _ _ _ _ (sym at-plane.plane.ensures ∙ at_refusal.refusal.given.1) at-refused.refused.ensures
 
 pub reading-spec : {M : Type 1} → statement M
 reading-spec =

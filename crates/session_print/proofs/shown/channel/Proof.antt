@@ -1,7 +1,7 @@
 -- `shown::channel` meets its contract: the parts, one behind another. Assumes nothing.
 use borrow.Author.Rules.{rules}
 use Rattle.message_words.proofs.Saying.{says_then}
-use Rattle.session_print.specs.Shown.{channelTexts}
+use Rattle.session_print.specs.Shown.{channel_texts}
 use Rattle.session_print.proofs.shown.channel.Statement.{statement}
 use Rattle.session_print.proofs.shown.channel.Tie as tie
 
@@ -42,7 +42,7 @@ same_length : tie.Need-same-length
 same_length c = search rules
 
 returns : tie.Need-returns
-unfolding channelTexts
+unfolding channel_texts
 returns c =
     let at-waiting = c.before.before in
     let at-latest = at-waiting.before.before.before.before in

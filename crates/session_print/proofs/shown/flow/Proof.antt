@@ -1,6 +1,6 @@
 -- `shown::flow` meets its contract, case by case. Assumes nothing.
 use borrow.Author.Rules.{rules}
-use Rattle.message_words.proofs.Saying.{says-one}
+use Rattle.message_words.proofs.Saying.{says_one}
 use Rattle.session_print.proofs.shown.flow.Statement.{statement}
 use Rattle.session_print.proofs.shown.flow.Tie as tie
 
@@ -38,13 +38,13 @@ same_length : tie.Need-same-length
 same_length c = search rules
 
 returns : tie.Need-returns
-returns c = rw c.before.before.before.before.before.enum_told.given.1 (says-one c.before.before.put.ensures)
+returns c = rw c.before.before.before.before.before.enum_told.given.1 (says_one c.before.before.put.ensures)
 
 same-length-2 : tie.Need-same-length-2
 same-length-2 c = search rules
 
 returns-2 : tie.Need-returns-2
-returns-2 c = rw c.before.before.before.before.before.enum-told2.given.1 (says-one c.before.before.put2.ensures)
+returns-2 c = rw c.before.before.before.before.before.enum-told2.given.1 (says_one c.before.before.put2.ensures)
 
 same-length-3 : tie.Need-same-length-3
 same-length-3 c = search rules

@@ -1,6 +1,6 @@
 -- `shown::held` meets its contract: the label, and the bytes behind it. Assumes nothing.
 use borrow.Author.Rules.{rules}
-use Rattle.message_words.proofs.Saying.{says-one, says_then}
+use Rattle.message_words.proofs.Saying.{says_one, says_then}
 use Rattle.session_print.proofs.shown.held.Statement.{statement}
 use Rattle.session_print.proofs.shown.held.Tie as tie
 
@@ -17,7 +17,7 @@ same_length : tie.Need-same-length
 same_length c = search rules
 
 returns : tie.Need-returns
-returns c = says_then (says-one c.before.before.before.before.before.before.put.ensures) (says-one c.before.before.put-bytes.ensures)
+returns c = says_then (says_one c.before.before.before.before.before.before.put.ensures) (says_one c.before.before.put-bytes.ensures)
 
 pub held_spec : {M : Type 1} → statement M
 held_spec =

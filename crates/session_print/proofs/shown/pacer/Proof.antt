@@ -1,7 +1,7 @@
 -- `shown::pacer` meets its contract: the parts, one behind another. Assumes nothing.
 use borrow.Author.Rules.{rules}
 use Rattle.message_words.proofs.Saying.{says_then}
-use Rattle.session_print.specs.Shown.{pacerTexts}
+use Rattle.session_print.specs.Shown.{pacer_texts}
 use Rattle.session_print.proofs.shown.pacer.Statement.{statement}
 use Rattle.session_print.proofs.shown.pacer.Tie as tie
 
@@ -21,7 +21,7 @@ same_length : tie.Need-same-length
 same_length c = search rules
 
 returns : tie.Need-returns
-unfolding pacerTexts
+unfolding pacer_texts
 returns c =
     let at-paired = c.before.before in
     let at-labelled = at-paired.before.before.before.before.before in

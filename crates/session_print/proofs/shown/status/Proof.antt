@@ -1,6 +1,6 @@
 -- `shown::status` meets its contract: not reported, or the number. Assumes nothing.
 use borrow.Author.Rules.{rules}
-use Rattle.message_words.proofs.Saying.{says-one}
+use Rattle.message_words.proofs.Saying.{says_one}
 use Rattle.session_print.proofs.shown.status.Statement.{statement}
 use Rattle.session_print.proofs.shown.status.Tie as tie
 
@@ -29,7 +29,7 @@ same_length : tie.Need-same-length
 same_length c = search rules
 
 returns : tie.Need-returns
-returns c = rw c.before.before.before.before.before.enum_told.given.1 (says-one c.before.before.put.ensures)
+returns c = rw c.before.before.before.before.before.enum_told.given.1 (says_one c.before.before.put.ensures)
 
 same-length-2 : tie.Need-same-length-2
 same-length-2 c = search rules

@@ -1,7 +1,7 @@
 -- `configuration::behind` meets its contract. Assumes nothing.
 use borrow.Author.Rules.{rules}
 use borrow.Author.Tests.{eq-eqb, ne_eqb}
-use Rattle.session_read.specs.Start.{behindKeyword}
+use Rattle.session_read.specs.Start.{behind_keyword}
 use Rattle.session_read.proofs.configuration.behind.Statement.{statement}
 use Rattle.session_read.proofs.configuration.behind.Tie as tie
 
@@ -15,7 +15,7 @@ add-result : tie.Need-overflow-add-result
 add-result c = search rules
 
 returns : tie.Need-returns
-unfolding behindKeyword
+unfolding behind_keyword
 returns c = rw (eq-eqb _ 1 c.if1.true)
 
 add-result-2 : tie.Need-overflow-add-result-2
@@ -25,7 +25,7 @@ add-result-3 : tie.Need-overflow-add-result-3
 add-result-3 c = search rules
 
 returns-2 : tie.Need-returns-2
-unfolding behindKeyword
+unfolding behind_keyword
 returns-2 c = rw (ne_eqb _ 1 c.if1.false)
 
 pub behind-spec : {M : Type 1} → statement M

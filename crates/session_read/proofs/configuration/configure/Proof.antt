@@ -1,8 +1,8 @@
 -- `configuration::configure` meets its contract. Assumes nothing.
 use borrow.Author.Rules.{rules}
 use native.Mathlib.Omega.{arith}
-use Rattle.session_read.specs.Start.{helloOf, limitOf}
-use Rattle.session_read.proofs.Configuring.{pace-fits, headed-long, configured}
+use Rattle.session_read.specs.Start.{hello_of, limit_of}
+use Rattle.session_read.proofs.Configuring.{pace_fits, headed_long, configured}
 use Rattle.session_read.proofs.configuration.configure.Statement.{statement}
 use Rattle.session_read.proofs.configuration.configure.Tie as tie
 
@@ -13,10 +13,10 @@ pace-place-requires : tie.Need-pace-place-requires
 pace-place-requires c κs = search rules
 
 perhaps-requires : tie.Need-perhaps-requires
-perhaps-requires c κs = omega (arith, c.pace-place.ensures, pace-fits c.before.before.requires.0)
+perhaps-requires c κs = omega (arith, c.pace-place.ensures, pace_fits c.before.before.requires.0)
 
 perhaps-requires-2 : tie.Need-perhaps-requires-2
-perhaps-requires-2 c κs = omega (arith, c.before.pace-place.ensures, pace-fits c.before.before.before.requires.0)
+perhaps-requires-2 c κs = omega (arith, c.before.pace-place.ensures, pace_fits c.before.before.before.requires.0)
 
 element-copy-out-write-head : tie.Need-element-copy-out-write-head
 element-copy-out-write-head c = search rules
@@ -36,10 +36,10 @@ mul-lay c = search rules
 lay-requires : tie.Need-lay-requires
 lay-requires c κs =
     let start = c.before.before.before.before.before.before.before.before.before.before in
-    (omega (arith, start.requires.0.few), (omega (arith, start.requires.0.few), headed-long start.args.words.now start.requires.1 c.before.before.write-head.ensures))
+    (omega (arith, start.requires.0.few), (omega (arith, start.requires.0.few), headed_long start.args.words.now start.requires.1 c.before.before.write-head.ensures))
 
 returns : tie.Need-returns
-unfolding helloOf limitOf
+unfolding hello_of limit_of
 returns c =
     let placed = c.before.before.before.before.before.before.before.before.before in
     let hello = rw placed.pace-place.ensures at c.before.before.before.before.before.before.before.before.perhaps.ensures in

@@ -1,7 +1,7 @@
 -- `offers::lay_lists` meets its contract. Assumes nothing.
 use borrow.Author.Rules.{rules}
 use native.Mathlib.Omega.{arith}
-use Rattle.session_read.proofs.Offering.{counts-few, one-long, two-long, listed}
+use Rattle.session_read.proofs.Offering.{counts_few, one_long, two_long, listed}
 use Rattle.session_read.proofs.offers.lay_lists.Statement.{statement}
 use Rattle.session_read.proofs.offers.lay_lists.Tie as tie
 
@@ -11,7 +11,7 @@ counts-requires c κs = search rules
 add-two : tie.Need-overflow-add-two
 add-two c =
     let counted = c.before in
-    let few = counts-few _ counted.counts.ensures counted.before.requires.0 in
+    let few = counts_few _ counted.counts.ensures counted.before.requires.0 in
     omega (arith, few.0, few.1, few.2)
 
 add-lay : tie.Need-overflow-add-lay
@@ -20,44 +20,44 @@ add-lay c = search rules
 lay-requires : tie.Need-lay-requires
 lay-requires c κs =
     let counted = c.before.before in
-    let few = counts-few _ counted.counts.ensures counted.before.requires.0 in
+    let few = counts_few _ counted.counts.ensures counted.before.requires.0 in
     (omega (arith, few.0, few.1, few.2), (omega (arith, few.0, few.1, few.2), counted.before.requires.1))
 
 add-lay-2 : tie.Need-overflow-add-lay-2
 add-lay-2 c =
     let counted = c.before.before.before.before.before in
-    let few = counts-few _ counted.counts.ensures counted.before.requires.0 in
+    let few = counts_few _ counted.counts.ensures counted.before.requires.0 in
     omega (arith, few.0, few.1, few.2)
 
 add-lay-3 : tie.Need-overflow-add-lay-3
 add-lay-3 c =
     let counted = c.before.before.before.before.before in
-    let few = counts-few _ counted.counts.ensures counted.before.requires.0 in
+    let few = counts_few _ counted.counts.ensures counted.before.requires.0 in
     omega (arith, few.0, few.1, few.2)
 
 lay-requires-2 : tie.Need-lay-requires-2
 lay-requires-2 c κs =
     let counted = c.before.before.before.before.before in
-    let few = counts-few _ counted.counts.ensures counted.before.requires.0 in
-    (omega (arith, few.0, few.1, few.2), (omega (arith, few.0, few.1, few.2), one-long _ counted.counts.ensures counted.before.requires.0 counted.before.args.words.now counted.before.requires.1 c.before.before.lay.ensures))
+    let few = counts_few _ counted.counts.ensures counted.before.requires.0 in
+    (omega (arith, few.0, few.1, few.2), (omega (arith, few.0, few.1, few.2), one_long _ counted.counts.ensures counted.before.requires.0 counted.before.args.words.now counted.before.requires.1 c.before.before.lay.ensures))
 
 add-lay-4 : tie.Need-overflow-add-lay-4
 add-lay-4 c =
     let counted = c.before.before.before.before.before.before.before in
-    let few = counts-few _ counted.counts.ensures counted.before.requires.0 in
+    let few = counts_few _ counted.counts.ensures counted.before.requires.0 in
     omega (arith, few.0, few.1, few.2)
 
 add-lay-5 : tie.Need-overflow-add-lay-5
 add-lay-5 c =
     let counted = c.before.before.before.before.before.before.before in
-    let few = counts-few _ counted.counts.ensures counted.before.requires.0 in
+    let few = counts_few _ counted.counts.ensures counted.before.requires.0 in
     omega (arith, few.0, few.1, few.2)
 
 lay-requires-3 : tie.Need-lay-requires-3
 lay-requires-3 c κs =
     let counted = c.before.before.before.before.before.before.before in
-    let few = counts-few _ counted.counts.ensures counted.before.requires.0 in
-    (omega (arith, few.0, few.1, few.2), (omega (arith, few.0, few.1, few.2), two-long _ counted.counts.ensures counted.before.requires.0 counted.before.args.words.now counted.before.requires.1 c.before.before.before.before.lay.ensures c.before.lay2.ensures))
+    let few = counts_few _ counted.counts.ensures counted.before.requires.0 in
+    (omega (arith, few.0, few.1, few.2), (omega (arith, few.0, few.1, few.2), two_long _ counted.counts.ensures counted.before.requires.0 counted.before.args.words.now counted.before.requires.1 c.before.before.before.before.lay.ensures c.before.lay2.ensures))
 
 returns : tie.Need-returns
 returns c =

@@ -1,6 +1,6 @@
 -- `start::memory` meets its contract. Assumes nothing.
 use borrow.Author.Rules.{rules}
-use Rattle.session_read.specs.Start.{memoryOf}
+use Rattle.session_read.specs.Start.{memory_of}
 use Rattle.session_read.proofs.start.memory.Statement.{statement}
 use Rattle.session_read.proofs.start.memory.Tie as tie
 
@@ -14,7 +14,7 @@ perhaps-requires : tie.Need-perhaps-requires
 perhaps-requires c κs = search rules
 
 returns : tie.Need-returns
-unfolding memoryOf
+unfolding memory_of
 returns c = rw (← c.before.before.memory-place.ensures, ← c.before.stores.ensures) c.perhaps.ensures
 
 pub memory-spec : {M : Type 1} → statement M

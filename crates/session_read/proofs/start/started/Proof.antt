@@ -1,6 +1,6 @@
 -- `start::started` meets its contract. Assumes nothing.
 use borrow.Author.Rules.{rules}
-use Rattle.session_read.specs.Start.{startFrom}
+use Rattle.session_read.specs.Start.{start_from}
 use Rattle.session_read.proofs.start.started.Statement.{statement}
 use Rattle.session_read.proofs.start.started.Tie as tie
 
@@ -17,7 +17,7 @@ memory-requires : tie.Need-memory-requires
 memory-requires c κs = search rules
 
 returns : tie.Need-returns
-unfolding startFrom
+unfolding start_from
 returns c = rw c.memory.ensures
 
 pub started-spec : {M : Type 1} → statement M

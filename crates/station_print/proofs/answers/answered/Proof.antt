@@ -1,6 +1,6 @@
 -- `answers::answered` meets its contract, answer by answer. Assumes nothing.
 use borrow.Author.Rules.{rules}
-use Rattle.message_words.proofs.Saying.{says-one}
+use Rattle.message_words.proofs.Saying.{says_one}
 use Rattle.station_print.proofs.answers.answered.Statement.{statement}
 use Rattle.station_print.proofs.answers.answered.Tie as tie
 
@@ -47,7 +47,7 @@ same-length-3 : tie.Need-same-length-3
 same-length-3 c = search rules
 
 returns-3 : tie.Need-returns-3
-returns-3 c = rw c.before.before.before.before.enum_told.given.1 (says-one c.before.before.put.ensures)
+returns-3 c = rw c.before.before.before.before.enum_told.given.1 (says_one c.before.before.put.ensures)
 
 same-length-4 : tie.Need-same-length-4
 same-length-4 c = search rules

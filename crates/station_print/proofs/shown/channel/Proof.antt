@@ -1,7 +1,7 @@
 -- `shown::channel` meets its contract: the parts, one behind another. Assumes nothing.
 use borrow.Author.Rules.{rules}
 use Rattle.message_words.proofs.Saying.{says_then}
-use Rattle.station_print.specs.Shown.{channelTexts}
+use Rattle.station_print.specs.Shown.{channel_texts}
 use Rattle.station_print.proofs.shown.channel.Statement.{statement}
 use Rattle.station_print.proofs.shown.channel.Tie as tie
 
@@ -42,7 +42,7 @@ same_length : tie.Need-same-length
 same_length c = search rules
 
 returns : tie.Need-returns
-unfolding channelTexts
+unfolding channel_texts
 returns c = says_then c.before.before.before.before.before.before.before.before.before.before.before.before.before.before.before.before.before.before.before.before.before.before.labelled.ensures (says_then c.before.before.before.before.before.before.before.before.before.before.before.before.before.before.before.before.labelled2.ensures (says_then (rw c.before.before.before.before.before.before.before.before.before.before.before.before.window.ensures at c.before.before.before.before.before.before.before.before.before.before.before.window2.ensures) (says_then c.before.before.before.before.before.before.before.highest.ensures c.before.before.labelled3.ensures)))
 
 pub channel-spec : {M : Type 1} → statement M

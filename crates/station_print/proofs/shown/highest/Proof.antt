@@ -1,6 +1,6 @@
 -- `shown::highest` meets its contract: none heard, or the number. Assumes nothing.
 use borrow.Author.Rules.{rules}
-use Rattle.message_words.proofs.Saying.{says-one}
+use Rattle.message_words.proofs.Saying.{says_one}
 use Rattle.station_print.proofs.shown.highest.Statement.{statement}
 use Rattle.station_print.proofs.shown.highest.Tie as tie
 
@@ -29,7 +29,7 @@ same_length : tie.Need-same-length
 same_length c = search rules
 
 returns : tie.Need-returns
-returns c = rw c.before.before.before.before.before.enum_told.given.1 (says-one c.before.before.put.ensures)
+returns c = rw c.before.before.before.before.before.enum_told.given.1 (says_one c.before.before.put.ensures)
 
 same-length-2 : tie.Need-same-length-2
 same-length-2 c = search rules

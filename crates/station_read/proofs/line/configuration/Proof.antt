@@ -2,7 +2,7 @@
 use borrow.Author.Rules.{rules}
 use native.Mathlib.Omega.{arith}
 use Prim.Native.Nat.{◌+◌, ◌*◌}
-use Rattle.station_read.proofs.Lines.{all-numbers, first-numbers}
+use Rattle.station_read.proofs.Lines.{all_numbers, first_numbers}
 use Rattle.station_read.proofs.line.configuration.Statement.{statement}
 use Rattle.station_read.proofs.line.configuration.Tie as tie
 
@@ -16,7 +16,7 @@ part-result-end : tie.Need-slice-bounds-result-end
 part-result-end c = search rules
 
 returns : tie.Need-returns
-returns c = all-numbers c.before.before.args.numbers.now (2 + 4 * c.before.before.args.channels) (omega arith)
+returns c = all_numbers c.before.before.args.numbers.now (2 + 4 * c.before.before.args.channels) (omega arith)
 
 sub-if2 : tie.Need-overflow-sub-if2
 sub-if2 c = search rules
@@ -31,7 +31,7 @@ part-result-end-2 : tie.Need-slice-bounds-result-end-2
 part-result-end-2 c = search rules
 
 returns-2 : tie.Need-returns-2
-returns-2 c = all-numbers c.before.before.before.args.numbers.now (2 + 4 * c.before.before.before.args.channels) (omega arith)
+returns-2 c = all_numbers c.before.before.before.args.numbers.now (2 + 4 * c.before.before.before.args.channels) (omega arith)
 
 mul-end : tie.Need-overflow-mul-end
 mul-end c = search rules
@@ -49,7 +49,7 @@ part-result-end-3 : tie.Need-slice-bounds-result-end-3
 part-result-end-3 c = search rules
 
 returns-3 : tie.Need-returns-3
-returns-3 c = first-numbers c.before.before.before.args.numbers.now (2 + 4 * c.before.before.before.args.channels)
+returns-3 c = first_numbers c.before.before.before.args.numbers.now (2 + 4 * c.before.before.before.args.channels)
 
 pub configuration-spec : {M : Type 1} → statement M
 configuration-spec =

@@ -1,16 +1,16 @@
 -- `laying::magnitude` meets its contract, by the sign of the number. Assumes nothing.
 use mathlib.Core.Path.{sym, ◌∙◌}
-use Rattle.text.proofs.Signs.{sign-is, positive, Negative, negative}
+use Rattle.text.proofs.Signs.{sign_is, positive, Negative, negative}
 use native.Mathlib.Omega.{arith}
 use borrow.Author.Rules.{rules}
 use Rattle.text.proofs.laying.magnitude.Statement.{statement}
 use Rattle.text.proofs.laying.magnitude.Tie as tie
 
 below : (c : tie.Else1) → Negative c.before.args.value
-below c = negative _ c.before.ranges.value (sym (sign-is _ c.before.ranges.value) ∙ c.if1.false)
+below c = negative _ c.before.ranges.value (sym (sign_is _ c.before.ranges.value) ∙ c.if1.false)
 
 cast-result : tie.Need-overflow-cast-result
-cast-result c = positive _ c.before.ranges.value (sym (sign-is _ c.before.ranges.value) ∙ c.if1.true)
+cast-result c = positive _ c.before.ranges.value (sym (sign_is _ c.before.ranges.value) ∙ c.if1.true)
 
 returns : tie.Need-returns
 returns c = search rules

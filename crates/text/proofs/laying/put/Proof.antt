@@ -1,18 +1,18 @@
 -- `laying::put` meets its contract: a text with no room is left out, any other is copied behind the cursor. Assumes nothing.
 use native.Mathlib.Omega.{arith}
-use Rattle.text.proofs.Writing.{lays-none, lays-copy}
+use Rattle.text.proofs.Writing.{lays_none, lays_copy}
 use borrow.Author.Rules.{rules}
 use Rattle.text.proofs.laying.put.Statement.{statement}
 use Rattle.text.proofs.laying.put.Tie as tie
 
 returns : tie.Need-returns
-returns c = lays-none _ _ _ (omega arith)
+returns c = lays_none _ _ _ (omega arith)
 
 sub-if2 : tie.Need-overflow-sub-if2
 sub-if2 c = search rules
 
 returns-2 : tie.Need-returns-2
-returns-2 c = lays-none _ _ _ (omega arith)
+returns-2 c = lays_none _ _ _ (omega arith)
 
 sub-copy : tie.Need-overflow-sub-copy
 sub-copy c = search rules
@@ -33,7 +33,7 @@ same_length : tie.Need-same-length
 same_length c = search rules
 
 returns-3 : tie.Need-returns-3
-returns-3 c = let copied = c.before.before.copy.ensures in lays-copy _ _ _ _ _ (omega arith) copied.0 copied.1
+returns-3 c = let copied = c.before.before.copy.ensures in lays_copy _ _ _ _ _ (omega arith) copied.0 copied.1
 
 pub put_spec : {M : Type 1} → statement M
 put_spec =

@@ -4,15 +4,15 @@ use native.Mathlib.Omega.{arith}
 use mathlib.Core.Path.{sym}
 use lib.ListN.{length}
 use lib.Seq.{length-take-le}
-use Rattle.text.specs.Laying.{decimalText}
-use Rattle.text.proofs.Decimals.{decimal-most}
-use Rattle.text.proofs.Writing.{lays-as, lays-inside, lays-front}
+use Rattle.text.specs.Laying.{decimal_text}
+use Rattle.text.proofs.Decimals.{decimal_most}
+use Rattle.text.proofs.Writing.{lays_as, lays_inside, lays_front}
 use borrow.Author.Rules.{rules}
 use Rattle.text.proofs.laying.put_negative.Statement.{statement}
 use Rattle.text.proofs.laying.put_negative.Tie as tie
 
-room : (c : tie.Start) → 1 + length (decimalText c.args.value) ≤ 21
-room c = omega (arith, decimal-most c.args.value 20 (omega arith) (omega arith) (omega arith))
+room : (c : tie.Start) → 1 + length (decimal_text c.args.value) ≤ 21
+room c = omega (arith, decimal_most c.args.value 20 (omega arith) (omega arith) (omega arith))
 
 slice-aggregate-put-number : tie.Need-slice-aggregate-put-number
 slice-aggregate-put-number c = search rules
@@ -21,7 +21,7 @@ put-number-requires : tie.Need-put-number-requires
 put-number-requires c κs = search rules
 
 array-share-prefix-text : tie.Need-array-share-prefix-text
-array-share-prefix-text c = lays-inside (omega arith) c.before.before.put-number.ensures
+array-share-prefix-text c = lays_inside (omega arith) c.before.before.put-number.ensures
 
 slice-aggregate-put : tie.Need-slice-aggregate-put
 slice-aggregate-put c = sym (length-take-le _ _ (array-share-prefix-text c.before))
@@ -35,7 +35,7 @@ same_length c = search rules
 returns : tie.Need-returns
 returns c =
     let filled = c.before.before.before.before.before.before in
-    lays-as (lays-front (room filled.before.before.before) filled.put-number.ensures) c.before.before.put.ensures
+    lays_as (lays_front (room filled.before.before.before) filled.put-number.ensures) c.before.before.put.ensures
 
 pub put-negative-spec : {M : Type 1} → statement M
 put-negative-spec =

@@ -1,8 +1,8 @@
 -- `laying::put_number` meets its contract: what `io::decimal` writes is the number in decimal. Assumes nothing.
-use Rattle.text.proofs.Writing.{lays-as}
+use Rattle.text.proofs.Writing.{lays_as}
 use native.Mathlib.Omega.{arith}
 use mathlib.Core.Path.{◌∙◌}
-use Rattle.text.proofs.Decimals.{decimal-is}
+use Rattle.text.proofs.Decimals.{decimal_is}
 use borrow.Author.Rules.{rules}
 use Rattle.text.proofs.laying.put_number.Statement.{statement}
 use Rattle.text.proofs.laying.put_number.Tie as tie
@@ -25,7 +25,7 @@ same_length c = search rules
 returns : tie.Need-returns
 returns c =
     let written = c.before.before.before.before.before.decimal.ensures.1 in
-    lays-as (written.1 ∙ decimal-is _ _ (omega arith) written.0) c.before.before.put.ensures
+    lays_as (written.1 ∙ decimal_is _ _ (omega arith) written.0) c.before.before.put.ensures
 
 pub put-number-spec : {M : Type 1} → statement M
 put-number-spec =

@@ -4,7 +4,7 @@ use mathlib.Core.Path.{refl, sym, ◌∙◌}
 use Prim.Native.Nat.{◌-◌}
 use lib.ListN.{length}
 use borrow.Author.Rules.{rules}
-use Rattle.text.proofs.Reading.{Follows, follow-on, follow-bad, follow-end}
+use Rattle.text.proofs.Reading.{Follows, follow_on, follow_bad, follow_end}
 use Rattle.text.proofs.numbers.follow.Statement.{statement}
 use Rattle.text.proofs.numbers.follow.Tie as tie
 
@@ -32,7 +32,7 @@ enum_told c = search rules
 returns : tie.Need-returns invariant-loop decreases-loop
 returns c =
     let at = c.before.before.before.before.before in
-    follow-bad at.loop.invariant (omega arith) (sym c.before.before.step.ensures ∙ c.enum_told.given.1)
+    follow_bad at.loop.invariant (omega arith) (sym c.before.before.step.ensures ∙ c.enum_told.given.1)
 
 add-i : tie.Need-overflow-add-i invariant-loop decreases-loop
 add-i c = search rules
@@ -43,10 +43,10 @@ loop-less c = search rules
 loop-again : tie.Need-loop-preserved invariant-loop decreases-loop
 loop-again c =
     let at = c.before.before.before.before.before.before in
-    follow-on at.loop.invariant (omega arith) (sym c.before.before.before.step.ensures ∙ c.before.longer.given.1)
+    follow_on at.loop.invariant (omega arith) (sym c.before.before.before.step.ensures ∙ c.before.longer.given.1)
 
 returns-2 : tie.Need-returns-2 invariant-loop decreases-loop
-returns-2 c = follow-end c.before.loop.invariant (omega arith)
+returns-2 c = follow_end c.before.loop.invariant (omega arith)
 
 pub follow-spec : {M : Type 1} → statement M
 follow-spec =

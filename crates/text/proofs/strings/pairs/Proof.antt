@@ -4,7 +4,7 @@ use borrow.Author.Rules.{rules}
 use mathlib.Core.Path.{sym, ◌∙◌}
 use Prim.Native.Nat.{◌-◌, ◌/◌}
 use lib.ListN.{length}
-use Rattle.text.proofs.Hexadecimal.{Paired, paired_none, paired-on, paired-bad, paired-end}
+use Rattle.text.proofs.Hexadecimal.{Paired, paired_none, paired_on, paired_bad, paired_end}
 use Rattle.text.proofs.strings.pairs.Statement.{statement}
 use Rattle.text.proofs.strings.pairs.Tie as tie
 
@@ -29,7 +29,7 @@ enum-told-2 c = search rules
 returns : tie.Need-returns invariant-loop decreases-loop
 returns c =
     let at = c.before.before.before.before in
-    sym (paired-bad at.loop.invariant (omega arith) (sym c.before.before.pair.ensures ∙ c.enum-told2.given.1))
+    sym (paired_bad at.loop.invariant (omega arith) (sym c.before.before.pair.ensures ∙ c.enum-told2.given.1))
 
 add-i : tie.Need-overflow-add-i invariant-loop decreases-loop
 add-i c = omega arith
@@ -40,10 +40,10 @@ loop-less c = omega arith
 loop-again : tie.Need-loop-preserved invariant-loop decreases-loop
 loop-again c =
     let at = c.before.before.before.before in
-    paired-on at.loop.invariant (omega arith) (sym c.before.before.pair.ensures ∙ c.enum_told.given.1)
+    paired_on at.loop.invariant (omega arith) (sym c.before.before.pair.ensures ∙ c.enum_told.given.1)
 
 returns-2 : tie.Need-returns-2 invariant-loop decreases-loop
-returns-2 c = let end = paired-end c.before.loop.invariant (omega arith) in omega arith
+returns-2 c = let end = paired_end c.before.loop.invariant (omega arith) in omega arith
 
 pub pairs-spec : {M : Type 1} → statement M
 pairs-spec =

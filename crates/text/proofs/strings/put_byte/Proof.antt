@@ -1,8 +1,8 @@
 -- `strings::put_byte` meets its contract: what `io::hex` writes of a byte is two digits. Assumes nothing.
 use native.Mathlib.Omega.{arith}
 use mathlib.Core.Path.{◌∙◌}
-use Rattle.text.proofs.Hexadecimal.{byte-is}
-use Rattle.text.proofs.Writing.{lays-as}
+use Rattle.text.proofs.Hexadecimal.{byte_is}
+use Rattle.text.proofs.Writing.{lays_as}
 use borrow.Author.Rules.{rules}
 use Rattle.text.proofs.strings.put_byte.Statement.{statement}
 use Rattle.text.proofs.strings.put_byte.Tie as tie
@@ -25,7 +25,7 @@ same_length c = search rules
 returns : tie.Need-returns
 returns c =
     let written = c.before.before.before.before.before.hex.ensures.1 in
-    lays-as (written.1 ∙ byte-is _ _ (omega arith) written.0) c.before.before.put.ensures
+    lays_as (written.1 ∙ byte_is _ _ (omega arith) written.0) c.before.before.put.ensures
 
 pub put-byte-spec : {M : Type 1} → statement M
 put-byte-spec =

@@ -3,8 +3,8 @@ use native.Mathlib.Omega.{arith}
 use borrow.Author.Rules.{rules}
 use Prim.Native.Nat.{◌-◌}
 use lib.ListN.{length}
-use Rattle.text.proofs.Hexadecimal.{Pairs, pairs-none, pairs-on, pairs_end}
-use Rattle.text.proofs.Writing.{lays-size}
+use Rattle.text.proofs.Hexadecimal.{Pairs, pairs_none, pairs_on, pairs_end}
+use Rattle.text.proofs.Writing.{lays_size}
 use Rattle.text.proofs.strings.put_pairs.Statement.{statement}
 use Rattle.text.proofs.strings.put_pairs.Tie as tie
 
@@ -15,7 +15,7 @@ abbrev decreases-loop : tie.decreases-loop
 decreases-loop out₀ at bytes end₀ i₀ out end i = length bytes - i
 
 loop-holds : tie.Need-loop-init invariant-loop decreases-loop
-loop-holds c = pairs-none _ _ _ (omega arith)
+loop-holds c = pairs_none _ _ _ (omega arith)
 
 shared-slice-read-put-byte : tie.Need-shared-slice-read-put-byte invariant-loop decreases-loop
 shared-slice-read-put-byte c = omega arith
@@ -32,10 +32,10 @@ loop-less c = omega arith
 loop-again : tie.Need-loop-preserved invariant-loop decreases-loop
 loop-again c =
     let at = c.before.before.before.before.before.before in
-    pairs-on at.loop.invariant (omega arith) at.before.before.before.requires c.before.before.put_byte.ensures
+    pairs_on at.loop.invariant (omega arith) at.before.before.before.requires c.before.before.put_byte.ensures
 
 same_length : tie.Need-same-length invariant-loop decreases-loop
-same_length c = lays-size c.before.loop.invariant.laid
+same_length c = lays_size c.before.loop.invariant.laid
 
 returns : tie.Need-returns invariant-loop decreases-loop
 returns c = pairs_end c.before.loop.invariant (omega arith)

@@ -4,7 +4,7 @@ use borrow.Author.Rules.{rules}
 use mathlib.Core.Path.{sym, ◌∙◌}
 use Prim.Native.Nat.{◌-◌, ◌/◌}
 use lib.ListN.{length}
-use Rattle.text.proofs.Hexadecimal.{Unpairs, unpair-none, unpair-on, unpair-end, paired-bad, paired-end, paired-small}
+use Rattle.text.proofs.Hexadecimal.{Unpairs, unpair_none, unpair_on, unpair_end, paired_bad, paired_end, paired_small}
 use Rattle.text.proofs.strings.unpair.Statement.{statement}
 use Rattle.text.proofs.strings.unpair.Tie as tie
 
@@ -15,7 +15,7 @@ abbrev decreases-loop : tie.decreases-loop
 decreases-loop word out₀ n i₀ out i = length word / 2 - i
 
 loop-holds : tie.Need-loop-init invariant-loop decreases-loop
-loop-holds c = unpair-none _ _
+loop-holds c = unpair_none _ _
 
 pair-requires : tie.Need-pair-requires invariant-loop decreases-loop
 pair-requires c κs = omega arith
@@ -32,12 +32,12 @@ same_length c = c.before.before.before.before.loop.invariant.size
 returns : tie.Need-returns invariant-loop decreases-loop
 returns c =
     let k = c.before.before.before.before.loop.invariant in
-    unpair-end k (omega arith) (paired-bad k.paired (omega arith) (sym c.before.before.pair.ensures ∙ c.enum_told.given.1))
+    unpair_end k (omega arith) (paired_bad k.paired (omega arith) (sym c.before.before.pair.ensures ∙ c.enum_told.given.1))
 
 cast-out : tie.Need-overflow-cast-out invariant-loop decreases-loop
 cast-out c =
     let k = c.before.before.before.before.before.loop.invariant in
-    record { fits = paired-small k.paired (omega arith) (sym c.before.before.before.pair.ensures ∙ c.before.byte.given.1) }
+    record { fits = paired_small k.paired (omega arith) (sym c.before.before.before.pair.ensures ∙ c.before.byte.given.1) }
 
 slice-write-out : tie.Need-slice-write-out invariant-loop decreases-loop
 slice-write-out c = omega arith
@@ -51,13 +51,13 @@ loop-less c = omega arith
 loop-again : tie.Need-loop-preserved invariant-loop decreases-loop
 loop-again c =
     let k = c.before.before.before.before.before.loop.invariant in
-    unpair-on k (omega arith) (omega arith) (sym c.before.before.before.pair.ensures ∙ c.before.byte.given.1)
+    unpair_on k (omega arith) (omega arith) (sym c.before.before.before.pair.ensures ∙ c.before.byte.given.1)
 
 same-length-2 : tie.Need-same-length-2 invariant-loop decreases-loop
 same-length-2 c = c.before.loop.invariant.size
 
 returns-2 : tie.Need-returns-2 invariant-loop decreases-loop
-returns-2 c = let k = c.before.loop.invariant in unpair-end k (omega arith) (paired-end k.paired (omega arith))
+returns-2 c = let k = c.before.loop.invariant in unpair_end k (omega arith) (paired_end k.paired (omega arith))
 
 pub unpair-spec : {M : Type 1} → statement M
 unpair-spec =

@@ -1,5 +1,5 @@
 -- `words::tail` meets its contract: the line from where the space was found. Assumes nothing.
-use Rattle.text.proofs.Spaces.{tail-is}
+use Rattle.text.proofs.Spaces.{tail_is}
 use borrow.Author.Rules.{rules}
 use Rattle.text.proofs.words.tail.Statement.{statement}
 use Rattle.text.proofs.words.tail.Tie as tie
@@ -17,7 +17,7 @@ part-result-end : tie.Need-slice-bounds-result-end
 part-result-end c = search rules
 
 returns : tie.Need-returns
-returns c = tail-is _ _ c.before.find.ensures.0
+returns c = tail_is _ _ c.before.find.ensures.0
 
 pub tail-spec : {M : Type 1} → statement M
 tail-spec = tie.close (tie.spec find-requires sub-result part-result-start part-result-end returns)

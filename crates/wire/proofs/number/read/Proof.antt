@@ -6,13 +6,13 @@ use native.Mathlib.Nat.{le_antisymm}
 use borrow.Author.Rules.{rules}
 use lib.Dec.{lit<}
 use lib.ListN.{length, get_or, drop, drop_of_length-le}
-use Rattle.wire.specs.Numbers.{numberFrom, bigEndian}
+use Rattle.wire.specs.Numbers.{number_from, big_endian}
 use Rattle.wire.proofs.Numbers.{more, fits_more, step}
 use Rattle.wire.proofs.number.read.Statement.{statement}
 use Rattle.wire.proofs.number.read.Tie as tie
 
 abbrev invariant-loop : tie.invariant-loop
-invariant-loop bytes value₀ i₀ value i = (i ≤ length bytes) × (value < 256 ^ i) × (bigEndian bytes ≡ numberFrom value (drop i bytes))
+invariant-loop bytes value₀ i₀ value i = (i ≤ length bytes) × (value < 256 ^ i) × (big_endian bytes ≡ number_from value (drop i bytes))
 
 abbrev decreases-loop : tie.decreases-loop
 decreases-loop bytes value₀ i₀ value i = length bytes - i
@@ -40,10 +40,10 @@ loop-again c =
     (omega arith, more l.i l.invariant.1 (c.shared-slice-known.given l.i).fits, l.invariant.2 ∙ step l.value _ l.i c.before.loop-test.true)
 
 returns : tie.Need-returns invariant-loop decreases-loop
-unfolding numberFrom
+unfolding number_from
 returns c =
     let l = c.before.loop in
-    (sym (l.invariant.2 ∙ ap (numberFrom l.value) (drop_of_length-le _ c.loop-test.false)), rw (le_antisymm l.invariant.0 c.loop-test.false) at l.invariant.1)
+    (sym (l.invariant.2 ∙ ap (number_from l.value) (drop_of_length-le _ c.loop-test.false)), rw (le_antisymm l.invariant.0 c.loop-test.false) at l.invariant.1)
 
 pub read_spec : {M : Type 1} → statement M
 read_spec =

@@ -10,7 +10,7 @@ use lib.ListN.{length, get_or, drop, length-set}
 use lib.Seq.{drop-length}
 use lib.Arith.{le-zero}
 use Rattle.wire.specs.Numbers.{bytes_of}
-use Rattle.wire.proofs.Numbers.{write-turn}
+use Rattle.wire.proofs.Numbers.{write_turn}
 use Rattle.wire.proofs.number.write.Statement.{statement}
 use Rattle.wire.proofs.number.write.Tie as tie
 
@@ -29,7 +29,7 @@ cast-out c = record { fits = mod-lt c.before.loop.left (lit< tt) }
 loop-again : tie.Need-loop-preserved invariant-loop decreases-loop
 loop-again c =
     let l = c.before.loop in
-    (simp length-set (omega arith), simp length-set l.invariant.1, write-turn _ l.left l.i l.out _ c.loop-test.true l.invariant.0 l.invariant.2)
+    (simp length-set (omega arith), simp length-set l.invariant.1, write_turn _ l.left l.i l.out _ c.loop-test.true l.invariant.0 l.invariant.2)
 
 same_length : tie.Need-same-length invariant-loop decreases-loop
 same_length c = c.before.loop.invariant.1

@@ -2,8 +2,8 @@
 use borrow.Author.Rules.{rules}
 use native.Mathlib.Omega.{arith}
 use lib.ListN.{length-set, length-drop, length-take}
-use Rattle.wire.specs.Options.{optionBytes}
-use Rattle.wire.proofs.Options.{option-length, lay-all, laid_same}
+use Rattle.wire.specs.Options.{option_bytes}
+use Rattle.wire.proofs.Options.{option_length, lay_all, laid_same}
 use Rattle.wire.proofs.option.lay.Statement.{statement}
 use Rattle.wire.proofs.option.lay.Tie as tie
 
@@ -22,14 +22,14 @@ copy-requires c κs = rw (length-take, length-drop, c.before.before.out.given.1,
 same_length : tie.Need-same-length
 same_length c =
     let start = c.before.before.before.before.before.before.before.before.before.before in
-    let n = option-length start.args.kind start.args.content.now in
-    laid_same (optionBytes start.args.kind start.args.content.now) start.args.out.now _ _ (omega (arith, start.requires.1))
-    (lay-all _ _ _ _ _ start.requires.1 c.before.before.before.before.before.before.write.ensures c.before.before.copy.ensures.1)
+    let n = option_length start.args.kind start.args.content.now in
+    laid_same (option_bytes start.args.kind start.args.content.now) start.args.out.now _ _ (omega (arith, start.requires.1))
+    (lay_all _ _ _ _ _ start.requires.1 c.before.before.before.before.before.before.write.ensures c.before.before.copy.ensures.1)
 
 returns : tie.Need-returns
 returns c =
     let start = c.before.before.before.before.before.before.before.before.before.before in
-    lay-all _ _ _ _ _ start.requires.1 c.before.before.before.before.before.before.write.ensures c.before.before.copy.ensures.1
+    lay_all _ _ _ _ _ start.requires.1 c.before.before.before.before.before.before.write.ensures c.before.before.copy.ensures.1
 
 pub lay-spec : {M : Type 1} → statement M
 lay-spec =

@@ -4,7 +4,7 @@ use mathlib.Core.Path.{◌≡◌, refl, ◌∙◌}
 use native.Mathlib.Omega.{arith}
 use lib.Arith.{le-zero}
 use lib.Dec.{ltb}
-use Rattle.writable.proofs.Fitting.{fits-less, fits-nothing}
+use Rattle.writable.proofs.Fitting.{fits_less, fits_nothing}
 use Rattle.writable.proofs.part.fits.Statement.{statement}
 use Rattle.writable.proofs.part.fits.Tie as tie
 
@@ -18,10 +18,10 @@ loop-holds : tie.Need-loop-init invariant-loop decreases-loop
 loop-holds c = refl
 
 loop-again : tie.Need-loop-preserved invariant-loop decreases-loop
-loop-again c = rw (← fits-less _ _ c.loop-test.true) c.before.loop.invariant
+loop-again c = rw (← fits_less _ _ c.loop-test.true) c.before.loop.invariant
 
 returns : tie.Need-returns invariant-loop decreases-loop
-returns c = fits-nothing c.before.loop.left ∙ rw (le-zero c.loop-test.false) at c.before.loop.invariant
+returns c = fits_nothing c.before.loop.left ∙ rw (le-zero c.loop-test.false) at c.before.loop.invariant
 
 pub fits-spec : {M : Type 1} → statement M
 fits-spec = tie.close (tie.spec invariant-loop decreases-loop loop-holds (λ c. omega arith) (λ c. omega arith) loop-again returns)

@@ -1,6 +1,6 @@
 -- `option::lay_context` meets its contract: a Datalink Context is laid, or nothing. Assumes nothing.
 use borrow.Author.Rules.{rules}
-use Rattle.write_option.proofs.Laying.{laid-nothing}
+use Rattle.write_option.proofs.Laying.{laid_nothing}
 use Rattle.write_option.proofs.option.lay_context.Statement.{statement}
 use Rattle.write_option.proofs.option.lay_context.Tie as tie
 
@@ -8,7 +8,7 @@ lay-number-requires : tie.Need-lay-number-requires
 lay-number-requires c κs = rw c.before.before.context.given.1 at c.before.before.before.before.before.requires
 
 returns : tie.Need-returns
-returns c = rw c.enum_told.given.1 (laid-nothing _)
+returns c = rw c.enum_told.given.1 (laid_nothing _)
 
 returns-2 : tie.Need-returns-2
 returns-2 c = rw c.before.before.before.before.before.context.given.1 c.before.before.lay-number.ensures

@@ -1,6 +1,6 @@
 -- `option::lay_datalink` meets its contract: a Datalink Identifier is laid, or nothing. Assumes nothing.
 use borrow.Author.Rules.{rules}
-use Rattle.write_option.proofs.Laying.{room_for, laid-option, laid-nothing}
+use Rattle.write_option.proofs.Laying.{room_for, laid_option, laid_nothing}
 use Rattle.write_option.proofs.option.lay_datalink.Statement.{statement}
 use Rattle.write_option.proofs.option.lay_datalink.Tie as tie
 
@@ -8,10 +8,10 @@ lay-requires : tie.Need-lay-requires
 lay-requires c κs = (search rules, room_for _ _ (rw c.before.before.before.datalink.given.1 at c.before.before.before.before.before.before.requires))
 
 returns : tie.Need-returns
-returns c = rw c.enum_told.given.1 (laid-nothing _)
+returns c = rw c.enum_told.given.1 (laid_nothing _)
 
 returns-2 : tie.Need-returns-2
-returns-2 c = rw c.before.before.before.before.before.before.datalink.given.1 (laid-option _ _ c.before.before.lay.ensures)
+returns-2 c = rw c.before.before.before.before.before.before.datalink.given.1 (laid_option _ _ c.before.before.lay.ensures)
 
 pub lay-datalink-spec : {M : Type 1} → statement M
 lay-datalink-spec =

@@ -2,9 +2,9 @@
 use Prim.Native.Nat.{◌-◌}
 use borrow.Author.Rules.{rules}
 use native.Mathlib.Omega.{arith}
-use Rattle.facts.proofs.Lists.{length-mapped}
+use Rattle.facts.proofs.Lists.{length_mapped}
 use Rattle.quantity.specs.Limits.{CHANNEL-IDS}
-use Rattle.write_option.proofs.Tables.{Counting, counting-start, counting-turn, counting-end}
+use Rattle.write_option.proofs.Tables.{Counting, counting_start, counting_turn, counting_end}
 use Rattle.write_option.proofs.size.tables.Statement.{statement}
 use Rattle.write_option.proofs.size.tables.Tie as tie
 
@@ -15,13 +15,13 @@ abbrev decreases-loop : tie.decreases-loop
 decreases-loop statuses sequences windows total₀ channel₀ total channel = CHANNEL-IDS - channel
 
 loop-holds : tie.Need-loop-init invariant-loop decreases-loop
-loop-holds c = counting-start _ _ _ (record { statuses-full = search (length-mapped, rules); sequences-full = search (length-mapped, rules); windows-full = search (length-mapped, rules) })
+loop-holds c = counting_start _ _ _ (record { statuses_full = search (length_mapped, rules); sequences_full = search (length_mapped, rules); windows_full = search (length_mapped, rules) })
 
 loop-again : tie.Need-loop-preserved invariant-loop decreases-loop
-loop-again c = counting-turn _ _ _ _ _ _ c.before.before.before.before.loop-test.true c.cells.ensures c.before.before.before.before.before.loop.invariant
+loop-again c = counting_turn _ _ _ _ _ _ c.before.before.before.before.loop-test.true c.cells.ensures c.before.before.before.before.before.loop.invariant
 
 returns : tie.Need-returns invariant-loop decreases-loop
-returns c = counting-end _ _ _ _ _ c.loop-test.false c.before.loop.invariant
+returns c = counting_end _ _ _ _ _ c.loop-test.false c.before.loop.invariant
 
 pub tables-spec : {M : Type 1} → statement M
 tables-spec =

@@ -3,20 +3,20 @@ use Prim.Native.Nat.{◌-◌}
 use borrow.Author.Rules.{rules}
 use native.Mathlib.Omega.{arith}
 use Rattle.quantity.specs.Limits.{CHANNEL-IDS}
-use Rattle.facts.proofs.Lists.{length-mapped}
-use Rattle.write_option.proofs.Tables.{windowTable, Going, Turn, going_start, going-lent, going_on, going_end}
+use Rattle.facts.proofs.Lists.{length_mapped}
+use Rattle.write_option.proofs.Tables.{window_table, Going, Turn, going_start, going_lent, going_on, going_end}
 use Rattle.write_option.proofs.table.lay_windows.Statement.{statement}
 use Rattle.write_option.proofs.table.lay_windows.Tie as tie
 
 abbrev invariant-loop : tie.invariant-loop
-invariant-loop out₀ cells at₀ channel₀ out at channel = Going windowTable cells out₀ channel at out
+invariant-loop out₀ cells at₀ channel₀ out at channel = Going window_table cells out₀ channel at out
 
 abbrev decreases-loop : tie.decreases-loop
 decreases-loop out₀ cells at₀ channel₀ out at channel = CHANNEL-IDS - channel
 
 lent : (c : tie.In-loop invariant-loop decreases-loop) → let start = c.before.before.before in
-    Turn windowTable start.args.t2 start.args.out.now c.before.loop.channel c.before.loop.at c.before.loop.out
-lent c = going-lent windowTable _ c.before.loop.invariant c.loop-test.true
+    Turn window_table start.args.t2 start.args.out.now c.before.loop.channel c.before.loop.at c.before.loop.out
+lent c = going_lent window_table _ c.before.loop.invariant c.loop-test.true
 
 pub lay-windows-spec : {M : Type 1} → statement M
 lay-windows-spec =
@@ -24,7 +24,7 @@ lay-windows-spec =
     (tie.spec
     invariant-loop
     decreases-loop
-    (λ c. going_start windowTable _ (search (length-mapped, rules)) c.before.requires)
+    (λ c. going_start window_table _ (search (length_mapped, rules)) c.before.requires)
     (λ c. search rules)
     (λ c. search rules)
     (λ c. (lent c.before).start)
@@ -32,9 +32,9 @@ lay-windows-spec =
     (λ c. search rules)
     (λ c. search rules)
     (λ c κs. (lent c.before.before).room)
-    (λ c. omega (arith, (lent c.before.before.before.before.before).fits _ c.before.before.lay-window.ensures.count-is))
+    (λ c. omega (arith, (lent c.before.before.before.before.before).fits _ c.before.before.lay-window.ensures.count_is))
     (λ c. search rules)
     (λ c. omega arith)
-    (λ c. going_on windowTable _ c.before.before.before.before.before.before.loop.invariant c.before.before.before.before.before.loop-test.true c.before.before.lay-window.ensures)
+    (λ c. going_on window_table _ c.before.before.before.before.before.before.loop.invariant c.before.before.before.before.before.loop-test.true c.before.before.lay-window.ensures)
     (λ c. c.before.loop.invariant.standing.long)
-    (λ c. going_end windowTable _ c.before.loop.invariant c.loop-test.false))
+    (λ c. going_end window_table _ c.before.loop.invariant c.loop-test.false))

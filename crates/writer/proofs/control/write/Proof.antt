@@ -2,35 +2,35 @@
 use borrow.Author.Rules.{rules}
 use borrow.Author.Tests.{not-false}
 use mathlib.Core.Path.{sym, ◌∙◌}
-use Rattle.writable.specs.Allowed.{controlAllowed}
-use Rattle.writer.specs.Written.{controlWritten}
-use Rattle.writer.proofs.Outcomes.{Judged, judged-by, outcome-refused, outcome-no-room, outcome-wrote, room-enough}
-use Rattle.writer.proofs.Short.{control-short}
+use Rattle.writable.specs.Allowed.{control_allowed}
+use Rattle.writer.specs.Written.{control_written}
+use Rattle.writer.proofs.Outcomes.{Judged, judged_by_lem, outcome_refused, outcome_no_room, outcome_wrote, room_enough}
+use Rattle.writer.proofs.Short.{control_short}
 use Rattle.writer.proofs.control.write.Statement.{statement}
 use Rattle.writer.proofs.control.write.Tie as tie
 
 judged : (c : tie.After-no-room) → let start = c.before.before.before.before.before in
-    Judged (controlAllowed start.args.end start.args.message) (controlWritten start.args.message) start.args.out.now c.no_room.result
-judged c = let allowed = c.before.before in judged-by allowed.before.may_write.ensures allowed.if1.false c.before.size.ensures c.no_room.ensures
+    Judged (control_allowed start.args.end start.args.message) (control_written start.args.message) start.args.out.now c.no_room.result
+judged c = let allowed = c.before.before in judged_by_lem allowed.before.may_write.ensures allowed.if1.false c.before.size.ensures c.no_room.ensures
 
 returns : tie.Need-returns
-returns c = outcome-refused c.before.before.may_write.ensures c.before.if1.true c.refused.ensures
+returns c = outcome_refused c.before.before.may_write.ensures c.before.if1.true c.refused.ensures
 
 size-requires : tie.Need-size-requires
 size-requires c κs =
     let start = c.before.before.before in
-    control-short start.args.end start.args.message (sym c.before.may_write.ensures ∙ not-false _ c.if1.false)
+    control_short start.args.end start.args.message (sym c.before.may_write.ensures ∙ not-false _ c.if1.false)
 
 returns-2 : tie.Need-returns-2
-returns-2 c = outcome-no-room (judged c.before.before) c.before.if2.true c.refused2.ensures
+returns-2 c = outcome_no_room (judged c.before.before) c.before.if2.true c.refused2.ensures
 
 lay-requires : tie.Need-lay-requires
 lay-requires c κs =
     let full = judged c.before.before in
-    (control-short _ _ full.yes, room-enough full c.before.if2.false)
+    (control_short _ _ full.yes, room_enough full c.before.if2.false)
 
 returns-3 : tie.Need-returns-3
-returns-3 c = outcome-wrote (judged c.before.before.before.before.before) c.before.before.before.before.if2.false c.before.before.lay.ensures
+returns-3 c = outcome_wrote (judged c.before.before.before.before.before) c.before.before.before.before.if2.false c.before.before.lay.ensures
 
 pub write_spec : {M : Type 1} → statement M
 write_spec =

@@ -1,12 +1,12 @@
 -- `data::size` meets its contract. Assumes nothing.
 use borrow.Author.Rules.{rules}
 use native.Mathlib.Omega.{arith}
-use Rattle.writer.proofs.DataMessage.{data-length}
+use Rattle.writer.proofs.DataMessage.{data_length}
 use Rattle.writer.proofs.data.size.Statement.{statement}
 use Rattle.writer.proofs.data.size.Tie as tie
 
 returns : tie.Need-returns
-returns c = omega (arith, data-length c.before.before.before.before.before.args.message c.before.before.before.before.before.args.packet.now)
+returns c = omega (arith, data_length c.before.before.before.before.before.args.message c.before.before.before.before.before.args.packet.now)
 
 pub size-spec : {M : Type 1} → statement M
 size-spec =
