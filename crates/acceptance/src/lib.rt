@@ -1,1 +1,2 @@
 // What an accepted message is, said without an order of tests. Definitions and their proofs; no code.
+#![tactic(auto)]

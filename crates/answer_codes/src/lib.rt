@@ -1,4 +1,6 @@
 // An answer of any call as two numbers, for callers that share no types with Rattle. specs/Codes.antt has the same names, with `-` for `_`.
+#![tactic(auto)]
+
 ghost use Rattle.std.specs.Prelude.{◌≡◌};
 ghost use Rattle.answer_codes.specs.Codes.{code_of, plainly, counting, refused_as, written_as};
 
@@ -56,7 +58,7 @@ pub const REFUSED: u64 = 256;
 
 // The kind; and the message's length, the refusal's place, or 0. Two numbers come back in registers, on x86-64 and on Arm alike.
 #[repr(C)]
-#[derive(Drop)]
+#[derive(Clone, Copy)]
 pub struct Answer {
     pub kind: u64,
     pub value: u64,

@@ -1,5 +1,7 @@
 // What one datagram is read as, folded into a number: exports to measure the readers from Rust or C (bench/). The control reader is asked as a caller
 // asks it, by the plane first: what the header refuses fills no message.
+#![tactic(auto)]
+
 ghost use Rattle.std.specs.Prelude.{◌≡◌, if◌then◌else◌};
 ghost use Rattle.reader.specs.declared.answer.PlaneAnswer.{PlaneAnswer};
 ghost use Rattle.reader.specs.Readings.{plane_of, read_control, read_data, packet_of};

@@ -1,4 +1,6 @@
 // The words of a program over captures: the ports of the two ends and the Datalink ID.
+#![tactic(auto)]
+
 ghost use Rattle.std.specs.Prelude.{◌≡◌};
 ghost use Rattle.capture_words.specs.Settings.{setting_of, refused_of, numbers_say, words_say, Asked};
 
@@ -25,7 +27,7 @@ pub const USAGE: [u8; 102] =
     *b"three words or none: RADIO-PORT IPS-PORT DATALINK (ports 0 to 65535 and not equal, DATALINK 0 to 255)\n";
 
 // What the words say: the ports and the Datalink ID, if they say so.
-#[derive(Drop)]
+#[derive(Clone, Copy)]
 pub struct Setting {
     pub good: bool,
     pub ports: Ports,

@@ -1,4 +1,6 @@
 // What is counted of a capture's records, in a lent slice of numbers.
+#![tactic(auto)]
+
 ghost use Rattle.std.specs.Prelude.{◌≡◌, ◌+◌};
 ghost use Rattle.ethernet.specs.Layers.{datagram_of};
 ghost use Rattle.reader.specs.Readings.{read_control, read_data, packet_of};
@@ -39,7 +41,7 @@ pub const PLACES: usize = 780;
 const MOST: u64 = 18446744073709551615;
 
 // Whose message a record holds.
-#[derive(Drop)]
+#[derive(Clone, Copy)]
 enum Sender {
     Skipped,
     Message(End),

@@ -1,6 +1,6 @@
 -- Records in literal bytes, each computed. Assumes nothing.
 use mathlib.Core.Path.{◌≡◌, refl}
-use Rattle.bytes.specs.Bytes.{slice}
+use Rattle.octets.specs.Bytes.{slice}
 use Rattle.facts.specs.Tables.{tabulate}
 use Rattle.wire.specs.Numbers.{number_from}
 use Rattle.wire.specs.Options.{frame_of, split_with, split}

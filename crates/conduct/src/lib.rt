@@ -1,4 +1,6 @@
 // Judging another maker's session from its capture: for each channel, whether every data message obeyed, in a lent slice of words.
+#![tactic(auto)]
+
 ghost use Rattle.std.specs.Prelude.{◌≡◌, ◌+◌, ◌*◌, length, get_or, set, replicate};
 ghost use Rattle.ethernet.specs.Layers.{datagram_of};
 ghost use Rattle.quantity.specs.Limits.{CHANNEL-IDS};

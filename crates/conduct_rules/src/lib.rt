@@ -1,4 +1,6 @@
 // Whether a data message obeys, by what was seen of its channel before it.
+#![tactic(auto)]
+
 ghost use Rattle.std.specs.Prelude.{◌≡◌};
 ghost use Rattle.conduct_rules.specs.Rules.{less_of, base_for, obeys_free, obeys_within, obeys_in_force, obeys_of};
 
@@ -9,7 +11,7 @@ use quantity::count;
 use quantity::count::{ByteCount, FlowSequence, FlowWindow};
 
 // What the latest accepted radio control message made of a channel.
-#[derive(Drop)]
+#[derive(Clone, Copy)]
 pub enum Flow {
     // There was none yet.
     Unseen,

@@ -1,4 +1,6 @@
 // Document 01, "Counting": reads lines of sequence and window, and prints a header and the answer to each.
+#![tactic(auto)]
+
 use libc::{STDERR_FILENO, STDOUT_FILENO};
 use lines::Found;
 

@@ -2,7 +2,7 @@
 use mathlib.Core.List.{List, [], ◌∷◌}
 use mathlib.Core.Path.{◌≡◌, refl}
 use Prim.Native.Nat.{ℕ}
-use Rattle.bytes.specs.Bytes.{indexOf, index_after}
+use Rattle.octets.specs.Bytes.{index_of, index_after}
 use Rattle.quantity.specs.Distance.{distance_of}
 use Rattle.text.specs.Laying.{last_digits_lem, decimal_text, signed_text}
 use Rattle.text.specs.Numbers.{digit_of, step_of, follow_of, by_size, plain_of, parse_of}
@@ -37,5 +37,5 @@ Answers [] = Unit {0}
 Answers (row ∷ rows) = (answer_of row.0 ≡ row.1) × Answers rows
 
 pub table_answers : Answers table
-unfolding indexOf index_after distance_of last_digits_lem decimal_text signed_text digit_of step_of follow_of by_size plain_of parse_of head_of tail_of pair_of read_of spaced row_of answer_of
+unfolding index_of index_after distance_of last_digits_lem decimal_text signed_text digit_of step_of follow_of by_size plain_of parse_of head_of tail_of pair_of read_of spaced row_of answer_of
 table_answers = (refl, (refl, (refl, (refl, (refl, (refl, (refl, (refl, (refl, (refl, (refl, (refl, (refl, (refl, (refl, tt)))))))))))))))

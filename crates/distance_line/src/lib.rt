@@ -1,4 +1,6 @@
 // Document 01, "Counting": the answer to one line of sequence and window.
+#![tactic(auto)]
+
 ghost use Rattle.std.specs.Prelude.{◌≡◌, ◌+◌, ◌≤◌, length};
 ghost use Rattle.text.specs.Laying.{Lays, Wrote};
 ghost use Rattle.distance_line.specs.Answer.{PART, ROW, spaced, row_of, read_of, answer_of};
@@ -13,7 +15,7 @@ const MOST: u64 = 4294967295;
 pub const ANSWER: usize = 40;
 
 // What a line stands for.
-#[derive(Drop)]
+#[derive(Clone, Copy)]
 pub enum Read {
     Bad,
     Numbers(FlowSequence, FlowWindow),

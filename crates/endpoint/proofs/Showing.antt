@@ -13,7 +13,7 @@ use Rattle.meaning.specs.declared.message.Instance.{Instance}
 use Rattle.meaning.specs.declared.message.Context.{Context}
 use Rattle.ips_channel.specs.declared.state.Channel.{Channel}
 use Rattle.ips_state.specs.State.{State, no_start, channel_at, fresh_of}
-use Rattle.ips_state.specs.Limits.{ids, indexOf, sizes, state_fits}
+use Rattle.ips_state.specs.Limits.{ids, index_of, sizes, state_fits}
 use Rattle.ips_state.specs.Memory.{World, memory_fits}
 use Rattle.ips_words.specs.Words.{words_for, state_of, state_in}
 use Rattle.ips_words_survey.specs.declared.place.Found.{Found}
@@ -85,7 +85,7 @@ module _ (s : State) (id : ℕ) where
     shown_twelve e = rw (fits, whole, e)
 
     pub shown_channel : among id (ids s.channels) ≡ true
-        → shown_of s id ≡ record { place = Place.At (found_at s (indexOf id (ids s.channels))); channel = channel_at s (indexOf id (ids s.channels)) }
+        → shown_of s id ≡ record { place = Place.At (found_at s (index_of id (ids s.channels))); channel = channel_at s (index_of id (ids s.channels)) }
     unfolding shown_of place_of
     shown_channel e = rw (fits, whole, e)
 

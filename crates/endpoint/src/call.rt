@@ -29,7 +29,7 @@ fn offer_refused(answer: OfferAnswer) -> bool
 }
 
 // The answer to a packet offered, and how many bytes it says were moved within the store.
-#[derive(Drop)]
+#[derive(Clone, Copy)]
 pub struct PacketOffered {
     pub answer: OfferAnswer,
     pub moved: ByteCount,
@@ -94,7 +94,7 @@ fn next_refused(answer: NextAnswer) -> bool
 }
 
 // The answer to an ask, and how many bytes it says were moved within the store.
-#[derive(Drop)]
+#[derive(Clone, Copy)]
 struct PacketAsked {
     answer: NextAnswer,
     moved: ByteCount,
@@ -139,7 +139,7 @@ pub fn next(words: &mut [u64], memory: &mut [u8], id: u8, time: u64, out: &mut [
 }
 
 // The answer to a withdrawal, and how many bytes it says were moved within the store.
-#[derive(Drop)]
+#[derive(Clone, Copy)]
 struct PacketsWithdrawn {
     answer: WithdrawAnswer,
     moved: ByteCount,

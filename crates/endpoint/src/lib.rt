@@ -9,6 +9,8 @@
 // - `query` writes the query with the Flow Sequences, and changes nothing;
 // - `find_channel`, `kept` and `pacer` tell what stands in the words.
 // An answer says what was done, or is a `Refusal` with its number: then every word, the memory and the output are as they were.
+#![tactic(auto)]
+
 pub mod begin;
 pub mod call;
 mod channel;

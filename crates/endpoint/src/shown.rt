@@ -16,19 +16,19 @@ use quantity::refusal;
 use quantity::refusal::Refusal;
 
 // Where a channel stands and where its store starts, or the refusal; and the channel, if it is found.
-#[derive(Drop)]
+#[derive(Clone, Copy)]
 pub struct ChannelShown {
     pub place: Place,
     pub channel: Channel,
 }
 
-#[derive(Drop)]
+#[derive(Clone, Copy)]
 pub enum KeptAnswer {
     Kept(Instance, Context),
     Refused(Refusal),
 }
 
-#[derive(Drop)]
+#[derive(Clone, Copy)]
 pub enum PacerAnswer {
     Shown(Pacer),
     Refused(Refusal),

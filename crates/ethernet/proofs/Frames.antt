@@ -8,7 +8,7 @@ use borrow.Author.Tests.{eq-eqb, ne_eqb, eqb-true, eqb-false}
 use lib.Dec.{eqb}
 use lib.ListN.{length, get_or, take, drop, length-take, length-drop, length-append}
 use lib.Seq.{take-append-add, drop-append_seam}
-use Rattle.bytes.specs.Bytes.{slice}
+use Rattle.octets.specs.Bytes.{slice}
 use Rattle.ethernet.specs.declared.Kind.{Kind}
 use Rattle.ethernet.specs.declared.Ports.{Ports}
 use Rattle.ethernet.specs.Layers.{packet_of, header_size, total_length, is_fragment, carried_of, destination_port, udp_length, datagram_of}

@@ -1,6 +1,6 @@
 -- Where Ethernet, IPv4 (RFC 791, section 3.1) and UDP (RFC 768) keep what is asked of a record. A byte that isn't there counts as 0.
 use Rattle.std.specs.Prelude.{Bool, not, ◌||◌, List, ℕ, ◌+◌, ◌*◌, ◌/◌, ◌%◌, eqb, length, get_or, drop}
-use Rattle.bytes.specs.Bytes.{slice}
+use Rattle.octets.specs.Bytes.{slice}
 
 -- a number of two bytes, the higher first
 abbrev pub word_at : ℕ → List ℕ → ℕ

@@ -1,6 +1,8 @@
 // What an Ethernet record of a capture holds: its kind, and the datagram that it carries over IPv4 and UDP.
+#![tactic(auto)]
+
 ghost use Rattle.std.specs.Prelude.{◌≡◌, ◌<◌, get_or, drop};
-ghost use Rattle.bytes.specs.Bytes.{slice};
+ghost use Rattle.octets.specs.Bytes.{slice};
 ghost use Rattle.ethernet.specs.Layers.{word_at, header_size, is_fragment, carried_of, datagram_of};
 ghost use Rattle.ethernet.specs.Kinds.{udp_kind, ipv4_kind, kind_of};
 
@@ -17,14 +19,14 @@ const PROTOCOL_UDP: u8 = 17;
 const UDP_HEADER: usize = 8;
 
 // The ports that the two ends are reached at.
-#[derive(Drop)]
+#[derive(Clone, Copy)]
 pub struct Ports {
     pub radio: usize,
     pub ips: usize,
 }
 
 // What a record is: the first of these that holds.
-#[derive(Drop)]
+#[derive(Clone, Copy)]
 pub enum Kind {
     // The capture kept fewer bytes than there were.
     Shortened,

@@ -1,4 +1,6 @@
 // How a channel counts: what may go by its flow state, and what it counts and carries then.
+#![tactic(auto)]
+
 ghost use Rattle.std.specs.Prelude.{◌≡◌, cond};
 ghost use Rattle.flow.specs.Counting.{first_flow, may_go, sequence_on, carried_by, flow_after};
 
@@ -7,7 +9,7 @@ use quantity::count;
 use quantity::count::{ByteCount, FlowSequence, FlowWindow};
 
 // One of: free; no window; a window in force.
-#[derive(Drop)]
+#[derive(Clone, Copy)]
 pub enum Flow {
     Free,
     NoWindow,

@@ -2,6 +2,8 @@
 //
 // A handful comes to what offering its packets one by one in their order comes to, refused ones included, and gives an answer for each: 0 where it is taken, else
 // its number of refusal. Number 19 is tested once. Refused as a whole, by 19 or 24, it leaves every word, the memory and the answers as they were.
+#![tactic(auto)]
+
 ghost use Rattle.std.specs.Prelude.{◌≡◌};
 ghost use Rattle.endpoint.specs.Lent.{lent};
 ghost use Rattle.handful.specs.Handful.{HandedIn, refused_handful};
@@ -14,7 +16,7 @@ use ips_words_survey::survey;
 use quantity::refusal;
 use quantity::refusal::Refusal;
 
-#[derive(Drop)]
+#[derive(Clone, Copy)]
 pub enum HandfulAnswer {
     Offered,
     Refused(Refusal),

@@ -13,7 +13,7 @@ use Rattle.ips_channel_rules.specs.Rules.{offer_at}
 use Rattle.ips_channel.specs.Channel.{condition_of, with_condition}
 use Rattle.ips_channel_calls.specs.Calls.{channel_after, store_after}
 use Rattle.ips_state.specs.State.{channel_at, with_channel}
-use Rattle.ips_state.specs.Limits.{channel_fits_under, all_fit_under, ids, distinct, channels_fit_under, names_fit, head_fits, state_fits_under, sizes, indexOf}
+use Rattle.ips_state.specs.Limits.{channel_fits_under, all_fit_under, ids, distinct, channels_fit_under, names_fit, head_fits, state_fits_under, sizes, index_of}
 use Rattle.ips_state.specs.Memory.{memory_fits, start_of, store_at, with_store}
 use Rattle.ips_run.specs.Calling.{calling_under}
 use Rattle.ips_words.specs.Words.{slot, status_of, flow_of, instance_of, context_of, entries_in, queue_in, state_of, spelled, all_spelled, head_spelled, readable, state_in, entry_words, channel_words, put_slot, put_channel}
@@ -48,7 +48,7 @@ before = 77 ∷ 77 ∷ 77 ∷ 77 ∷ 77 ∷ []
 computed : (handful_answer five 5 (world_in fresh) ≡ HandfulAnswer.Offered) × (answers_after five fresh before ≡ 0 ∷ 13 ∷ 12 ∷ 16 ∷ 0 ∷ [])
     × (take 6 (drop 22 (left_by 100 (stands_for five 5 (world_in fresh)) fresh).words) ≡ 100 ∷ 2 ∷ 40 ∷ 200 ∷ 40 ∷ 101 ∷ [])
     × ((left_by 100 (stands_for five 5 (world_in fresh)) fresh).memory ≡ packet 1 ++ (packet 5 ++ replicate 1420 0))
-unfolding state_fits_under head_fits names_fit channels_fit_under all_fit_under channel_fits_under ids distinct well_formed_under all_within_under waiting total memory_fits sizes state_in readable head_spelled all_spelled spelled state_of tabulate words.channel_in slot status_of flow_of instance_of context_of queue_in entries_in lasting joined is_full stores.cut packets_of entry_of listed queue_of store_of is_ipv6 number_from offer_at condition_of with_condition channel_after store_after channel_at with_channel indexOf start_of store_at with_store calling_under entry_words channel_words put_slot put_channel words_called_under after_in_under cut sum_of is_handful
+unfolding state_fits_under head_fits names_fit channels_fit_under all_fit_under channel_fits_under ids distinct well_formed_under all_within_under waiting total memory_fits sizes state_in readable head_spelled all_spelled spelled state_of tabulate words.channel_in slot status_of flow_of instance_of context_of queue_in entries_in lasting joined is_full stores.cut packets_of entry_of listed queue_of store_of is_ipv6 number_from offer_at condition_of with_condition channel_after store_after channel_at with_channel index_of start_of store_at with_store calling_under entry_words channel_words put_slot put_channel words_called_under after_in_under cut sum_of is_handful
 computed = (refl, refl, refl, refl)
 
 pub five_handed : {x : HandfulAnswer} {l : Lent} {answers : List ℕ} → HandedIn five fresh before x l answers

@@ -1,2 +1,4 @@
 // One channel by value: what it holds, and how it starts.
+#![tactic(auto)]
+
 pub mod state;

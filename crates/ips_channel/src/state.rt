@@ -10,7 +10,7 @@ use store::queue;
 use store::queue::Queue;
 
 // How the datalink is configured, for all of its channels.
-#[derive(Drop)]
+#[derive(Clone, Copy)]
 pub struct DatalinkSetting {
     pub id: DatalinkId,
     // Which of the statuses 8 to 15 are operational.
@@ -18,7 +18,7 @@ pub struct DatalinkSetting {
 }
 
 // How a channel is configured.
-#[derive(Drop)]
+#[derive(Clone, Copy)]
 pub struct Setting {
     pub id: u8,
     // Flow-controlled, or else plain.
@@ -27,7 +27,7 @@ pub struct Setting {
     pub size: ByteCount,
 }
 
-#[derive(Drop)]
+#[derive(Clone, Copy)]
 pub struct Channel {
     pub setting: Setting,
     // `Absent` while it is not reported.

@@ -20,7 +20,7 @@ use quantity::refusal::Refusal;
 use store::waiting;
 use writer::answer::WriteAnswer;
 
-#[derive(Drop)]
+#[derive(Clone, Copy)]
 pub enum NextAnswer {
     // The message's length.
     Sent(ByteCount),
@@ -31,7 +31,7 @@ pub enum NextAnswer {
 }
 
 // The answer, the channel then, and how many bytes were moved within the store.
-#[derive(Drop)]
+#[derive(Clone, Copy)]
 pub struct NextOutcome {
     pub answer: NextAnswer,
     pub channel: Channel,

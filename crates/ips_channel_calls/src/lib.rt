@@ -1,3 +1,5 @@
 // Offer, Next and Withdraw on one channel and its store.
+#![tactic(auto)]
+
 pub mod asking;
 pub mod offering;

@@ -12,21 +12,21 @@ use quantity::refusal;
 use quantity::refusal::Refusal;
 use store::waiting;
 
-#[derive(Drop)]
+#[derive(Clone, Copy)]
 pub enum OfferAnswer {
     Taken,
     Refused(Refusal),
 }
 
 // A channel that is found gives `Withdrawn`; 19 and 12 are given before.
-#[derive(Drop)]
+#[derive(Clone, Copy)]
 pub enum WithdrawAnswer {
     Withdrawn,
     Refused(Refusal),
 }
 
 // The answer, the channel then, and how many bytes were moved within the store.
-#[derive(Drop)]
+#[derive(Clone, Copy)]
 pub struct OfferOutcome {
     pub answer: OfferAnswer,
     pub channel: Channel,
@@ -34,7 +34,7 @@ pub struct OfferOutcome {
 }
 
 // The channel then, and how many bytes were moved within the store.
-#[derive(Drop)]
+#[derive(Clone, Copy)]
 pub struct WithdrawOutcome {
     pub channel: Channel,
     pub moved: ByteCount,

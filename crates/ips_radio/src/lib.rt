@@ -1,4 +1,6 @@
 // The radio's answers. What an accepted radio control message makes of a state is told by specs; code hears it in lent words.
+#![tactic(auto)]
+
 ghost use Rattle.std.specs.Prelude.{◌≡◌};
 ghost use Rattle.ips_radio.specs.Heard.{due_of};
 
@@ -6,7 +8,7 @@ use meaning::message::Context;
 use quantity::refusal::Refusal;
 
 // `Due`: accepted, and a mobility message is due.
-#[derive(Drop)]
+#[derive(Clone, Copy)]
 pub enum RadioAnswer {
     Accepted,
     Due,

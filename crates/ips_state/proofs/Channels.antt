@@ -18,7 +18,7 @@ use Rattle.writable.specs.Allowed.{status_allowed}
 use Rattle.store.specs.Waiting.{well_formed}
 use Rattle.ips_channel.specs.declared.state.Channel.{Channel}
 use Rattle.ips_state.specs.State.{no_channel}
-use Rattle.ips_state.specs.Limits.{setting_fits, flow_fits, channel_fits_under, channel_fits, all_fit_under, all_fit, ids, distinct, sizes, indexOf}
+use Rattle.ips_state.specs.Limits.{setting_fits, flow_fits, channel_fits_under, channel_fits, all_fit_under, all_fit, ids, distinct, sizes, index_of}
 
 pub same_or_not : (m n : ℕ) → (m ≡ n) ⊎ (m ≡ n → ⊥)
 same_or_not m n = go (ℕ_discrete m n)
@@ -41,12 +41,12 @@ module _ (n x : ℕ) (xs : List ℕ) where
   pub among_later : (x ≡ n → ⊥) → among n (x ∷ xs) ≡ among n xs
   among_later f = rw (ne_eqb n x (λ e. f (sym e)))
 
-  pub index_first : x ≡ n → indexOf n (x ∷ xs) ≡ 0
-  unfolding indexOf
+  pub index_first : x ≡ n → index_of n (x ∷ xs) ≡ 0
+  unfolding index_of
   index_first e = rw (eq-eqb x n e)
 
-  index_later : (x ≡ n → ⊥) → indexOf n (x ∷ xs) ≡ suc (indexOf n xs)
-  unfolding indexOf
+  index_later : (x ≡ n → ⊥) → index_of n (x ∷ xs) ≡ suc (index_of n xs)
+  unfolding index_of
   index_later f = rw (ne_eqb x n f)
 
 pub among_join : (n : ℕ) (xs ys : List ℕ) → among n (xs ++ ys) ≡ cond (among n xs) true (among n ys)
@@ -54,21 +54,21 @@ among_join n [] ys = refl
 among_join n (x ∷ xs) ys =
     ⊎_elim (λ e. rw (among_first n x (xs ++ ys) e, among_first n x xs e)) (λ f. rw (among_later n x (xs ++ ys) f, among_later n x xs f) (among_join n xs ys)) (same_or_not x n)
 
-pub index_here : (n : ℕ) (xs ys : List ℕ) → among n xs ≡ true → indexOf n (xs ++ ys) ≡ indexOf n xs
+pub index_here : (n : ℕ) (xs ys : List ℕ) → among n xs ≡ true → index_of n (xs ++ ys) ≡ index_of n xs
 index_here n [] ys h = clash h
 index_here n (x ∷ xs) ys h =
     ⊎_elim (λ e. rw (index_first n x (xs ++ ys) e, index_first n x xs e))
     (λ f. rw (index_later n x (xs ++ ys) f, index_later n x xs f, index_here n xs ys (sym (among_later n x xs f) ∙ h))) (same_or_not x n)
 
-pub index_past : (n : ℕ) (xs ys : List ℕ) → among n xs ≡ false → indexOf n (xs ++ ys) ≡ length xs + indexOf n ys
+pub index_past : (n : ℕ) (xs ys : List ℕ) → among n xs ≡ false → index_of n (xs ++ ys) ≡ length xs + index_of n ys
 index_past n [] ys h = omega arith
 index_past n (x ∷ xs) ys h =
     ⊎_elim (λ e. clash (sym h ∙ among_first n x xs e))
-    (λ f. let more : indexOf n (xs ++ ys) ≡ length xs + indexOf n ys = index_past n xs ys (sym (among_later n x xs f) ∙ h) in rw (index_later n x (xs ++ ys) f) (omega arith)) (same_or_not x n)
+    (λ f. let more : index_of n (xs ++ ys) ≡ length xs + index_of n ys = index_past n xs ys (sym (among_later n x xs f) ∙ h) in rw (index_later n x (xs ++ ys) f) (omega arith)) (same_or_not x n)
 
 -- one that is not there has the index behind the last
-pub index_none : (n : ℕ) (ns : List ℕ) → among n ns ≡ false → indexOf n ns ≡ length ns
-unfolding indexOf
+pub index_none : (n : ℕ) (ns : List ℕ) → among n ns ≡ false → index_of n ns ≡ length ns
+unfolding index_of
 index_none n [] h = refl
 index_none n (x ∷ xs) h =
     ⊎_elim (λ e. clash (sym h ∙ among_first n x xs e)) (λ f. rw (index_later n x xs f, index_none n xs (sym (among_later n x xs f) ∙ h))) (same_or_not x n)
@@ -77,7 +77,7 @@ pub record StandsAt (n : ℕ) (ns : List ℕ) (index : ℕ) : Type 0 where
   pub inside : index < length ns
   pub is : get_or ns index 0 ≡ n
 
-pub index_stands : (n : ℕ) (ns : List ℕ) → among n ns ≡ true → StandsAt n ns (indexOf n ns)
+pub index_stands : (n : ℕ) (ns : List ℕ) → among n ns ≡ true → StandsAt n ns (index_of n ns)
 index_stands n [] h = clash h
 index_stands n (x ∷ xs) h =
     ⊎_elim (λ e. rw (index_first n x xs e) (record { inside = omega arith; is = e }))
@@ -104,7 +104,7 @@ distinct_more (x ∷ xs) n d h =
     rw (among_join x xs (n ∷ []), parts.0, among_later x n [] (λ e. f (sym e)), distinct_more xs n parts.1 (sym (among_later n x xs f) ∙ h))) (same_or_not x n)
 
 -- the index of each is its place
-pub distinct_index : (ns : List ℕ) (n index : ℕ) → distinct ns ≡ true → StandsAt n ns index → indexOf n ns ≡ index
+pub distinct_index : (ns : List ℕ) (n index : ℕ) → distinct ns ≡ true → StandsAt n ns index → index_of n ns ≡ index
 unfolding distinct
 distinct_index [] n index d h = absurd (omega (arith, h.inside))
 distinct_index (x ∷ xs) n zero d h = index_first n x xs h.is
@@ -120,7 +120,7 @@ distinct_twice ns rest n h = go (distinct (ns ++ (n ∷ rest))) refl
     go : (b : Bool) → distinct (ns ++ (n ∷ rest)) ≡ b → b ≡ false
     go true d =
         let first = index_stands n ns h in
-        let here : indexOf n (ns ++ (n ∷ rest)) ≡ length ns = distinct_index (ns ++ (n ∷ rest)) n (length ns) d (record { inside = simp length-append (omega arith); is = get_or-append_seam ns n rest 0 }) in
+        let here : index_of n (ns ++ (n ∷ rest)) ≡ length ns = distinct_index (ns ++ (n ∷ rest)) n (length ns) d (record { inside = simp length-append (omega arith); is = get_or-append_seam ns n rest 0 }) in
         absurd (omega (arith, first.inside, index_here n ns (n ∷ rest) h))
     go false d = refl
 
@@ -132,7 +132,7 @@ distinct_by (x ∷ xs) h = rw (alone (among x xs) refl, distinct_by xs (λ i j k
     alone : (b : Bool) → among x xs ≡ b → b ≡ false
     alone true e =
         let there = index_stands x xs e in
-        let z : zero ≡ suc (indexOf x xs) = h 0 (suc (indexOf x xs)) (omega arith) (omega (arith, there.inside)) (sym there.is) in absurd (omega arith)
+        let z : zero ≡ suc (index_of x xs) = h 0 (suc (index_of x xs)) (omega arith) (omega (arith, there.inside)) (sym there.is) in absurd (omega arith)
     alone false e = refl
 
 -- ---- channels

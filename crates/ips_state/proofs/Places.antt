@@ -21,7 +21,7 @@ use Rattle.ips_channel.specs.Channel.{fresh_channel}
 use Rattle.pacer.specs.declared.Pacer.{Pacer}
 use Rattle.pacer.specs.Pacing.{pacer_fits}
 use Rattle.ips_state.specs.State.{ChannelStart, Configuration, State, no_start, no_channel, channel_at, with_channel, with_pacer, fresh_of, fresh_state, blank_state}
-use Rattle.ips_state.specs.Limits.{flow_fits, channel_fits_under, channel_fits, all_fit_under, all_fit, ids, distinct, channels_fit_under, count_fits, names_fit, head_fits, state_fits_under, state_fits, setting_fits, starts_fit, start_ids, configuration_fits_under, waits_fit, configuration_taken, sizes, indexOf}
+use Rattle.ips_state.specs.Limits.{flow_fits, channel_fits_under, channel_fits, all_fit_under, all_fit, ids, distinct, channels_fit_under, count_fits, names_fit, head_fits, state_fits_under, state_fits, setting_fits, starts_fit, start_ids, configuration_fits_under, waits_fit, configuration_taken, sizes, index_of}
 use Rattle.ips_state.specs.Memory.{memory_fits, start_of, store_at, with_store}
 use Rattle.ips_state.proofs.Channels.{get_d_mapped, index_none, index_stands, distinct_index, all_at, all_set, ids_length, ids_at, ids_set, sizes_room, sizes_set, sizes_all, ChannelFit, fitting}
 
@@ -88,7 +88,7 @@ module _ (s : State) (fits : state_fits s ≡ true) where
   pub channel_fitting_at : (index : ℕ) → index < length s.channels → ChannelFit (channel_at s index)
   channel_fitting_at index inside = fitting (channel_at s index) (channel_fits_at index inside)
 
-  pub index_one : (index id : ℕ) → index < length s.channels → (channel_at s index).setting.id ≡ id → indexOf id (ids s.channels) ≡ index
+  pub index_one : (index id : ℕ) → index < length s.channels → (channel_at s index).setting.id ≡ id → index_of id (ids s.channels) ≡ index
   unfolding channel_at
   index_one index id inside e =
       distinct_index (ids s.channels) id index (fit s fits).apart (record { inside = omega (arith, ids_length s.channels); is = ids_at s.channels index ∙ e })
@@ -96,13 +96,13 @@ module _ (s : State) (fits : state_fits s ≡ true) where
 -- ---- a channel that is configured, and one that is not
 module _ (s : State) (id : ℕ) where
   pub found : among id (ids s.channels) ≡ true
-      → (indexOf id (ids s.channels) < length s.channels) × ((channel_at s (indexOf id (ids s.channels))).setting.id ≡ id)
+      → (index_of id (ids s.channels) < length s.channels) × ((channel_at s (index_of id (ids s.channels))).setting.id ≡ id)
   unfolding channel_at
   found e =
       let stands = index_stands id (ids s.channels) e in
-      (omega (arith, stands.inside, ids_length s.channels), sym (ids_at s.channels (indexOf id (ids s.channels))) ∙ stands.is)
+      (omega (arith, stands.inside, ids_length s.channels), sym (ids_at s.channels (index_of id (ids s.channels))) ∙ stands.is)
 
-  pub lost : among id (ids s.channels) ≡ false → indexOf id (ids s.channels) ≡ length s.channels
+  pub lost : among id (ids s.channels) ≡ false → index_of id (ids s.channels) ≡ length s.channels
   lost e = index_none id (ids s.channels) e ∙ ids_length s.channels
 
 size_set : (cs : List Channel) (i : ℕ) (c : Channel) (j : ℕ) → c.setting.size.0 ≡ (get_or cs i no_channel).setting.size.0 → (get_or (set cs i c) j no_channel).setting.size.0 ≡ (get_or cs j no_channel).setting.size.0

@@ -23,7 +23,7 @@ use Rattle.store.specs.Waiting.{waiting, no_entry, within, all_within_under, all
 use Rattle.flow.specs.declared.Flow.{Flow}
 use Rattle.ips_channel.specs.declared.state.Channel.{Channel}
 use Rattle.ips_state.specs.State.{State, channel_at}
-use Rattle.ips_state.specs.Limits.{flow_fits, channel_fits, ids, names_fit, state_fits, indexOf}
+use Rattle.ips_state.specs.Limits.{flow_fits, channel_fits, ids, names_fit, state_fits, index_of}
 use Rattle.ips_state.specs.WithinLimits.{QueueWithin, ChannelWithin, NameWithin, WithinLimits}
 use Rattle.ips_state.proofs.Channels.{stands_among, distinct_by, all_by, ids_length, ids_at, ChannelFit, fitting_fits}
 use Rattle.ips_state.proofs.Places.{fit, fit_fits, channel_fitting_at, index_one, found}
@@ -148,7 +148,7 @@ module _ (s : State) where
         few = f.few;
         each = λ index inside. fits_channel (channel_at s index) (channel_fitting_at s e index inside);
         apart = λ i j a b p. sym (index_one s e i (channel_at s j).setting.id a p) ∙ index_one s e j (channel_at s j).setting.id b refl;
-        primary = indexOf 0 (ids s.channels);
+        primary = index_of 0 (ids s.channels);
         primary_inside = (found s 0 f.primary).0;
         primary_is = (found s 0 f.primary).1;
         hello = ltb-true 0 _ waits.0;

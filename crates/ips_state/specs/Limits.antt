@@ -107,6 +107,6 @@ sizes [] = 0
 sizes (c ∷ cs) = c.setting.size.0 + sizes cs
 
 -- where a channel stands in the configuration; one that is not configured, behind the last
-unfoldable pub indexOf : ℕ → List ℕ → ℕ
-indexOf id [] = 0
-indexOf id (n ∷ ns) = cond (eqb n id) 0 (suc (indexOf id ns))
+unfoldable pub index_of : ℕ → List ℕ → ℕ
+index_of id [] = 0
+index_of id (n ∷ ns) = cond (eqb n id) 0 (suc (index_of id ns))

@@ -5,7 +5,7 @@ use Rattle.quantity.specs.Limits.{Limits, CURRENT-LIMITS}
 use Rattle.meaning.specs.Kinds.{among}
 use Rattle.ips_channel.specs.declared.state.Channel.{Channel}
 use Rattle.ips_state.specs.State.{State, channel_at}
-use Rattle.ips_state.specs.Limits.{ids, indexOf, sizes, state_fits_under}
+use Rattle.ips_state.specs.Limits.{ids, index_of, sizes, state_fits_under}
 
 -- "a lent memory whose length isn't the sum of the stores" is refused by 19
 unfoldable pub memory_fits : State → List ℕ → Bool
@@ -38,7 +38,7 @@ abbrev pub is_configured : World → ℕ → Bool
 is_configured w id = among id (ids w.state.channels)
 
 abbrev pub index_in : World → ℕ → ℕ
-index_in w id = indexOf id (ids w.state.channels)
+index_in w id = index_of id (ids w.state.channels)
 
 -- the channel at an index of the configuration, and its store
 abbrev pub channel_in : World → ℕ → Channel

@@ -1,4 +1,6 @@
 // Query on words: the IPS control message with a Flow Sequence for each flow-controlled channel, written without a table of Channel IDs.
+#![tactic(auto)]
+
 ghost use Rattle.std.specs.Prelude.{◌≡◌, true};
 ghost use Rattle.writer.specs.Written.{control_written, Outcome};
 ghost use Rattle.ips_state.specs.Limits.{state_fits};

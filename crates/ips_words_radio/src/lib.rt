@@ -1,5 +1,7 @@
 // An accepted radio control message in the lent words, and a silence: only a configured channel's status and flow state are written, and by a message the endpoint's
 // Link Instance and Context.
+#![tactic(auto)]
+
 ghost use Rattle.std.specs.Prelude.{◌≡◌, true, ◌≤◌, length};
 ghost use Rattle.ips_state.specs.Limits.{state_fits};
 ghost use Rattle.ips_words.specs.Words.{HEAD, SLOT, COUNT-WORD, word, state_in};

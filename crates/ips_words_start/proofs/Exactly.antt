@@ -17,7 +17,7 @@ use Rattle.quantity.specs.declared.refusal.Refusal.{Refusal}
 use Rattle.meaning.specs.Kinds.{among}
 use Rattle.ips_state.specs.declared.StartAnswer.{StartAnswer}
 use Rattle.ips_state.specs.State.{ChannelStart, no_start, fresh_of, fresh_state}
-use Rattle.ips_state.specs.Limits.{setting_fits, starts_fit, start_ids, distinct, sizes, indexOf, configuration_fits, waits_fit}
+use Rattle.ips_state.specs.Limits.{setting_fits, starts_fit, start_ids, distinct, sizes, index_of, configuration_fits, waits_fit}
 use Rattle.ips_state.specs.Memory.{memory_fits}
 use Rattle.ips_state.proofs.Channels.{StandsAt, stands_among, index_stands, distinct_index, distinct_by}
 use Rattle.ips_words.specs.Words.{CONTROLLED, word, words_for, state_in}
@@ -70,7 +70,7 @@ module _ (w : List ℕ) (count : ℕ) where
         sym (distinct_index (start_ids (starts_of w count)) (get_or w (5 + 4 * i) 0) i parts.1 (record { inside = omega (arith, ids_long); is = id_at_lem i h }))
         ∙ distinct_index (start_ids (starts_of w count)) (get_or w (5 + 4 * i) 0) j parts.1 (record { inside = omega (arith, ids_long); is = id_at_lem j l ∙ sym e })
 
-    primary_stands : StandsAt 0 (start_ids (starts_of w count)) (indexOf 0 (start_ids (starts_of w count)))
+    primary_stands : StandsAt 0 (start_ids (starts_of w count)) (index_of 0 (start_ids (starts_of w count)))
     primary_stands = index_stands 0 (start_ids (starts_of w count)) parts.2
 
 -- ---- the tests from facts
@@ -124,9 +124,9 @@ module _ (w words memory : List ℕ) where
         smallest = λ i h. (size_within w number d.1 i h).0;
         largest = λ i h. (size_within w number d.1 i h).1;
         apart = ids_apart w number d.1;
-        primary = indexOf 0 (start_ids (starts_of w number));
+        primary = index_of 0 (start_ids (starts_of w number));
         primary_inside = omega (arith, there.inside, ids_long w number);
-        primary_is = sym (id_at_lem w number (indexOf 0 (start_ids (starts_of w number))) (omega (arith, there.inside, ids_long w number))) ∙ there.is;
+        primary_is = sym (id_at_lem w number (index_of 0 (start_ids (starts_of w number))) (omega (arith, there.inside, ids_long w number))) ∙ there.is;
         stores = eqb-true _ _ b.0 ∙ ap (λ ks. sizes (map fresh_of ks)) (starts_are w a.0) ∙ stores_all w number;
         room = eqb-true _ _ b.1 ∙ ap words_for (count_is w a.0);
       }

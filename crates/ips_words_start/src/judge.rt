@@ -12,7 +12,7 @@ use ips_words::waiting;
 use quantity::count::ByteCount;
 use quantity::limit::{CHANNEL_IDS, FEWEST_CHANNELS, LARGEST_STORE, MOST_CHANNELS, SMALLEST_STORE};
 
-#[derive(Drop)]
+#[derive(Clone, Copy)]
 pub struct Judged {
     pub fits: bool,
     pub total: ByteCount,

@@ -1,4 +1,6 @@
 // A fresh start on words: the configuration is lent as words, and the state is written into words.
+#![tactic(auto)]
+
 ghost use Rattle.std.specs.Prelude.{◌≡◌};
 ghost use Rattle.ips_words_start.specs.Start.{not_started, StartedIn};
 

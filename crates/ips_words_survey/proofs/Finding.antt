@@ -12,7 +12,7 @@ use Rattle.facts.proofs.Tests.{clash}
 use Rattle.quantity.specs.Refusals.{NO-CHANNEL, OUTSIDE-LIMITS}
 use Rattle.meaning.specs.Kinds.{among}
 use Rattle.ips_state.specs.State.{State}
-use Rattle.ips_state.specs.Limits.{ids, indexOf, sizes, state_fits}
+use Rattle.ips_state.specs.Limits.{ids, index_of, sizes, state_fits}
 use Rattle.ips_words.specs.Words.{COUNT-WORD, word, state_in, readable}
 use Rattle.ips_words.proofs.Whole.{channels_length, readable_facts, says, fit_readable}
 use Rattle.ips_words_survey.specs.declared.survey.Survey.{Survey}
@@ -57,7 +57,7 @@ module _ (words : List ℕ) (id : ℕ) (r : Survey) (is : r ≡ survey_of (state
   index_last = rw (says words readable_then) (sym (channels_length words))
 
 -- where the survey says that a configured channel's store starts
-pub surveyed_start : (s : State) (id : ℕ) → among id (ids s.channels) ≡ true → (surveyed s.channels id).start.0 ≡ start_of s (indexOf id (ids s.channels))
+pub surveyed_start : (s : State) (id : ℕ) → among id (ids s.channels) ≡ true → (surveyed s.channels id).start.0 ≡ start_of s (index_of id (ids s.channels))
 unfolding surveyed start_of
 surveyed_start s id e = rw e
 
@@ -72,7 +72,7 @@ module _ (s : State) (id size : ℕ) (r : Survey) (is : r ≡ survey_of s id) wh
     unfolding surveyed
     total_is = rw (survey_at s id r is fits)
 
-    index_is : r.index ≡ indexOf id (ids s.channels)
+    index_is : r.index ≡ index_of id (ids s.channels)
     unfolding surveyed
     index_is = rw (survey_at s id r is fits)
 

@@ -14,7 +14,7 @@ use Rattle.quantity.specs.Limits.{FEWEST-CHANNELS, MOST-CHANNELS, LARGEST-STORE}
 use Rattle.meaning.specs.Kinds.{among}
 use Rattle.ips_channel.specs.declared.state.Channel.{Channel}
 use Rattle.ips_state.specs.State.{State, no_channel, channel_at}
-use Rattle.ips_state.specs.Limits.{channel_fits, all_fit_under, all_fit, ids, distinct, channels_fit_under, sizes, indexOf, head_fits, state_fits_under}
+use Rattle.ips_state.specs.Limits.{channel_fits, all_fit_under, all_fit, ids, distinct, channels_fit_under, sizes, index_of, head_fits, state_fits_under}
 use Rattle.ips_words_survey.specs.Survey.{unfit, surveyed, walked, survey_of}
 use Rattle.ips_state.proofs.Channels.{among_first, among_later, among_join, index_first, index_here, index_past, index_none, index_stands, distinct_more, distinct_twice, all_join, ids_join, ids_length, sizes_join, sizes_most, same_or_not}
 
@@ -42,8 +42,8 @@ pub record Walking (id count : ℕ) (done : List Channel) (seen : List Bool) (to
   pub apart : distinct (ids done) ≡ true
   pub seen_is : (k : ℕ) → k < BYTES → get_or seen k false ≡ among k (ids done)
   pub total_is : total ≡ sizes done
-  pub index_is : index ≡ cond (among id (ids done)) (indexOf id (ids done)) count
-  pub start_is : start ≡ cond (among id (ids done)) (sizes (take (indexOf id (ids done)) done)) 0
+  pub index_is : index ≡ cond (among id (ids done)) (index_of id (ids done)) count
+  pub start_is : start ≡ cond (among id (ids done)) (sizes (take (index_of id (ids done)) done)) 0
 
 pub walk_start : (id count : ℕ) → Walking id count [] (replicate BYTES false) 0 count 0
 unfolding all_fit_under ids distinct sizes
@@ -71,18 +71,18 @@ module _ (done : List Channel) (c : Channel) (new : among c.setting.id (ids done
       truth true = refl
       truth false = refl
 
-  index_new : indexOf c.setting.id (ids more) ≡ length done
+  index_new : index_of c.setting.id (ids more) ≡ length done
   index_new = rw (ids_more, index_past c.setting.id (ids done) (c.setting.id ∷ []) new, index_first c.setting.id c.setting.id [] refl, ids_length) (omega arith)
 
-  start_new : sizes (take (indexOf c.setting.id (ids more)) more) ≡ sizes done
+  start_new : sizes (take (index_of c.setting.id (ids more)) more) ≡ sizes done
   start_new = rw (index_new, take-append_seam)
 
   module _ (k : ℕ) (there : among k (ids done) ≡ true) where
-    index_old : indexOf k (ids more) ≡ indexOf k (ids done)
+    index_old : index_of k (ids more) ≡ index_of k (ids done)
     index_old = rw ids_more (index_here k (ids done) (c.setting.id ∷ []) there)
 
-    start_old : sizes (take (indexOf k (ids more)) more) ≡ sizes (take (indexOf k (ids done)) done)
-    start_old = rw (index_old, take-append-le (indexOf k (ids done)) done (c ∷ []) (omega (arith, (index_stands k (ids done) there).inside, ids_length done)))
+    start_old : sizes (take (index_of k (ids more)) more) ≡ sizes (take (index_of k (ids done)) done)
+    start_old = rw (index_old, take-append-le (index_of k (ids done)) done (c ∷ []) (omega (arith, (index_stands k (ids done) there).inside, ids_length done)))
 
 module _ (id count : ℕ) (done : List Channel) (seen : List Bool) (total index start : ℕ) (w : Walking id count done seen total index start) (c : Channel) (byte : c.setting.id < BYTES) where
   known : get_or seen c.setting.id false ≡ among c.setting.id (ids done)
@@ -98,8 +98,8 @@ module _ (id count : ℕ) (done : List Channel) (seen : List Bool) (total index 
         (λ (f : c.setting.id ≡ k → ⊥). get_or-set_other seen c.setting.id k true false (λ e. f (sym e)) ∙ w.seen_is k h ∙ sym (among_other done c new k f)) (same_or_not c.setting.id k)
 
     walk_on : (index' start' : ℕ)
-        → index' ≡ cond (among id (ids (more done c new))) (indexOf id (ids (more done c new))) count
-        → start' ≡ cond (among id (ids (more done c new))) (sizes (take (indexOf id (ids (more done c new))) (more done c new))) 0
+        → index' ≡ cond (among id (ids (more done c new))) (index_of id (ids (more done c new))) count
+        → start' ≡ cond (among id (ids (more done c new))) (sizes (take (index_of id (ids (more done c new))) (more done c new))) 0
         → Walking id count (more done c new) (set seen c.setting.id true) (total + c.setting.size.0) index' start'
     unfolding all_fit_under sizes
     walk_on index' start' i j = record {
@@ -122,12 +122,12 @@ module _ (id count : ℕ) (done : List Channel) (seen : List Bool) (total index 
     walk_other f index' start' i j =
         walk_on index' start' (rw (among_other done c new id f) (i ∙ w.index_is ∙ same_index (among id (ids done)) refl)) (rw (among_other done c new id f) (j ∙ w.start_is ∙ same_start (among id (ids done)) refl))
       where
-        same_index : (b : Bool) → among id (ids done) ≡ b → cond b (indexOf id (ids done)) count ≡ cond b (indexOf id (ids (more done c new))) count
+        same_index : (b : Bool) → among id (ids done) ≡ b → cond b (index_of id (ids done)) count ≡ cond b (index_of id (ids (more done c new))) count
         same_index true t = sym (index_old done c new id t)
         same_index false t = refl
 
         same_start : (b : Bool) → among id (ids done) ≡ b
-            → cond b (sizes (take (indexOf id (ids done)) done)) 0 ≡ cond b (sizes (take (indexOf id (ids (more done c new))) (more done c new))) 0
+            → cond b (sizes (take (index_of id (ids done)) done)) 0 ≡ cond b (sizes (take (index_of id (ids (more done c new))) (more done c new))) 0
         same_start true t = sym (start_old done c new id t)
         same_start false t = refl
 
@@ -152,11 +152,11 @@ module _ (id count : ℕ) (cs : List Channel) (seen : List Bool) (total index st
   unfolding walked channels_fit_under surveyed
   walk_end e l = rw (w.fit, w.apart, sym (w.seen_is 0 (omega arith)) ∙ e, w.total_is, w.start_is, place)
     where
-      last : (b : Bool) → among id (ids cs) ≡ b → cond b (indexOf id (ids cs)) count ≡ indexOf id (ids cs)
+      last : (b : Bool) → among id (ids cs) ≡ b → cond b (index_of id (ids cs)) count ≡ index_of id (ids cs)
       last true t = refl
       last false t = l ∙ sym (index_none id (ids cs) t ∙ ids_length cs)
 
-      place : index ≡ indexOf id (ids cs)
+      place : index ≡ index_of id (ids cs)
       place = w.index_is ∙ last (among id (ids cs)) refl
 
 -- ---- the state's other limits, before the pass

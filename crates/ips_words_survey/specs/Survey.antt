@@ -4,7 +4,7 @@ use Rattle.quantity.specs.Limits.{MOST-CHANNELS}
 use Rattle.meaning.specs.Kinds.{among}
 use Rattle.ips_channel.specs.declared.state.Channel.{Channel}
 use Rattle.ips_state.specs.State.{State}
-use Rattle.ips_state.specs.Limits.{ids, channels_fit, state_fits, sizes, indexOf}
+use Rattle.ips_state.specs.Limits.{ids, channels_fit, state_fits, sizes, index_of}
 use Rattle.ips_words.specs.Words.{COUNT-WORD, CONTROLLED, FREE, words_for, word, state_of, all_spelled}
 use Rattle.ips_words_survey.specs.declared.survey.Survey.{Survey}
 
@@ -13,7 +13,7 @@ unfit = record { fits = false; total = record { 0 = 0 }; index = 0; start = reco
 
 unfoldable pub surveyed : List Channel → ℕ → Survey
 surveyed cs id =
-    record { fits = true; total = record { 0 = sizes cs }; index = indexOf id (ids cs); start = record { 0 = cond (among id (ids cs)) (sizes (take (indexOf id (ids cs)) cs)) 0 } }
+    record { fits = true; total = record { 0 = sizes cs }; index = index_of id (ids cs); start = record { 0 = cond (among id (ids cs)) (sizes (take (index_of id (ids cs)) cs)) 0 } }
 
 unfoldable pub walked : List Channel → ℕ → Survey
 walked cs id = cond (channels_fit cs) (surveyed cs id) unfit

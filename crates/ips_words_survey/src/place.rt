@@ -9,13 +9,13 @@ use ips_words::waiting;
 use quantity::refusal;
 
 // A channel's index in the configuration, and where its store starts in the memory.
-#[derive(Drop)]
+#[derive(Clone, Copy)]
 pub struct Found {
     pub index: usize,
     pub start: usize,
 }
 
-#[derive(Drop)]
+#[derive(Clone, Copy)]
 pub enum Place {
     At(Found),
     Refused(u8),

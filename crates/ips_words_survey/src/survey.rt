@@ -16,7 +16,7 @@ use quantity::limit::{FEWEST_CHANNELS, MOST_CHANNELS};
 use writable::part;
 
 // A channel that is not configured has the index behind the last.
-#[derive(Drop)]
+#[derive(Clone, Copy)]
 pub struct Survey {
     pub fits: bool,
     pub total: ByteCount,

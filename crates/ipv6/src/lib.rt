@@ -1,4 +1,6 @@
 // An offered packet, judged by the fixed header of RFC 8200.
+#![tactic(auto)]
+
 ghost use Rattle.std.specs.Prelude.{◌≡◌};
 ghost use Rattle.ipv6.specs.Ipv6.{is_ipv6};
 

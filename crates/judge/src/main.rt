@@ -1,4 +1,6 @@
 // Document 02, "Judging another maker's session": says of each channel of a capture whether its data messages obey.
+#![tactic(auto)]
+
 ghost use Rattle.std.specs.Prelude.{◌≡◌, length};
 ghost use Rattle.judge.specs.Serving.{TurnedTo, Served, Judged};
 
@@ -58,7 +60,7 @@ fn say_findings(out: &mut [u8], words: &[u64]) -> bool {
 }
 
 // What a turn left: what came of the capture, and the counts.
-#[derive(Drop)]
+#[derive(Clone, Copy)]
 struct Left {
     came: Came,
     tally: Tally,

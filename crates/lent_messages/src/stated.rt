@@ -11,7 +11,7 @@ use meaning::message::{
 use quantity::count::{DatalinkId, FlowSequence, FlowWindow, LinkInstanceId};
 
 // The tag and the numbers of what is stated, 0 where there are fewer.
-#[derive(Drop)]
+#[derive(Clone, Copy)]
 pub struct Stated {
     pub tag: u64,
     pub first: u64,

@@ -4,7 +4,7 @@ use mathlib.Core.Path.{◌≡◌, refl, sym, ap, ◌∙◌}
 use mathlib.Core.List.{List, [], ◌∷◌, ◌++◌, append_assoc, append-nil}
 use native.Mathlib.Decide.{dec_le}
 use Rattle.facts.proofs.Lists.{rest_part}
-use Rattle.bytes.specs.Bytes.{indexOf}
+use Rattle.octets.specs.Bytes.{index_of}
 use Prim.Native.Nat.{ℕ, zero, suc, ◌+◌, ◌-◌, ◌*◌, ◌/◌, ◌%◌, ◌≤◌, ◌<◌}
 use native.Mathlib.Numerals.{add-one}
 use native.Mathlib.Omega.{arith}
@@ -208,18 +208,18 @@ module _ (line : List ℕ) (at : ℕ) (h : at ≤ length line) {left : List ℕ}
       nothing [] z = refl
       nothing (x ∷ l) z = absurd (omega arith)
 
-  beyond_place : left ≡ drop (at + 1 + indexOf 32 (drop 1 (drop at line))) line
+  beyond_place : left ≡ drop (at + 1 + index_of 32 (drop 1 (drop at line))) line
   unfolding tail_of
   beyond_place =
-      let sum : at + (1 + indexOf 32 (drop 1 (drop at line))) ≡ at + 1 + indexOf 32 (drop 1 (drop at line)) = omega arith in
-      beyond_is ∙ drop-drop (indexOf 32 (drop 1 (drop at line))) 1 (drop at line) ∙ drop-drop (1 + indexOf 32 (drop 1 (drop at line))) at line
+      let sum : at + (1 + index_of 32 (drop 1 (drop at line))) ≡ at + 1 + index_of 32 (drop 1 (drop at line)) = omega arith in
+      beyond_is ∙ drop-drop (index_of 32 (drop 1 (drop at line))) 1 (drop at line) ∙ drop-drop (1 + index_of 32 (drop 1 (drop at line))) at line
       ∙ ap (λ (k : ℕ). drop k line) sum
 
   pub past_short : length left ≤ length line
   past_short = rw beyond_place (simp length-drop (omega arith))
 
   pub past_from : StartsAt line (length line - length left) (beyond_of (drop at line))
-  past_from = record { within = omega arith; starts = beyond_at (at + 1 + indexOf 32 (drop 1 (drop at line))) beyond_place ∙ beyond_is }
+  past_from = record { within = omega arith; starts = beyond_at (at + 1 + index_of 32 (drop 1 (drop at line))) beyond_place ∙ beyond_is }
 
 module _ {line : List ℕ} (at a value : ℕ) {r : ℕ} where
   pub behind_word : (a ≡ OPTIONAL → ⊥) → StartsAt line r (beyond_of (drop at line)) → StartsAt line r (behind_of a value (drop at line))

@@ -7,6 +7,8 @@
 // A key is a keyword of up to 8 bytes, its first byte in the lowest place. Each word says one number, a byte string its length.
 // A part that may be missing is `OPTIONAL key, LIST n` and its n items. Lists don't nest.
 // A program's table has, for each command, the key of its first word, the number of its row's items, and the row.
+#![tactic(auto)]
+
 mod row;
 mod table;
 mod word;

@@ -9,14 +9,14 @@ use crate::{BYTES, LIST, OPTIONAL};
 use text::Number;
 
 // Whether a row read all of a line, and how many bytes it said.
-#[derive(Drop)]
+#[derive(Clone, Copy)]
 pub(crate) struct RowRead {
     pub(crate) good: bool,
     pub(crate) bytes: usize,
 }
 
 // How far a line is read: whether all was well, where its rest starts, how many numbers and bytes were said.
-#[derive(Drop)]
+#[derive(Clone, Copy)]
 struct Cursor {
     good: bool,
     at: usize,

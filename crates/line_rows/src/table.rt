@@ -7,7 +7,7 @@ use crate::word::spells;
 use text::{head, tail};
 
 // The key of the command that a line is, or 0 for a line that is none; and how many bytes it said.
-#[derive(Drop)]
+#[derive(Clone, Copy)]
 pub struct Told {
     pub key: u64,
     pub bytes: usize,

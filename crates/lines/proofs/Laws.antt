@@ -13,7 +13,7 @@ use lib.Signed.{lt_z}
 use lib.ListN.{length, get_or, take, drop, set, length-set, length-drop}
 use lib.Seq.{length-take-le, take-add, drop_at, get_or-drop, paste, paste-zero, paste-suc, take-paste, drop-paste, length-paste}
 use Rattle.facts.proofs.Tests.{clash}
-use Rattle.bytes.specs.Bytes.{indexOf, index_after, slice}
+use Rattle.octets.specs.Bytes.{index_of, index_after, slice}
 use Rattle.io.specs.Counts.{clamp_len}
 use Rattle.lines.specs.declared.Input.{Input}
 use Rattle.lines.specs.declared.Found.{Found}
@@ -41,7 +41,7 @@ module _ (input : Input) where
     unfolding next_of
     next_end t = rw t
 
-    module _ {to : ℕ} (t : tidy_of (length buffer) input ≡ true) (e : to ≡ input.at + indexOf 10 (slice input.at input.have buffer)) where
+    module _ {to : ℕ} (t : tidy_of (length buffer) input ≡ true) (e : to ≡ input.at + index_of 10 (slice input.at input.have buffer)) where
       found_is : found_of input to ≡ next_of buffer input
       unfolding next_of
       found_is = rw t (ap (found_of input) e)
@@ -203,7 +203,7 @@ abbrev pub unread : List ℕ → Input → List ℕ
 unread buffer input = slice input.at input.have buffer
 
 abbrev pub stop : List ℕ → Input → ℕ
-stop buffer input = indexOf 10 (unread buffer input)
+stop buffer input = index_of 10 (unread buffer input)
 
 pub data Next (buffer : List ℕ) (input : Input) (found : Found) : Type 0 where
   a_line : stop buffer input < length (unread buffer input) → input.over ≡ false
@@ -218,12 +218,12 @@ pub data Next (buffer : List ℕ) (input : Input) (found : Found) : Type 0 where
   nothing : input.failed ≡ false → input.ended ≡ true → input.over ≡ false → input.have ≤ input.at → found ≡ End → Next buffer input found
   unreadable : stop buffer input ≡ length (unread buffer input) → input.failed ≡ true → found ≡ Failed → Next buffer input found
 
-index_most : (bytes : List ℕ) → indexOf 10 bytes ≤ length bytes
-unfolding indexOf index_after
+index_most : (bytes : List ℕ) → index_of 10 bytes ≤ length bytes
+unfolding index_of index_after
 index_most [] = omega arith
 index_most (byte ∷ bytes) = go (eqb byte 10) (index_most bytes)
   where
-    go : (b : Bool) → indexOf 10 bytes ≤ length bytes → index_after b (indexOf 10 bytes) ≤ suc (length bytes)
+    go : (b : Bool) → index_of 10 bytes ≤ length bytes → index_after b (index_of 10 bytes) ≤ suc (length bytes)
     go true h = omega arith
     go false h = omega arith
 

@@ -3,7 +3,7 @@ use mathlib.Core.Path.{◌≡◌, refl}
 use mathlib.Core.Bool.{Bool, true, false}
 use mathlib.Core.List.{List, [], ◌∷◌}
 use Prim.Native.Nat.{ℕ}
-use Rattle.bytes.specs.Bytes.{indexOf, index_after, slice}
+use Rattle.octets.specs.Bytes.{index_of, index_after, slice}
 use Rattle.lines.specs.declared.Input.{Input}
 use Rattle.lines.specs.declared.Found.{Found}
 use Rattle.lines.specs.declared.Found.TheVariants.{End, Line, Over, Failed}
@@ -46,7 +46,7 @@ finished =
     ∷ []
 
 pub failed_next : Answers (next_of (49 ∷ 10 ∷ 50 ∷ [])) unfinished × Answers (next_of (49 ∷ 10 ∷ [])) finished
-unfolding tidy_of line_of last_of found_of next_of indexOf index_after slice
+unfolding tidy_of line_of last_of found_of next_of index_of index_after slice
 failed_next = ((refl, (refl, (refl, (refl, (refl, (refl, (refl, (refl, tt)))))))), (refl, (refl, (refl, (refl, tt)))))
 
 -- the lines that ended, and all lines: they differ in what stands behind the last newline

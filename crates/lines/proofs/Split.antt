@@ -8,7 +8,7 @@ use borrow.Author.Tests.{lt-ltb, le-ltb}
 use lib.Dec.{eqb}
 use lib.ListN.{length, take, drop, length-append}
 use lib.Seq.{length-take-le}
-use Rattle.bytes.specs.Bytes.{indexOf, index_after}
+use Rattle.octets.specs.Bytes.{index_of, index_after}
 use Rattle.lines.specs.Reports.{longer, lines_of, before, ended_of, Report, whole, dropped, report_of}
 
 -- ---- the lines of an input, by whether a read fails behind it
@@ -58,28 +58,28 @@ joined_none (byte ∷ bytes) = ap (before byte) (joined_none bytes)
 
 -- bytes with a newline among them, and bytes without
 module _ (failed : Bool) (coming : List ℕ) where
-  cut_at : (bytes : List ℕ) → indexOf 10 bytes < length bytes
-      → lines_by failed (bytes ++ coming) ≡ take (indexOf 10 bytes) bytes ∷ lines_by failed (drop (suc (indexOf 10 bytes)) bytes ++ coming)
-  unfolding indexOf index_after
+  cut_at : (bytes : List ℕ) → index_of 10 bytes < length bytes
+      → lines_by failed (bytes ++ coming) ≡ take (index_of 10 bytes) bytes ∷ lines_by failed (drop (suc (index_of 10 bytes)) bytes ++ coming)
+  unfolding index_of index_after
   cut_at [] h = absurd (omega arith)
   cut_at (byte ∷ bytes) h = lines_on failed byte (bytes ++ coming) ∙ go (eqb byte 10) h (λ g. cut_at bytes g)
     where
-      go : (b : Bool) → index_after b (indexOf 10 bytes) < suc (length bytes)
-          → (indexOf 10 bytes < length bytes
-          → lines_by failed (bytes ++ coming) ≡ take (indexOf 10 bytes) bytes ∷ lines_by failed (drop (suc (indexOf 10 bytes)) bytes ++ coming))
-          → let n = index_after b (indexOf 10 bytes) in
+      go : (b : Bool) → index_after b (index_of 10 bytes) < suc (length bytes)
+          → (index_of 10 bytes < length bytes
+          → lines_by failed (bytes ++ coming) ≡ take (index_of 10 bytes) bytes ∷ lines_by failed (drop (suc (index_of 10 bytes)) bytes ++ coming))
+          → let n = index_after b (index_of 10 bytes) in
           cond b ([] ∷ lines_by failed (bytes ++ coming)) (put failed byte (lines_by failed (bytes ++ coming)))
           ≡ take n (byte ∷ bytes) ∷ lines_by failed (drop (suc n) (byte ∷ bytes) ++ coming)
       go true h' f = refl
       go false h' f = ap (put failed byte) (f (omega arith)) ∙ put_line failed byte _ _
 
-  none_at : (bytes : List ℕ) → indexOf 10 bytes ≡ length bytes → lines_by failed (bytes ++ coming) ≡ joined failed bytes (lines_by failed coming)
-  unfolding indexOf index_after joined
+  none_at : (bytes : List ℕ) → index_of 10 bytes ≡ length bytes → lines_by failed (bytes ++ coming) ≡ joined failed bytes (lines_by failed coming)
+  unfolding index_of index_after joined
   none_at [] h = refl
   none_at (byte ∷ bytes) h = lines_on failed byte (bytes ++ coming) ∙ go (eqb byte 10) h (λ g. none_at bytes g)
     where
-      go : (b : Bool) → index_after b (indexOf 10 bytes) ≡ suc (length bytes)
-          → (indexOf 10 bytes ≡ length bytes → lines_by failed (bytes ++ coming) ≡ joined failed bytes (lines_by failed coming))
+      go : (b : Bool) → index_after b (index_of 10 bytes) ≡ suc (length bytes)
+          → (index_of 10 bytes ≡ length bytes → lines_by failed (bytes ++ coming) ≡ joined failed bytes (lines_by failed coming))
           → cond b ([] ∷ lines_by failed (bytes ++ coming)) (put failed byte (lines_by failed (bytes ++ coming)))
           ≡ put failed byte (joined failed bytes (lines_by failed coming))
       go true h' f = absurd (omega arith)
@@ -118,23 +118,23 @@ module _ (failed : Bool) (size : ℕ) where
 
   module _ (bytes coming : List ℕ) where
     -- a newline among what is unread ends the first line
-    pub meant_line : indexOf 10 bytes < length bytes → length bytes ≤ size
+    pub meant_line : index_of 10 bytes < length bytes → length bytes ≤ size
         → meant failed size false (bytes ++ coming)
-        ≡ whole (take (indexOf 10 bytes) bytes) ∷ meant failed size false (drop (suc (indexOf 10 bytes)) bytes ++ coming)
+        ≡ whole (take (index_of 10 bytes) bytes) ∷ meant failed size false (drop (suc (index_of 10 bytes)) bytes ++ coming)
     meant_line h room =
-        let n = indexOf 10 bytes in
+        let n = index_of 10 bytes in
         let short : length (take n bytes) < size = rw (length-take-le n bytes (omega arith)) (omega arith) in
         rw (cut_at failed coming bytes h, lt-ltb (length (take n bytes)) size short)
 
-    pub meant_over : indexOf 10 bytes < length bytes
-        → meant failed size true (bytes ++ coming) ≡ dropped ∷ meant failed size false (drop (suc (indexOf 10 bytes)) bytes ++ coming)
+    pub meant_over : index_of 10 bytes < length bytes
+        → meant failed size true (bytes ++ coming) ≡ dropped ∷ meant failed size false (drop (suc (index_of 10 bytes)) bytes ++ coming)
     meant_over h = rw (cut_at failed coming bytes h)
 
     -- without one, a line that was dropped goes on, and one that fills the buffer is dropped
-    pub meant_on : indexOf 10 bytes ≡ length bytes → meant failed size true (bytes ++ coming) ≡ meant failed size true coming
+    pub meant_on : index_of 10 bytes ≡ length bytes → meant failed size true (bytes ++ coming) ≡ meant failed size true coming
     meant_on h = rw (none_at failed coming bytes h) (joined_dropped bytes (lines_by failed coming))
 
-    pub meant_full : indexOf 10 bytes ≡ length bytes → size ≤ length bytes → 0 < size
+    pub meant_full : index_of 10 bytes ≡ length bytes → size ≤ length bytes → 0 < size
         → meant failed size false (bytes ++ coming) ≡ meant failed size true coming
     meant_full h full o = rw (none_at failed coming bytes h) (go failed (lines_by failed coming))
       where
@@ -147,7 +147,7 @@ module _ (failed : Bool) (size : ℕ) where
 
 -- at the end of the input, what is unread is the last line, and one that was dropped is
 module _ {failed : Bool} (size : ℕ) (f : failed ≡ false) where
-  pub meant_last : (bytes : List ℕ) → indexOf 10 bytes ≡ length bytes → 0 < length bytes → length bytes < size
+  pub meant_last : (bytes : List ℕ) → index_of 10 bytes ≡ length bytes → 0 < length bytes → length bytes < size
       → meant failed size false (bytes ++ []) ≡ whole bytes ∷ []
   meant_last bytes h o short =
       rw (f, none_at false [] bytes h, lines_none false, joined_last bytes o, lt-ltb (length bytes) size short)
@@ -156,7 +156,7 @@ module _ {failed : Bool} (size : ℕ) (f : failed ≡ false) where
   meant_lost = rw (f, lines_none false)
 
 -- where a read failed, what is unread is no line
-pub meant_none : {failed : Bool} (size : ℕ) (over : Bool) (bytes : List ℕ) → failed ≡ true → indexOf 10 bytes ≡ length bytes
+pub meant_none : {failed : Bool} (size : ℕ) (over : Bool) (bytes : List ℕ) → failed ≡ true → index_of 10 bytes ≡ length bytes
     → meant failed size over (bytes ++ []) ≡ []
 meant_none size true bytes f h = rw (f, none_at true [] bytes h, lines_none true, joined_none bytes)
 meant_none size false bytes f h = rw (f, none_at true [] bytes h, lines_none true, joined_none bytes)

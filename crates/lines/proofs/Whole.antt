@@ -9,7 +9,7 @@ use lib.Dec.{eqb}
 use lib.ListN.{length, take, drop, take-append-drop}
 use lib.Seq.{take-take, drop-drop}
 use Rattle.facts.proofs.Tests.{neither, clash}
-use Rattle.bytes.specs.Bytes.{slice}
+use Rattle.octets.specs.Bytes.{slice}
 use Rattle.lines.specs.declared.Input.{Input}
 use Rattle.lines.specs.declared.Found.TheVariants.{More, End, Line, Over, Failed}
 use Rattle.lines.specs.Unread.{start_of, tidy_of, rest_of, next_of, lost_of, kept_of, Filled}

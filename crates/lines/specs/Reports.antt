@@ -1,6 +1,6 @@
 -- What is found of a whole input, in whatever pieces it comes.
 use Rattle.std.specs.Prelude.{◌≡◌, Bool, true, cond, List, [], ◌∷◌, ◌++◌, map, ℕ, ltb, eqb, length}
-use Rattle.bytes.specs.Bytes.{slice}
+use Rattle.octets.specs.Bytes.{slice}
 use Rattle.lines.specs.declared.Input.{Input}
 use Rattle.lines.specs.declared.Found.TheVariants.{More, End, Line, Over, Failed}
 use Rattle.lines.specs.Unread.{next_of, kept_of, Filled}

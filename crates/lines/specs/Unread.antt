@@ -1,6 +1,6 @@
 -- What was read of an input and isn't handed on yet.
 use Rattle.std.specs.Prelude.{◌≡◌, Bool, true, false, not, cond, ◌&&◌, ◌||◌, List, [], ℕ, ◌+◌, ◌≤◌, ltb, leb, eqb, ℤ, pos, negsuc, length, take}
-use Rattle.bytes.specs.Bytes.{indexOf, slice}
+use Rattle.octets.specs.Bytes.{index_of, slice}
 use Rattle.lines.specs.declared.Input.{Input}
 use Rattle.lines.specs.declared.Found.{Found}
 use Rattle.lines.specs.declared.Found.TheVariants.{More, End, Line, Over, Failed}
@@ -35,7 +35,7 @@ found_of input to =
 -- what stands next; an input that doesn't lie within the buffer is at its end
 unfoldable pub next_of : List ℕ → Input → Found
 next_of buffer input =
-    cond (tidy_of (length buffer) input) (found_of input (input.at + indexOf 10 (slice input.at input.have buffer))) End
+    cond (tidy_of (length buffer) input) (found_of input (input.at + index_of 10 (slice input.at input.have buffer))) End
 
 -- ---- reading more
 

@@ -1,6 +1,8 @@
 // Lines of standard input, read piece by piece into one lent buffer. A line ends at a newline; a last line without one
 // counts if it isn't empty. A line that has no room in the buffer with its newline is dropped, and found as over once.
 // Where reading fails, the lines that ended are found, and then that it failed.
+#![tactic(auto)]
+
 ghost use Rattle.std.specs.Prelude.{◌≡◌, ◌+◌, ◌≤◌, length, drop};
 ghost use Rattle.std.proofs.Math.Seq.{paste};
 ghost use Rattle.lines.specs.Unread.{start_of, tidy_of, line_of, last_of, next_of, lost_of, read_of, Behind, Filled};
@@ -8,7 +10,7 @@ ghost use Rattle.lines.specs.Unread.{start_of, tidy_of, line_of, last_of, next_o
 use libc::STDIN_FILENO;
 
 // What was read and isn't handed on yet: a buffer from `at` to `have`.
-#[derive(Drop)]
+#[derive(Clone, Copy)]
 pub struct Input {
     pub at: usize,
     pub have: usize,
@@ -21,7 +23,7 @@ pub struct Input {
 }
 
 // What stands next in an input.
-#[derive(Drop)]
+#[derive(Clone, Copy)]
 pub enum Found {
     // No end of a line yet.
     More,
@@ -107,7 +109,7 @@ pub fn next(buffer: &[u8], input: Input) -> Found
     }
     let at = input.at;
     let have = input.have;
-    let to = bytes::scan::find(buffer, at, have, b'\n');
+    let to = octets::find(buffer, at, have, b'\n');
     if to < have {
         return line(input, to, to + 1);
     }

@@ -1,4 +1,6 @@
 // What the four messages mean, and which options each may hold.
+#![tactic(auto)]
+
 pub mod kind;
 pub mod message;
 pub mod status;

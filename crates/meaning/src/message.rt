@@ -3,99 +3,99 @@ use quantity::count::{DatalinkId, FlowSequence, FlowWindow, LinkInstanceId};
 use quantity::limit::CHANNEL_IDS;
 
 // Whose message it is.
-#[derive(Drop)]
+#[derive(Clone, Copy)]
 pub enum End {
     Ips,
     Radio,
 }
 
-#[derive(Drop)]
+#[derive(Clone, Copy)]
 pub enum Plane {
     Control,
     Data,
 }
 
-#[derive(Drop)]
+#[derive(Clone, Copy)]
 pub enum Datalink {
     Absent,
     Given(DatalinkId),
 }
 
 // The number with the length that it is written at.
-#[derive(Drop)]
+#[derive(Clone, Copy)]
 pub enum Instance {
     Absent,
     Given(LinkInstanceId, usize),
 }
 
 // A byte string of up to 8 bytes, as the number that they spell.
-#[derive(Drop)]
+#[derive(Clone, Copy)]
 pub struct ContextBytes(pub u64);
 
 // The byte string with its length.
-#[derive(Drop)]
+#[derive(Clone, Copy)]
 pub enum Context {
     Absent,
     Given(ContextBytes, usize),
 }
 
-#[derive(Drop)]
+#[derive(Clone, Copy)]
 pub enum Status {
     Absent,
     Given(u8),
 }
 
-#[derive(Drop)]
+#[derive(Clone, Copy)]
 pub enum Sequence {
     Absent,
     Given(FlowSequence),
 }
 
 // A Flow Window option, without the field or with it.
-#[derive(Drop)]
+#[derive(Clone, Copy)]
 pub enum Window {
     Absent,
     Empty,
     Given(FlowWindow),
 }
 
-#[derive(Drop)]
+#[derive(Clone, Copy)]
 pub enum Channel {
     Absent,
     Given(u8),
 }
 
-#[derive(Drop)]
+#[derive(Clone, Copy)]
 pub enum Expiration {
     Absent,
     Given(u32),
 }
 
 // A data message's Flow Sequence, with the channel that it names.
-#[derive(Drop)]
+#[derive(Clone, Copy)]
 pub enum Counted {
     Absent,
     Given(u8, FlowSequence),
 }
 
 // An array's element is a struct: a place of a table.
-#[derive(Drop)]
+#[derive(Clone, Copy)]
 pub struct StatusCell {
     pub status: Status,
 }
 
-#[derive(Drop)]
+#[derive(Clone, Copy)]
 pub struct SequenceCell {
     pub sequence: Sequence,
 }
 
-#[derive(Drop)]
+#[derive(Clone, Copy)]
 pub struct WindowCell {
     pub window: Window,
 }
 
 // A control message: the tables are over the Channel IDs.
-#[derive(Drop)]
+#[derive(Clone, Copy)]
 pub struct Control {
     pub datalink: Datalink,
     pub instance: Instance,
@@ -106,7 +106,7 @@ pub struct Control {
 }
 
 // A data message. Its packet stands beside it: a stretch of the datagram, or of whatever memory is to be written from.
-#[derive(Drop)]
+#[derive(Clone, Copy)]
 pub struct Data {
     pub datalink: Datalink,
     pub sequence: Counted,

@@ -12,7 +12,7 @@ const LAST_OPERATIONAL: u8 = 7;
 const FIRST_CONFIGURED: u8 = 8;
 
 // Which of the statuses 8 to 15 are operational: bit status - 8.
-#[derive(Drop)]
+#[derive(Clone, Copy)]
 pub struct StatusCodes(pub u8);
 
 // One bit of the setting, by its place from the lowest.

@@ -12,7 +12,7 @@ use Rattle.lent_messages.specs.Stated.{instance_stated, context_stated}
 use Rattle.pacer.specs.declared.Pacer.{Pacer}
 use Rattle.ips_channel.specs.declared.state.Channel.{Channel}
 use Rattle.ips_state.specs.State.{State, channel_at}
-use Rattle.ips_state.specs.Limits.{ids, indexOf, state_fits}
+use Rattle.ips_state.specs.Limits.{ids, index_of, state_fits}
 use Rattle.ips_state.specs.Memory.{start_of}
 use Rattle.ips_words.specs.Words.{status_tag, status_value, flow_tag, flow_window}
 
@@ -21,7 +21,7 @@ abbrev pub is_had : State → (id : ℕ) → Bool
 is_had s id = among id (ids s.channels)
 
 abbrev pub place_for : State → (id : ℕ) → ℕ
-place_for s id = indexOf id (ids s.channels)
+place_for s id = index_of id (ids s.channels)
 
 abbrev pub channel_for : State → (id : ℕ) → Channel
 channel_for s id = channel_at s (place_for s id)

@@ -1,5 +1,7 @@
 // A control message of either end judged, option by option, and what it states of each channel noted in lent tables of numbers: a caller that only looks at it copies
 // no table of a whole meaning.
+#![tactic(auto)]
+
 ghost use Rattle.std.specs.Prelude.{◌≡◌, false, cond, drop, replicate};
 ghost use Rattle.wire.specs.Options.{split};
 ghost use Rattle.quantity.specs.Refusals.{MISSING, OTHER-DATALINK};
@@ -79,7 +81,7 @@ fn fault(end: End, id: DatalinkId, datalink: Datalink, code: u16) -> u8
 }
 
 // The verdict, and what of the meaning stands in no table.
-#[derive(Drop)]
+#[derive(Clone, Copy)]
 pub struct Noted {
     pub verdict: Verdict,
     pub instance: Instance,

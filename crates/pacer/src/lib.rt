@@ -1,11 +1,13 @@
 // The pacer: when a query is due, and when the radio has been silent too long. Document 02, "Query pacing and silence".
+#![tactic(auto)]
+
 ghost use Rattle.std.specs.Prelude.{◌≡◌};
 ghost use Rattle.pacer.specs.Pacing.{fresh_pacer, pacer_fits, is_earlier, passed, is_due, is_silent, asked, heard_at, moved_to, answer_of};
 
 use quantity::refusal::Refusal;
 
 // The two waits as configured, and three times: the pacer's one clock, the last query due, the last accepted radio control message.
-#[derive(Drop)]
+#[derive(Clone, Copy)]
 pub struct Pacer {
     pub hello: u64,
     pub limit: u64,
@@ -15,7 +17,7 @@ pub struct Pacer {
 }
 
 // One answer says both: is a query due, and is the radio silent.
-#[derive(Drop)]
+#[derive(Clone, Copy)]
 pub enum PaceAnswer {
     Quiet,
     Due,

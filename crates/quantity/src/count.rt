@@ -2,19 +2,19 @@
 ghost use Rattle.std.specs.Prelude.{◌≡◌};
 ghost use Rattle.quantity.specs.Distance.{ahead_of, distance_of, fits_of, advance_of};
 
-#[derive(Drop)]
+#[derive(Clone, Copy)]
 pub struct DatalinkId(pub u8);
 
-#[derive(Drop)]
+#[derive(Clone, Copy)]
 pub struct LinkInstanceId(pub u64);
 
-#[derive(Drop)]
+#[derive(Clone, Copy)]
 pub struct FlowSequence(pub u32);
 
-#[derive(Drop)]
+#[derive(Clone, Copy)]
 pub struct FlowWindow(pub u32);
 
-#[derive(Drop)]
+#[derive(Clone, Copy)]
 pub struct ByteCount(pub usize);
 
 // Half the numbers of 32 bits: from here on a difference counts as negative.

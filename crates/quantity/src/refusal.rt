@@ -52,7 +52,7 @@ pub const FILE_HEAD: u8 = 25;
 pub const RECORD: u8 = 26;
 
 // A refusal: its number and its place.
-#[derive(Drop)]
+#[derive(Clone, Copy)]
 pub struct Refusal {
     pub number: u8,
     pub place: usize,

@@ -7,6 +7,8 @@
 // - `tell` writes the message as it stands, and changes nothing;
 // - `show` tells what stands in the words of a channel, and `window` the Flow Window that it is granted.
 // An answer says what was written, or is a `Refusal` with its number: then every word and the output are as they were.
+#![tactic(auto)]
+
 pub mod begin;
 pub mod shown;
 

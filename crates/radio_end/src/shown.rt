@@ -9,7 +9,7 @@ use radio_end_telling::locate;
 use radio_end_telling::locate::Found;
 use radio_end_words::place;
 
-#[derive(Drop)]
+#[derive(Clone, Copy)]
 pub enum ShowAnswer {
     Shown(Channel),
     Refused(Refusal),

@@ -1,5 +1,7 @@
 // A datagram of the IPS end, heard by the radio's: a control message is answered; a data message is heard and its packet queued. 19, then 1 to 11 as for reading,
 // then 12, then 18; a refusal leaves every word and the output as they were.
+#![tactic(auto)]
+
 ghost use Rattle.std.specs.Prelude.{◌≡◌, true, not, ◌||◌};
 ghost use Rattle.radio_end_state.specs.Limits.{state_fits, is_configured};
 ghost use Rattle.radio_end_state.specs.Calls.{is_stated, lacks_none, channel_named, sequence_counted, hearing_all, control_heard, data_heard, control_read, data_read, heard};

@@ -17,7 +17,7 @@ use Rattle.writable.specs.Allowed.{instance_allowed, context_allowed}
 use Rattle.radio_flow.specs.declared.Highest.{Highest}
 use Rattle.radio_end_state.specs.declared.channel.Channel.{Channel}
 use Rattle.radio_end_state.specs.State.{State, channel_at}
-use Rattle.radio_end_state.specs.Limits.{indexOf, stands_first, highest_fits, channel_fits, ids, state_fits}
+use Rattle.radio_end_state.specs.Limits.{index_of, stands_first, highest_fits, channel_fits, ids, state_fits}
 use Rattle.radio_end_state.proofs.UpTo.{up_to_by}
 use Rattle.radio_end_state.proofs.Fit.{channel_fit, fit_facts, fit_state, ids_at, ids_length}
 use Rattle.radio_end_laws.specs.Plain.{Spelled, ContextWritable, InstanceWritable}
@@ -90,10 +90,10 @@ module _ (s : State) where
       let ns = ids s.channels in
       let id = get_or ns i 0 in
       let least = index_least id ns i h refl in
-      let near : indexOf id ns < length ns = omega (arith, least, h) in
+      let near : index_of id ns < length ns = omega (arith, least, h) in
       let long = ids_length s.channels in
-      let same : (channel_at s (indexOf id ns)).setting.id ≡ (channel_at s i).setting.id = sym (ids_at s.channels (indexOf id ns)) ∙ index_is id ns near ∙ ids_at s.channels i in
-      eq-eqb (indexOf id ns) i (w.apart (indexOf id ns) i (omega (arith, near, long)) (omega (arith, h, long)) same)
+      let same : (channel_at s (index_of id ns)).setting.id ≡ (channel_at s i).setting.id = sym (ids_at s.channels (index_of id ns)) ∙ index_is id ns near ∙ ids_at s.channels i in
+      eq-eqb (index_of id ns) i (w.apart (index_of id ns) i (omega (arith, near, long)) (omega (arith, h, long)) same)
 
   within_fits : WithinLimits s → state_fits s ≡ true
   within_fits w =

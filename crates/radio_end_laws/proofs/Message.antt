@@ -26,7 +26,7 @@ use Rattle.radio_flow.specs.Granting.{window_of, allowance_of}
 use Rattle.radio_end_state.specs.declared.channel.Channel.{Channel}
 use Rattle.radio_end_state.specs.Channel.{window_now}
 use Rattle.radio_end_state.specs.State.{State, no_channel, channel_at}
-use Rattle.radio_end_state.specs.Limits.{indexOf, ids, state_fits, index_in}
+use Rattle.radio_end_state.specs.Limits.{index_of, ids, state_fits, index_in}
 use Rattle.radio_end_state.specs.Message.{status_for, window_for, message_of, message_bytes}
 use Rattle.radio_end_state.proofs.Fit.{Fit, fit_facts, channel_fit}
 use Rattle.radio_end_message.proofs.Allowed.{message_allowed}
@@ -91,25 +91,25 @@ module _ (s : State) (fits : state_fits s ≡ true) where
   tells_back = control_round ends.Radio s.datalink (message_of s) (message_value s) may_be_written refl
 
 -- ---- what it states of a Channel ID is of the first channel that has it
-status_first : (cs : List Channel) (id : ℕ) → indexOf id (ids cs) < length cs → (status_for cs id).status ≡ Status.Given (get_or cs (indexOf id (ids cs)) no_channel).status
-unfolding status_for indexOf ids
+status_first : (cs : List Channel) (id : ℕ) → index_of id (ids cs) < length cs → (status_for cs id).status ≡ Status.Given (get_or cs (index_of id (ids cs)) no_channel).status
+unfolding status_for index_of ids
 status_first [] id h = absurd (omega arith)
 status_first (c ∷ cs) id h = go (eqb c.setting.id id) h (status_first cs id)
   where
-    go : (b : Bool) → cond b 0 (suc (indexOf id (ids cs))) < suc (length cs)
-        → (indexOf id (ids cs) < length cs → (status_for cs id).status ≡ Status.Given (get_or cs (indexOf id (ids cs)) no_channel).status)
-        → (cond b (record { status = Status.Given c.status }) (status_for cs id)).status ≡ Status.Given (get_or (c ∷ cs) (cond b 0 (suc (indexOf id (ids cs)))) no_channel).status
+    go : (b : Bool) → cond b 0 (suc (index_of id (ids cs))) < suc (length cs)
+        → (index_of id (ids cs) < length cs → (status_for cs id).status ≡ Status.Given (get_or cs (index_of id (ids cs)) no_channel).status)
+        → (cond b (record { status = Status.Given c.status }) (status_for cs id)).status ≡ Status.Given (get_or (c ∷ cs) (cond b 0 (suc (index_of id (ids cs)))) no_channel).status
     go true l f = refl
     go false l f = f (omega arith)
 
-window_first : (cs : List Channel) (id : ℕ) → indexOf id (ids cs) < length cs → (window_for cs id).window ≡ window_now (get_or cs (indexOf id (ids cs)) no_channel)
-unfolding window_for indexOf ids
+window_first : (cs : List Channel) (id : ℕ) → index_of id (ids cs) < length cs → (window_for cs id).window ≡ window_now (get_or cs (index_of id (ids cs)) no_channel)
+unfolding window_for index_of ids
 window_first [] id h = absurd (omega arith)
 window_first (c ∷ cs) id h = go (eqb c.setting.id id) h (window_first cs id)
   where
-    go : (b : Bool) → cond b 0 (suc (indexOf id (ids cs))) < suc (length cs)
-        → (indexOf id (ids cs) < length cs → (window_for cs id).window ≡ window_now (get_or cs (indexOf id (ids cs)) no_channel))
-        → (cond b (record { window = window_now c }) (window_for cs id)).window ≡ window_now (get_or (c ∷ cs) (cond b 0 (suc (indexOf id (ids cs)))) no_channel)
+    go : (b : Bool) → cond b 0 (suc (index_of id (ids cs))) < suc (length cs)
+        → (index_of id (ids cs) < length cs → (window_for cs id).window ≡ window_now (get_or cs (index_of id (ids cs)) no_channel))
+        → (cond b (record { window = window_now c }) (window_for cs id)).window ≡ window_now (get_or (c ∷ cs) (cond b 0 (suc (index_of id (ids cs)))) no_channel)
     go true l f = refl
     go false l f = f (omega arith)
 

@@ -9,29 +9,29 @@ use borrow.Author.Tests.{eqb-true, eq-eqb, ltb-true, lt-ltb}
 use lib.Dec.{eqb}
 use lib.ListN.{length, get_or}
 use Rattle.radio_end_state.specs.State.{State, channel_at}
-use Rattle.radio_end_state.specs.Limits.{indexOf, has_id, stands_first, ids, state_fits, is_configured, index_in}
+use Rattle.radio_end_state.specs.Limits.{index_of, has_id, stands_first, ids, state_fits, is_configured, index_in}
 use Rattle.radio_end_state.proofs.UpTo.{up_to_at}
 use Rattle.radio_end_state.proofs.Fit.{fit_facts, ids_at, ids_length}
 use Rattle.radio_end_laws.specs.Plain.{Stands, Has}
 
 -- ---- the first place of a number in a list
-pub index_is : (id : ℕ) (ns : List ℕ) → indexOf id ns < length ns → get_or ns (indexOf id ns) 0 ≡ id
-unfolding indexOf
+pub index_is : (id : ℕ) (ns : List ℕ) → index_of id ns < length ns → get_or ns (index_of id ns) 0 ≡ id
+unfolding index_of
 index_is id [] h = absurd (omega arith)
 index_is id (n ∷ ns) h = go (eqb n id) refl h (index_is id ns)
   where
-    go : (b : Bool) → eqb n id ≡ b → cond b 0 (suc (indexOf id ns)) < suc (length ns) → (indexOf id ns < length ns → get_or ns (indexOf id ns) 0 ≡ id)
-        → get_or (n ∷ ns) (cond b 0 (suc (indexOf id ns))) 0 ≡ id
+    go : (b : Bool) → eqb n id ≡ b → cond b 0 (suc (index_of id ns)) < suc (length ns) → (index_of id ns < length ns → get_or ns (index_of id ns) 0 ≡ id)
+        → get_or (n ∷ ns) (cond b 0 (suc (index_of id ns))) 0 ≡ id
     go true e l f = eqb-true n id e
     go false e l f = f (omega arith)
 
-pub index_least : (id : ℕ) (ns : List ℕ) (i : ℕ) → i < length ns → get_or ns i 0 ≡ id → indexOf id ns ≤ i
-unfolding indexOf
+pub index_least : (id : ℕ) (ns : List ℕ) (i : ℕ) → i < length ns → get_or ns i 0 ≡ id → index_of id ns ≤ i
+unfolding index_of
 index_least id [] i h e = absurd (omega arith)
 index_least id (n ∷ ns) zero h e = rw (eq-eqb n id e) (omega arith)
 index_least id (n ∷ ns) (suc i) h e = go (eqb n id) (index_least id ns i (omega arith) e)
   where
-    go : (b : Bool) → indexOf id ns ≤ i → cond b 0 (suc (indexOf id ns)) ≤ suc i
+    go : (b : Bool) → index_of id ns ≤ i → cond b 0 (suc (index_of id ns)) ≤ suc i
     go true l = omega arith
     go false l = omega arith
 
@@ -59,6 +59,6 @@ module _ (s : State) where
   unfolding channel_at
   stands_first_lem fits id index h =
       let inside : index < length (ids s.channels) = omega (arith, h.inside, ids_length s.channels) in
-      let first = eqb-true (indexOf (get_or (ids s.channels) index 0) (ids s.channels)) index (up_to_at (stands_first (ids s.channels)) (length (ids s.channels)) (fit_facts s fits).apart index inside) in
+      let first = eqb-true (index_of (get_or (ids s.channels) index 0) (ids s.channels)) index (up_to_at (stands_first (ids s.channels)) (length (ids s.channels)) (fit_facts s fits).apart index inside) in
       let named : get_or (ids s.channels) index 0 ≡ id = ids_at s.channels index ∙ h.is in
       rw named at first

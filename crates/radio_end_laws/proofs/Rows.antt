@@ -19,19 +19,19 @@ use Rattle.writer.specs.Written.{table_then, control_options, control_written}
 use Rattle.radio_flow.specs.Granting.{is_ahead, hearing, allowance_of, window_of, queued_on}
 use Rattle.radio_end_state.specs.Channel.{window_now, hearing_on, with_queued, queueing, with_status, channel_differs}
 use Rattle.radio_end_state.specs.State.{channel_at, with_channels, with_channel, with_context, with_instance, fresh_state}
-use Rattle.radio_end_state.specs.Limits.{up_to, indexOf, has_id, ids_fit, channel_fits, all_fit, ids, names_fit, state_fits}
+use Rattle.radio_end_state.specs.Limits.{up_to, index_of, has_id, ids_fit, channel_fits, all_fit, ids, names_fit, state_fits}
 use Rattle.radio_end_state.specs.Message.{status_for, window_for, message_of, message_bytes, channels_differ, differs}
 use Rattle.radio_end_state.specs.Calls.{telling, settling, status_told, queued_told, context_told, link_told, told, sequence_in, lacks_none, hearing_all, control_heard, data_on, data_heard, heard}
 use Rattle.radio_end_laws.specs.Rows.{plain, controlled, heard_rows, told_rows, Comes}
 
 -- HEAR
 pub rows_hear : Comes heard_rows
-unfolding tabulate distance_of bytes_of number_from option_bytes bytes frame_of split_with split length_listed value_listed item_of stated_of answer_of control_stated data_stated judge fault_of step_of finish_of control_unstated control_state blank_control control_refused control_accepted control_other data_unstated data_state blank_data data_refused data_accepted data_other packet_in packet_of read_with plane_of read_control read_data table_then control_options control_written is_ahead hearing allowance_of window_of queued_on window_now hearing_on with_queued queueing channel_differs channel_at with_channels with_channel up_to indexOf has_id ids_fit channel_fits all_fit ids names_fit state_fits status_for window_for message_of channels_differ differs telling settling sequence_in lacks_none hearing_all control_heard data_on data_heard heard
+unfolding tabulate distance_of bytes_of number_from option_bytes bytes frame_of split_with split length_listed value_listed item_of stated_of answer_of control_stated data_stated judge fault_of step_of finish_of control_unstated control_state blank_control control_refused control_accepted control_other data_unstated data_state blank_data data_refused data_accepted data_other packet_in packet_of read_with plane_of read_control read_data table_then control_options control_written is_ahead hearing allowance_of window_of queued_on window_now hearing_on with_queued queueing channel_differs channel_at with_channels with_channel up_to index_of has_id ids_fit channel_fits all_fit ids names_fit state_fits status_for window_for message_of channels_differ differs telling settling sequence_in lacks_none hearing_all control_heard data_on data_heard heard
 rows_hear = (refl, (refl, (refl, (refl, (refl, (refl, (refl, (refl, (refl, (refl, (refl, (refl, (refl, (refl, (refl, (refl, tt))))))))))))))))
 
 -- THE RADIO'S OWN SIDE
 pub rows_told : Comes told_rows
-unfolding tabulate bytes_of option_bytes bytes length_listed table_then control_options control_written allowance_of window_of window_now with_queued with_status channel_differs channel_at with_channels with_channel with_context with_instance up_to indexOf has_id ids_fit channel_fits all_fit ids names_fit state_fits status_for window_for message_of channels_differ differs telling settling status_told queued_told context_told link_told told
+unfolding tabulate bytes_of option_bytes bytes length_listed table_then control_options control_written allowance_of window_of window_now with_queued with_status channel_differs channel_at with_channels with_channel with_context with_instance up_to index_of has_id ids_fit channel_fits all_fit ids names_fit state_fits status_for window_for message_of channels_differ differs telling settling status_told queued_told context_told link_told told
 rows_told = (refl, (refl, (refl, (refl, (refl, (refl, (refl, (refl, (refl, (refl, (refl, (refl, (refl, (refl, (refl, (refl, (refl, (refl, (refl, tt)))))))))))))))))))
 
 -- the message after a start

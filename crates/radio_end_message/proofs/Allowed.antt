@@ -30,7 +30,7 @@ use Rattle.writer.specs.Written.{control_written, Outcome}
 use Rattle.radio_end_state.specs.declared.channel.Channel.{Channel}
 use Rattle.radio_end_state.specs.Channel.{window_now, hearing_on}
 use Rattle.radio_end_state.specs.State.{State, no_channel, channel_at}
-use Rattle.radio_end_state.specs.Limits.{indexOf, has_id, ids, state_fits}
+use Rattle.radio_end_state.specs.Limits.{index_of, has_id, ids, state_fits}
 use Rattle.radio_end_state.specs.Message.{status_for, window_for, message_of, message_bytes}
 use Rattle.radio_end_state.proofs.Fit.{ChannelFit, channel_fit, Fit, fit_facts, ids_at, ids_length}
 use Rattle.radio_end_message.specs.declared.tables.Tables.{Tables}
@@ -67,10 +67,10 @@ stands_by : (c : Channel) (rest : StatusCell) (i n : ℕ) (b : Bool) → cond b 
 stands_by c rest i n true h f = refl
 stands_by c rest i n false h f = f (omega arith)
 
-primary_stands : (cs : List Channel) → indexOf 0 (ids cs) < length (ids cs) → stands (status_for cs 0).status ≡ true
-unfolding indexOf ids status_for
+primary_stands : (cs : List Channel) → index_of 0 (ids cs) < length (ids cs) → stands (status_for cs 0).status ≡ true
+unfolding index_of ids status_for
 primary_stands [] h = absurd (omega arith)
-primary_stands (c ∷ cs) h = stands_by c (status_for cs 0) (indexOf 0 (ids cs)) (length (ids cs)) (eqb c.setting.id 0) h (λ l. primary_stands cs l)
+primary_stands (c ∷ cs) h = stands_by c (status_for cs 0) (index_of 0 (ids cs)) (length (ids cs)) (eqb c.setting.id 0) h (λ l. primary_stands cs l)
 
 -- THE MESSAGE OF A STATE with a channel 0, statuses of 4 bits and names within their lengths
 pub message_allowed : (s : State) → instance_allowed ends.Radio s.instance ≡ true → context_allowed ends.Radio s.context ≡ true

@@ -10,7 +10,7 @@ use radio_end_state::channel;
 use radio_end_state::channel::Channel;
 use radio_end_words::place;
 
-#[derive(Drop)]
+#[derive(Clone, Copy)]
 pub struct Tables {
     pub statuses: [StatusCell; CHANNEL_IDS],
     pub windows: [WindowCell; CHANNEL_IDS],

@@ -10,20 +10,20 @@ use lib.ListN.{length, get_or}
 use lib.Seq.{get_or-set_same, get_or-set_other}
 use Rattle.radio_end_state.specs.declared.channel.Channel.{Channel}
 use Rattle.radio_end_state.specs.State.{State, no_channel, channel_at, with_channels, with_channel}
-use Rattle.radio_end_state.specs.Limits.{indexOf, has_id, stands_first, ids, is_configured, index_in, state_fits}
+use Rattle.radio_end_state.specs.Limits.{index_of, has_id, stands_first, ids, is_configured, index_in, state_fits}
 use Rattle.radio_end_state.proofs.UpTo.{up_to_at}
 use Rattle.radio_end_state.proofs.Fit.{fit_facts, ids_at, ids_length}
 
 -- ---- the place of an ID has that ID
-id_there : (id : ℕ) (ns : List ℕ) → indexOf id ns < length ns → get_or ns (indexOf id ns) 0 ≡ id
-unfolding indexOf
+id_there : (id : ℕ) (ns : List ℕ) → index_of id ns < length ns → get_or ns (index_of id ns) 0 ≡ id
+unfolding index_of
 id_there id [] h = absurd (omega arith)
 id_there id (n ∷ ns) h = go (eqb n id) refl (id_there id ns)
   where
-    go : (b : Bool) → eqb n id ≡ b → (indexOf id ns < length ns → get_or ns (indexOf id ns) 0 ≡ id) → get_or (n ∷ ns) (indexOf id (n ∷ ns)) 0 ≡ id
+    go : (b : Bool) → eqb n id ≡ b → (index_of id ns < length ns → get_or ns (index_of id ns) 0 ≡ id) → get_or (n ∷ ns) (index_of id (n ∷ ns)) 0 ≡ id
     go true e more = rw e (eqb-true n id e)
     go false e more =
-        let inside : suc (indexOf id ns) < suc (length ns) = rw e at h in
+        let inside : suc (index_of id ns) < suc (length ns) = rw e at h in
         rw e (more (omega arith))
 
 pub id_at_lem : (s : State) (id : ℕ) → is_configured s id ≡ true → (channel_at s (index_in s id)).setting.id ≡ id

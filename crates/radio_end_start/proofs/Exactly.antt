@@ -14,7 +14,7 @@ use Rattle.quantity.specs.Refusals.{OUTSIDE-LIMITS, LARGE-ALLOWANCE}
 use Rattle.quantity.specs.declared.refusal.Refusal.{Refusal}
 use Rattle.radio_end_state.specs.declared.channel.Setting.{Setting}
 use Rattle.radio_end_state.specs.State.{no_setting, fresh_state}
-use Rattle.radio_end_state.specs.Limits.{up_to, indexOf, has_id, stands_first, ids_fit, setting_fits, allowance_fits, settings_fit, setting_ids, allowances_fit, configuration_fits, state_fits}
+use Rattle.radio_end_state.specs.Limits.{up_to, index_of, has_id, stands_first, ids_fit, setting_fits, allowance_fits, settings_fit, setting_ids, allowances_fit, configuration_fits, state_fits}
 use Rattle.radio_end_state.proofs.UpTo.{up_to_at, up_to_by}
 use Rattle.radio_end_words.specs.Words.{CONTROLLED, word, words_for, state_words, state_in}
 use Rattle.radio_end_start.specs.declared.StartAnswer.{StartAnswer}
@@ -28,24 +28,24 @@ use Rattle.radio_end_start.proofs.Beginning.{Fitting, fitting, readable_parts, f
 use Rattle.radio_end_start.proofs.Standing.{fresh_fits, fresh_said}
 
 -- ---- the first place of a number in a list
-found : (id : ℕ) (ns : List ℕ) → indexOf id ns < length ns → get_or ns (indexOf id ns) 0 ≡ id
-unfolding indexOf
+found : (id : ℕ) (ns : List ℕ) → index_of id ns < length ns → get_or ns (index_of id ns) 0 ≡ id
+unfolding index_of
 found id [] h = absurd (omega arith)
 found id (n ∷ ns) h = go (eqb n id) refl (λ l. found id ns l)
   where
-    go : (b : Bool) → eqb n id ≡ b → (indexOf id ns < length ns → get_or ns (indexOf id ns) 0 ≡ id) → get_or (n ∷ ns) (indexOf id (n ∷ ns)) 0 ≡ id
+    go : (b : Bool) → eqb n id ≡ b → (index_of id ns < length ns → get_or ns (index_of id ns) 0 ≡ id) → get_or (n ∷ ns) (index_of id (n ∷ ns)) 0 ≡ id
     go true e later = rw e (eqb-true n id e)
     go false e later =
-        let inside : suc (indexOf id ns) < suc (length ns) = rw e at h in
+        let inside : suc (index_of id ns) < suc (length ns) = rw e at h in
         rw e (later (omega arith))
 
-first_below : (ns : List ℕ) (i : ℕ) → i < length ns → indexOf (get_or ns i 0) ns ≤ i
-unfolding indexOf
+first_below : (ns : List ℕ) (i : ℕ) → i < length ns → index_of (get_or ns i 0) ns ≤ i
+unfolding index_of
 first_below [] i h = absurd (omega arith)
 first_below (n ∷ ns) zero h = rw (eq-eqb n n refl) (omega arith)
 first_below (n ∷ ns) (suc i) h = go (eqb n (get_or ns i 0)) refl (first_below ns i (omega arith))
   where
-    go : (b : Bool) → eqb n (get_or ns i 0) ≡ b → indexOf (get_or ns i 0) ns ≤ i → indexOf (get_or (n ∷ ns) (suc i) 0) (n ∷ ns) ≤ suc i
+    go : (b : Bool) → eqb n (get_or ns i 0) ≡ b → index_of (get_or ns i 0) ns ≤ i → index_of (get_or (n ∷ ns) (suc i) 0) (n ∷ ns) ≤ suc i
     go true e low = rw e (omega arith)
     go false e low = rw e (omega arith)
 
@@ -96,13 +96,13 @@ module _ (w words : List ℕ) where
     facts : Fitting (configuration_in w)
     facts = fitting (configuration_in w) fits
 
-    first_stands : (i : ℕ) → i < number → indexOf (get_or numbers i 0) numbers ≡ i
+    first_stands : (i : ℕ) → i < number → index_of (get_or numbers i 0) numbers ≡ i
     first_stands i h = eqb-true _ i (up_to_at (stands_first numbers) (length numbers) (rw (settings_are w fits) at facts.apart) i (omega (arith, numbers_length w number)))
 
     ids_apart : (i j : ℕ) → i < number → j < number → get_or w (2 + 4 * i) 0 ≡ get_or w (2 + 4 * j) 0 → i ≡ j
-    ids_apart i j h l e = sym (first_stands i h) ∙ ap (λ (n : ℕ). indexOf n numbers) (id_here i h ∙ e ∙ sym (id_here j l)) ∙ first_stands j l
+    ids_apart i j h l e = sym (first_stands i h) ∙ ap (λ (n : ℕ). index_of n numbers) (id_here i h ∙ e ∙ sym (id_here j l)) ∙ first_stands j l
 
-    zero_inside : indexOf 0 numbers < length numbers
+    zero_inside : index_of 0 numbers < length numbers
     unfolding has_id
     zero_inside = ltb-true _ _ (rw (settings_are w fits) at facts.primary)
 
@@ -120,7 +120,7 @@ module _ (w words : List ℕ) where
   starts_exactly : starts_in w words ≡ true → StartsExactly w words
   starts_exactly e =
       let fits = (starts_parts e).0 in
-      let there : indexOf 0 numbers < number = omega (arith, zero_inside fits, numbers_length w number) in
+      let there : index_of 0 numbers < number = omega (arith, zero_inside fits, numbers_length w number) in
       record {
         long = configuration_long w fits;
         datalink = datalink_below fits;
@@ -129,9 +129,9 @@ module _ (w words : List ℕ) where
         ids = id_low fits;
         kinds = kind_at fits;
         apart = ids_apart fits;
-        primary = indexOf 0 numbers;
+        primary = index_of 0 numbers;
         primary_inside = there;
-        primary_is = sym (id_here (indexOf 0 numbers) there) ∙ found 0 numbers (zero_inside fits);
+        primary_is = sym (id_here (index_of 0 numbers) there) ∙ found 0 numbers (zero_inside fits);
         room = (starts_parts e).1 ∙ ap words_for (count_is w fits);
       }
 
@@ -163,16 +163,16 @@ module _ (w words : List ℕ) where
     first_by : (i : ℕ) → i < length numbers → stands_first numbers i ≡ true
     first_by i h =
         let inside : i < number = omega (arith, numbers_length w number) in
-        let low : indexOf (get_or numbers i 0) numbers ≤ i = first_below numbers i h in
-        let there : indexOf (get_or numbers i 0) numbers < number = omega arith in
-        eq-eqb _ i (x.apart (indexOf (get_or numbers i 0) numbers) i there inside (sym (id_here (indexOf (get_or numbers i 0) numbers) there) ∙ found (get_or numbers i 0) numbers (omega (arith, numbers_length w number)) ∙ id_here i inside))
+        let low : index_of (get_or numbers i 0) numbers ≤ i = first_below numbers i h in
+        let there : index_of (get_or numbers i 0) numbers < number = omega arith in
+        eq-eqb _ i (x.apart (index_of (get_or numbers i 0) numbers) i there inside (sym (id_here (index_of (get_or numbers i 0) numbers) there) ∙ found (get_or numbers i 0) numbers (omega (arith, numbers_length w number)) ∙ id_here i inside))
 
     zero_by : has_id 0 numbers ≡ true
     unfolding has_id
     zero_by =
         let is : get_or numbers x.primary 0 ≡ 0 = id_here x.primary x.primary_inside ∙ x.primary_is in
-        let low : indexOf 0 numbers ≤ x.primary = rw is at (first_below numbers x.primary (omega (arith, numbers_length w number, x.primary_inside))) in
-        lt-ltb (indexOf 0 numbers) (length numbers) (omega (arith, numbers_length w number, x.primary_inside))
+        let low : index_of 0 numbers ≤ x.primary = rw is at (first_below numbers x.primary (omega (arith, numbers_length w number, x.primary_inside))) in
+        lt-ltb (index_of 0 numbers) (length numbers) (omega (arith, numbers_length w number, x.primary_inside))
 
     walked_by : walked w number ≡ true
     unfolding walked kinds_spelled settings_fit ids_fit

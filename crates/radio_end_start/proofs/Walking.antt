@@ -12,7 +12,7 @@ use lib.ListN.{length, get_or}
 use Rattle.quantity.specs.Limits.{RESERVED-CHANNEL}
 use Rattle.radio_end_state.specs.declared.channel.Setting.{Setting}
 use Rattle.radio_end_state.specs.State.{no_setting}
-use Rattle.radio_end_state.specs.Limits.{up_to, indexOf, has_id, stands_first, ids_fit, setting_fits, settings_fit, setting_ids}
+use Rattle.radio_end_state.specs.Limits.{up_to, index_of, has_id, stands_first, ids_fit, setting_fits, settings_fit, setting_ids}
 use Rattle.radio_end_state.proofs.UpTo.{up_to_by, up_to_out}
 use Rattle.radio_end_words.specs.Words.{CONTROLLED, word}
 use Rattle.radio_end_start.specs.Start.{CONFIGURATION-HEAD, CONFIGURATION-SLOT, START-ID, START-KIND, configuration_length, start_word, setting_in, settings_of, kinds_spelled, walked}
@@ -59,14 +59,14 @@ module _ (w : List ℕ) (count : ℕ) where
               let all : up_to (λ i. setting_fits (get_or settings i no_setting)) (length settings) ≡ false = up_to_out (λ i. setting_fits (get_or settings i no_setting)) (length settings) at (omega (arith, settings_length w count)) (fits_at at h ∙ unfit) in
               rw (all, and-false)
 
-      module _ (id n : ℕ) (id_is : id ≡ word w (from + START-ID)) (index : n ≡ indexOf id numbers) where
-        sought : n ≡ indexOf (get_or numbers at 0) numbers
-        sought = index ∙ ap (λ (k : ℕ). indexOf k numbers) (id_is ∙ ap (λ (k : ℕ). word w (k + START-ID)) v.from_is ∙ sym (number_at w count at h))
+      module _ (id n : ℕ) (id_is : id ≡ word w (from + START-ID)) (index : n ≡ index_of id numbers) where
+        sought : n ≡ index_of (get_or numbers at 0) numbers
+        sought = index ∙ ap (λ (k : ℕ). index_of k numbers) (id_is ∙ ap (λ (k : ℕ). word w (k + START-ID)) v.from_is ∙ sym (number_at w count at h))
 
         pub out_twice : (n ≡ at → ⊥) → false ≡ walked w count
         unfolding walked ids_fit
         out_twice f =
-            let other : stands_first numbers at ≡ false = ne_eqb (indexOf (get_or numbers at 0) numbers) at (λ p. f (sought ∙ p)) in
+            let other : stands_first numbers at ≡ false = ne_eqb (index_of (get_or numbers at 0) numbers) at (λ p. f (sought ∙ p)) in
             let twice : up_to (stands_first numbers) (length numbers) ≡ false = up_to_out (stands_first numbers) (length numbers) at (omega (arith, numbers_length w count)) other in
             rw (twice, and-false, and-false)
 
@@ -80,7 +80,7 @@ module _ (w : List ℕ) (count : ℕ) where
             each i l =
                 ⊎_elim (λ (p : i ≡ at). rw p (record { says = both.0; fits = both.1; first = eq-eqb _ at (sym sought ∙ f) })) (λ (o : i < at). v.passed i o) (eq-or-lt_of_le (omega arith))
 
-    pub walk_end : (n : ℕ) → count ≤ at → n ≡ indexOf 0 numbers → ltb n count ≡ walked w count
+    pub walk_end : (n : ℕ) → count ≤ at → n ≡ index_of 0 numbers → ltb n count ≡ walked w count
     unfolding walked kinds_spelled settings_fit ids_fit has_id
     walk_end n h is =
         let all : at ≡ count = omega (arith, v.inside) in

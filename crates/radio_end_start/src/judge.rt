@@ -1,7 +1,7 @@
 // A configuration in words: number 19, then 23.
 ghost use Rattle.std.specs.Prelude.{◌≡◌, ◌&&◌, leb, ltb};
 ghost use Rattle.quantity.specs.Limits.{RESERVED-CHANNEL, MOST-ALLOWANCE};
-ghost use Rattle.radio_end_state.specs.Limits.{indexOf, setting_ids, allowances_fit, configuration_fits};
+ghost use Rattle.radio_end_state.specs.Limits.{index_of, setting_ids, allowances_fit, configuration_fits};
 ghost use Rattle.radio_end_words.specs.Words.{CONTROLLED};
 ghost use Rattle.radio_end_start.specs.Start.{settings_of, configuration_in, walked, Configured};
 
@@ -19,7 +19,7 @@ const BYTE_VALUES: u64 = 256;
 // The first channel with this ID; behind the last, if there is none.
 fn index_of(configuration: &[u64], count: usize, id: u64) -> usize
     requires { Configured configuration.now count }
-    ensures { result ≡ indexOf id (setting_ids (settings_of configuration.now count)) }
+    ensures { result ≡ index_of id (setting_ids (settings_of configuration.now count)) }
 {
     let mut at = 0;
     let mut from = CONFIGURATION_HEAD;

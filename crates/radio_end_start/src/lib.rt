@@ -1,4 +1,6 @@
 // A fresh start of the radio's end on words: the configuration is lent as words, and the state is written into words.
+#![tactic(auto)]
+
 ghost use Rattle.std.specs.Prelude.{◌≡◌};
 ghost use Rattle.radio_end_start.specs.Start.{not_started, StartedIn};
 
@@ -13,7 +15,7 @@ mod judge;
 pub mod layout;
 
 // 19 or 23, or the state has started.
-#[derive(Drop)]
+#[derive(Clone, Copy)]
 pub enum StartAnswer {
     Started,
     Refused(Refusal),

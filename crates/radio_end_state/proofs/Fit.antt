@@ -13,7 +13,7 @@ use Rattle.writable.specs.Allowed.{instance_allowed, context_allowed}
 use Rattle.radio_flow.specs.declared.Highest.{Highest}
 use Rattle.radio_end_state.specs.declared.channel.Channel.{Channel}
 use Rattle.radio_end_state.specs.State.{State, no_channel, channel_at}
-use Rattle.radio_end_state.specs.Limits.{up_to, indexOf, has_id, stands_first, ids_fit, count_fits, datalink_fits, setting_fits, allowance_fits, highest_fits, channel_fits, all_fit, ids, names_fit, state_fits}
+use Rattle.radio_end_state.specs.Limits.{up_to, index_of, has_id, stands_first, ids_fit, count_fits, datalink_fits, setting_fits, allowance_fits, highest_fits, channel_fits, all_fit, ids, names_fit, state_fits}
 use Rattle.radio_end_state.proofs.UpTo.{up_to_at, up_to_by}
 
 pub record ChannelFit (c : Channel) : Type 0 where

@@ -16,16 +16,16 @@ up_to test zero = true
 up_to test (suc n) = up_to test n && test n
 
 -- ---- where a channel stands in the configuration; one that it lacks, behind the last
-unfoldable pub indexOf : ℕ → List ℕ → ℕ
-indexOf id [] = 0
-indexOf id (n ∷ ns) = cond (eqb n id) 0 (suc (indexOf id ns))
+unfoldable pub index_of : ℕ → List ℕ → ℕ
+index_of id [] = 0
+index_of id (n ∷ ns) = cond (eqb n id) 0 (suc (index_of id ns))
 
 unfoldable pub has_id : ℕ → List ℕ → Bool
-has_id id ids = ltb (indexOf id ids) (length ids)
+has_id id ids = ltb (index_of id ids) (length ids)
 
 -- "an ID twice": each ID stands at its first place
 abbrev pub stands_first : List ℕ → ℕ → Bool
-stands_first ids index = eqb (indexOf (get_or ids index 0) ids) index
+stands_first ids index = eqb (index_of (get_or ids index 0) ids) index
 
 -- the channels together: "an ID twice", "no channel 0"
 unfoldable pub ids_fit : List ℕ → Bool
@@ -86,4 +86,4 @@ abbrev pub is_configured : State → ℕ → Bool
 is_configured s id = has_id id (ids s.channels)
 
 abbrev pub index_in : State → ℕ → ℕ
-index_in s id = indexOf id (ids s.channels)
+index_in s id = index_of id (ids s.channels)

@@ -7,7 +7,7 @@ use quantity::count::ByteCount;
 use quantity::refusal::Refusal;
 
 // A message of so many bytes, as the answer to what was asked or unasked; nothing to write; a refusal.
-#[derive(Drop)]
+#[derive(Clone, Copy)]
 pub enum Answer {
     Answered(ByteCount),
     Unasked(ByteCount),

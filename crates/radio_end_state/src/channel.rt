@@ -7,7 +7,7 @@ use quantity::count::ByteCount;
 use radio_flow::Highest;
 
 // A channel's configuration: watermark and throughput per period in bytes.
-#[derive(Drop)]
+#[derive(Clone, Copy)]
 pub struct Setting {
     pub id: u8,
     pub controlled: bool,
@@ -15,7 +15,7 @@ pub struct Setting {
     pub throughput: ByteCount,
 }
 
-#[derive(Drop)]
+#[derive(Clone, Copy)]
 pub struct Channel {
     pub setting: Setting,
     pub status: u8,

@@ -11,7 +11,7 @@ use lib.Dec.{eqb, ltb}
 use lib.ListN.{length, take, drop, get_or, length-take, length-drop}
 use Rattle.radio_end_state.specs.declared.channel.Channel.{Channel}
 use Rattle.radio_end_state.specs.State.{no_channel}
-use Rattle.radio_end_state.specs.Limits.{up_to, indexOf, has_id, stands_first, ids_fit, channel_fits, all_fit, ids}
+use Rattle.radio_end_state.specs.Limits.{up_to, index_of, has_id, stands_first, ids_fit, channel_fits, all_fit, ids}
 use Rattle.radio_end_state.proofs.UpTo.{up_to_by, up_to_out}
 use Rattle.radio_end_state.proofs.Fit.{ids_length}
 use Rattle.radio_end_words.specs.Words.{HEAD, SLOT, ID, words_for, word, slot_start, slot, channel_in, state_of, spelled, all_spelled, Counted}
@@ -68,30 +68,30 @@ module _ (words : List ℕ) (count : ℕ) (counted : Counted words count) where
           let all : up_to (λ i. channel_fits (get_or channels i no_channel)) (length channels) ≡ false = up_to_out (λ i. channel_fits (get_or channels i no_channel)) (length channels) at (omega (arith, channels_long)) (fits_at at h ∙ unfit) in
           rw (all, and-false)
 
-  pub out_twice : (at from n : ℕ) → Walking words count at from → at < count → n ≡ indexOf (word words (from + ID)) (ids channels) → (n ≡ at → ⊥) → false ≡ walked words count
+  pub out_twice : (at from n : ℕ) → Walking words count at from → at < count → n ≡ index_of (word words (from + ID)) (ids channels) → (n ≡ at → ⊥) → false ≡ walked words count
   unfolding ids_fit
   out_twice at from n w h is e =
       let other : stands_first (ids channels) at ≡ false =
-      ne_eqb (indexOf (get_or (ids channels) at 0) (ids channels)) at
-      (λ p. e (is ∙ ap (λ (k : ℕ). indexOf (word words (k + ID)) (ids channels)) w.from_is ∙ ap (λ (k : ℕ). indexOf k (ids channels)) (sym (number_at words count counted at h)) ∙ p)) in
+      ne_eqb (index_of (get_or (ids channels) at 0) (ids channels)) at
+      (λ p. e (is ∙ ap (λ (k : ℕ). index_of (word words (k + ID)) (ids channels)) w.from_is ∙ ap (λ (k : ℕ). index_of k (ids channels)) (sym (number_at words count counted at h)) ∙ p)) in
       let twice : up_to (stands_first (ids channels)) (length (ids channels)) ≡ false = up_to_out (stands_first (ids channels)) (length (ids channels)) at (omega (arith, numbers_length words count counted)) other in
       rw (twice, and-false, and-false)
 
   pub walk_on : (at from n : ℕ) → Walking words count at from → at < count → (r : Bool) → r ≡ (spelled (slot words at) && channel_fits (channel_in (slot words at))) → r ≡ true
-      → n ≡ indexOf (word words (from + ID)) (ids channels) → n ≡ at → Walking words count (at + 1) (from + SLOT)
+      → n ≡ index_of (word words (from + ID)) (ids channels) → n ≡ at → Walking words count (at + 1) (from + SLOT)
   walk_on at from n w h r is e index f = record { inside = omega arith; from_is = omega (arith, w.from_is); passed = each }
     where
       both : (spelled (slot words at) ≡ true) × (channel_fits (channel_in (slot words at)) ≡ true)
       both = (and-eq-true_iff (spelled (slot words at)) (channel_fits (channel_in (slot words at)))).0 (sym is ∙ e)
 
-      stands : indexOf (get_or (ids channels) at 0) (ids channels) ≡ at
-      stands = ap (λ (k : ℕ). indexOf k (ids channels)) (number_at words count counted at h) ∙ sym (ap (λ (k : ℕ). indexOf (word words (k + ID)) (ids channels)) w.from_is) ∙ sym index ∙ f
+      stands : index_of (get_or (ids channels) at 0) (ids channels) ≡ at
+      stands = ap (λ (k : ℕ). index_of k (ids channels)) (number_at words count counted at h) ∙ sym (ap (λ (k : ℕ). index_of (word words (k + ID)) (ids channels)) w.from_is) ∙ sym index ∙ f
 
       each : (i : ℕ) → i < at + 1 → Passed words i
       each i l =
           ⊎_elim (λ (p : i ≡ at). rw p (record { says = both.0; fits = both.1; first = eq-eqb _ at stands })) (λ (o : i < at). w.passed i o) (eq-or-lt_of_le (omega arith))
 
-  pub walk_end : (at from n : ℕ) → Walking words count at from → count ≤ at → n ≡ indexOf 0 (ids channels) → ltb n count ≡ walked words count
+  pub walk_end : (at from n : ℕ) → Walking words count at from → count ≤ at → n ≡ index_of 0 (ids channels) → ltb n count ≡ walked words count
   unfolding all_spelled all_fit ids_fit has_id
   walk_end at from n w h is =
       let all : at ≡ count = omega (arith, w.inside) in

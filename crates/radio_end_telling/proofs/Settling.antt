@@ -23,7 +23,7 @@ use Rattle.radio_end_state.specs.declared.answer.Answer.{Answer}
 use Rattle.radio_end_state.specs.declared.channel.Channel.{Channel}
 use Rattle.radio_end_state.specs.Channel.{channel_differs}
 use Rattle.radio_end_state.specs.State.{State, no_channel, channel_at, with_channel, with_context}
-use Rattle.radio_end_state.specs.Limits.{ids, indexOf, has_id, is_configured, index_in, state_fits}
+use Rattle.radio_end_state.specs.Limits.{ids, index_of, has_id, is_configured, index_in, state_fits}
 use Rattle.radio_end_state.specs.Message.{message_bytes, same_context, differs}
 use Rattle.radio_end_state.specs.Calls.{After, refused_at, refused_by, telling, quietly, settling, changing, within, configured, hearing_all}
 use Rattle.radio_end_state.proofs.Fit.{ids_length, channel_fit, fit_facts}

@@ -8,7 +8,7 @@ use radio_end_survey::survey;
 use radio_end_words::place;
 
 // A channel's index in the configuration.
-#[derive(Drop)]
+#[derive(Clone, Copy)]
 pub enum Found {
     At(usize),
     Refused(u8),

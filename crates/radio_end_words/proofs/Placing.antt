@@ -18,7 +18,7 @@ use Rattle.lent_messages.specs.Stated.{instance_stated, context_stated}
 use Rattle.radio_flow.specs.declared.Highest.{Highest}
 use Rattle.radio_end_state.specs.declared.channel.Channel.{Channel}
 use Rattle.radio_end_state.specs.State.{State, no_channel, channel_at, with_channel, with_context, with_instance}
-use Rattle.radio_end_state.specs.Limits.{indexOf, ids, highest_fits, state_fits}
+use Rattle.radio_end_state.specs.Limits.{index_of, ids, highest_fits, state_fits}
 use Rattle.radio_end_state.proofs.Fit.{ChannelFit, channel_fit, Fit, fit_facts, ids_at, ids_length}
 use Rattle.radio_end_words.specs.Words.{HEAD, SLOT, ID, DATALINK-WORD, COUNT-WORD, INSTANCE-TAG, INSTANCE-VALUE, INSTANCE-LENGTH, CONTEXT-TAG, CONTEXT-VALUE, CONTEXT-LENGTH, words_for, word, slot_start, slot, channel_in, state_of, state_in, highest_value, channel_words, head_words, state_words, Loadable, Placed, Counted}
 use Rattle.radio_end_words.proofs.Slots.{channel_back}
@@ -127,7 +127,7 @@ slot_word words i k h = get_or-take SLOT (drop (slot_start i) words) k 0 h ∙ g
 pub record Seeking (words : List ℕ) (count id at from : ℕ) : Type 0 where
   pub inside : at ≤ count
   pub from_is : from ≡ slot_start at
-  pub so_far : indexOf id (ids (state_of words).channels) ≡ at + indexOf id (drop at (ids (state_of words).channels))
+  pub so_far : index_of id (ids (state_of words).channels) ≡ at + index_of id (drop at (ids (state_of words).channels))
 
 module _ (words : List ℕ) (count : ℕ) (counted : Counted words count) where
   abbrev numbers : List ℕ
@@ -151,20 +151,20 @@ module _ (words : List ℕ) (count : ℕ) (counted : Counted words count) where
   here : (id at from : ℕ) → Seeking words count id at from → at < count → drop at numbers ≡ word words (from + ID) ∷ drop (suc at) numbers
   here id at from s h = drop-cons numbers at 0 (omega (arith, numbers_length)) ∙ ap (λ (n : ℕ). n ∷ drop (suc at) numbers) (number_at at h ∙ ap (λ (k : ℕ). word words (k + ID)) (sym s.from_is))
 
-  pub seek_found : (id at from : ℕ) → Seeking words count id at from → at < count → word words (from + ID) ≡ id → at ≡ indexOf id numbers
-  unfolding indexOf
+  pub seek_found : (id at from : ℕ) → Seeking words count id at from → at < count → word words (from + ID) ≡ id → at ≡ index_of id numbers
+  unfolding index_of
   seek_found id at from s h e =
-      let none : indexOf id (drop at numbers) ≡ 0 = rw (here id at from s h, eq-eqb _ _ e) in
+      let none : index_of id (drop at numbers) ≡ 0 = rw (here id at from s h, eq-eqb _ _ e) in
       omega (arith, s.so_far)
 
   pub seek_on : (id at from : ℕ) → Seeking words count id at from → at < count → (word words (from + ID) ≡ id → ⊥) → Seeking words count id (at + 1) (from + SLOT)
-  unfolding indexOf
+  unfolding index_of
   seek_on id at from s h e =
-      let one : indexOf id (drop at numbers) ≡ suc (indexOf id (drop (suc at) numbers)) = rw (here id at from s h, ne_eqb _ _ e) in
+      let one : index_of id (drop at numbers) ≡ suc (index_of id (drop (suc at) numbers)) = rw (here id at from s h, ne_eqb _ _ e) in
       record { inside = omega arith; from_is = omega (arith, s.from_is); so_far = rw (add-one at) (omega (arith, s.so_far)) }
 
-  pub seek_end : (id at from : ℕ) → Seeking words count id at from → count ≤ at → at ≡ indexOf id numbers
-  unfolding indexOf
+  pub seek_end : (id at from : ℕ) → Seeking words count id at from → count ≤ at → at ≡ index_of id numbers
+  unfolding index_of
   seek_end id at from s h =
-      let none : indexOf id (drop at numbers) ≡ 0 = rw (drop_of_length-le numbers {i = at} (omega (arith, numbers_length))) in
+      let none : index_of id (drop at numbers) ≡ 0 = rw (drop_of_length-le numbers {i = at} (omega (arith, numbers_length))) in
       omega (arith, s.so_far)

@@ -1,7 +1,7 @@
 // Where a channel stands in the words, and the channel at an index of the configuration. Number 19 was tested.
 ghost use Rattle.std.specs.Prelude.{◌≡◌, true, length};
 ghost use Rattle.radio_end_state.specs.State.{channel_at, with_channel};
-ghost use Rattle.radio_end_state.specs.Limits.{state_fits, ids, indexOf, index_in};
+ghost use Rattle.radio_end_state.specs.Limits.{state_fits, ids, index_of, index_in};
 ghost use Rattle.radio_end_words.specs.Words.{state_of, state_in, state_words, Counted, Placed};
 
 use crate::layout::{COUNT_WORD, HEAD, ID, SLOT};
@@ -11,7 +11,7 @@ use radio_end_state::channel::Channel;
 // The first channel with this ID; behind the last, if there is none.
 pub fn index_of(words: &[u64], count: usize, id: u64) -> usize
     requires { Counted words.now count }
-    ensures { result ≡ indexOf id (ids (state_of words.now).channels) }
+    ensures { result ≡ index_of id (ids (state_of words.now).channels) }
 {
     let mut at = 0;
     let mut from = HEAD;

@@ -1,4 +1,6 @@
 // One channel of the radio's end: the highest Flow Sequence heard, the bytes queued, and the window that is granted.
+#![tactic(auto)]
+
 ghost use Rattle.std.specs.Prelude.{◌≡◌, ◌-◌};
 ghost use Rattle.radio_flow.specs.Granting.{later_of, heard_of, hearing, sum_cut, allowance_of, window_from, granted, window_of, queued_on, same_window};
 
@@ -8,7 +10,7 @@ use quantity::count::{ByteCount, FlowSequence, FlowWindow};
 use quantity::limit::MOST_ALLOWANCE;
 
 // None heard, or the highest Flow Sequence.
-#[derive(Drop)]
+#[derive(Clone, Copy)]
 pub enum Highest {
     Unheard,
     At(FlowSequence),

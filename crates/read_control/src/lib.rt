@@ -1,4 +1,6 @@
 // A control message, of either end, option by option.
+#![tactic(auto)]
+
 ghost use Rattle.std.specs.Prelude.{◌≡◌, false, cond, drop};
 ghost use Rattle.wire.specs.Options.{split};
 ghost use Rattle.quantity.specs.Refusals.{MISSING, OTHER-DATALINK};
@@ -21,7 +23,7 @@ use read_rules::answer::Verdict;
 use wire::option::{FRAME_SIZE, Frame, first};
 
 // The meaning is that of a message that states nothing unless it is accepted.
-#[derive(Drop)]
+#[derive(Clone, Copy)]
 pub struct ControlReading {
     pub verdict: Verdict,
     pub message: Control,

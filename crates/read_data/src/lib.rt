@@ -1,4 +1,6 @@
 // A data message, of either end, option by option; and the packet that it carries.
+#![tactic(auto)]
+
 ghost use Rattle.std.specs.Prelude.{◌≡◌, drop};
 ghost use Rattle.wire.specs.Options.{split};
 ghost use Rattle.meaning.specs.declared.message.End.{End};
@@ -18,14 +20,14 @@ use wire::option::{FRAME_SIZE, Frame, first};
 pub mod packet;
 
 // The meaning is that of a message that states nothing unless it is accepted.
-#[derive(Drop)]
+#[derive(Clone, Copy)]
 pub struct DataReading {
     pub verdict: Verdict,
     pub message: Data,
 }
 
 // A reading, and where the carried packet begins: it ends with the datagram. Nothing is carried unless the message is accepted.
-#[derive(Drop)]
+#[derive(Clone, Copy)]
 pub struct CarriedReading {
     pub reading: DataReading,
     pub start: usize,

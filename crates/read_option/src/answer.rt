@@ -3,7 +3,7 @@ use meaning::message::{ContextBytes, Window};
 use quantity::count::{DatalinkId, FlowSequence, LinkInstanceId};
 
 // What one option states.
-#[derive(Drop)]
+#[derive(Clone, Copy)]
 pub enum Item {
     Skipped,
     Datalink(DatalinkId),
@@ -18,7 +18,7 @@ pub enum Item {
 }
 
 // An option's answer: what it states, or the number of the refusal.
-#[derive(Drop)]
+#[derive(Clone, Copy)]
 pub enum OptionAnswer {
     Took(Item),
     Refused(u8),

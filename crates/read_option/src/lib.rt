@@ -1,3 +1,5 @@
 // What one option of a message states.
+#![tactic(auto)]
+
 pub mod answer;
 pub mod option;

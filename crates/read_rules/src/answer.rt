@@ -2,7 +2,7 @@
 use quantity::refusal::Refusal;
 
 // A reader of one plane says so of a message of the other.
-#[derive(Drop)]
+#[derive(Clone, Copy)]
 pub enum Verdict {
     Accepted,
     OtherPlane,

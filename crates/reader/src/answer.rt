@@ -5,7 +5,7 @@ pub use read_data::{CarriedReading, DataReading};
 pub use read_rules::answer::Verdict;
 
 // A datagram's plane, by its header.
-#[derive(Drop)]
+#[derive(Clone, Copy)]
 pub enum PlaneAnswer {
     Control,
     Data,

@@ -1,4 +1,6 @@
 // Reading a message of either end and either plane, and the packet that a data message carries.
+#![tactic(auto)]
+
 pub mod answer;
 pub mod control;
 pub mod data;

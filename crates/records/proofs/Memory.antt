@@ -8,7 +8,7 @@ use lib.Dec.{ltb, eqb}
 use lib.ListN.{length}
 use lib.Seq.{take_all}
 use Rattle.facts.proofs.Tests.{clash}
-use Rattle.bytes.specs.Bytes.{slice}
+use Rattle.octets.specs.Bytes.{slice}
 use Rattle.quantity.specs.Refusals.{RECORD}
 use Rattle.lines.specs.Unread.{tidy_of}
 use Rattle.lines.proofs.Laws.{tidy_is, unread_length}

@@ -7,7 +7,7 @@ use Prim.Native.Nat.{ℕ, suc, ◌+◌, ◌≤◌}
 use native.Mathlib.Omega.{arith}
 use lib.ListN.{length}
 use Rattle.facts.proofs.Tests.{clash}
-use Rattle.bytes.specs.Bytes.{slice}
+use Rattle.octets.specs.Bytes.{slice}
 use Rattle.quantity.specs.Refusals.{RECORD}
 use Rattle.lines.specs.Unread.{tidy_of, kept_of}
 use Rattle.records.specs.declared.Input.{Input}

@@ -9,7 +9,7 @@ use lib.Dec.{eqb}
 use lib.ListN.{length, take, drop, take-append-drop}
 use lib.Seq.{length-take-le, take-take, take-add, drop_at, drop-drop}
 use Rattle.facts.proofs.Tests.{clash}
-use Rattle.bytes.specs.Bytes.{slice}
+use Rattle.octets.specs.Bytes.{slice}
 use Rattle.lines.specs.declared.Input as lines
 use Rattle.lines.specs.Unread.{tidy_of, rest_of, lost_of, kept_of}
 use Rattle.lines.proofs.Laws.{tidy_is, unread_length}

@@ -1,6 +1,6 @@
 -- What is found of a whole file, in whatever pieces it comes.
 use Rattle.std.specs.Prelude.{◌≡◌, Bool, true, false, cond, List, [], ◌∷◌, ◌++◌, ℕ, zero, suc, ◌+◌, ◌-◌, ltb, eqb, length, take, drop}
-use Rattle.bytes.specs.Bytes.{slice}
+use Rattle.octets.specs.Bytes.{slice}
 use Rattle.quantity.specs.Refusals.{FILE-HEAD, RECORD}
 use Rattle.lines.specs.Unread.{kept_of}
 use Rattle.records.specs.declared.Input.{Input}

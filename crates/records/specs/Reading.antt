@@ -1,6 +1,6 @@
 -- What a reader of records is handed, one record after another: of a file in memory, and of one that is read in pieces.
 use Rattle.std.specs.Prelude.{◌≡◌, Bool, List, [], ◌∷◌, ◌++◌, ℕ, suc, length}
-use Rattle.bytes.specs.Bytes.{slice}
+use Rattle.octets.specs.Bytes.{slice}
 use Rattle.quantity.specs.Refusals.{FILE-HEAD, RECORD}
 use Rattle.records.specs.declared.Input.{Input}
 use Rattle.records.specs.declared.Came.{Came}

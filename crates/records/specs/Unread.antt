@@ -1,6 +1,6 @@
 -- What was read of a file and isn't handed on yet.
 use Rattle.std.specs.Prelude.{◌≡◌, Bool, true, false, cond, List, ℕ, ◌+◌, ◌-◌, ltb, eqb, length, take}
-use Rattle.bytes.specs.Bytes.{slice}
+use Rattle.octets.specs.Bytes.{slice}
 use Rattle.quantity.specs.Refusals.{FILE-HEAD, RECORD}
 use Rattle.lines.specs.declared.Input as lines
 use Rattle.lines.specs.Unread as pieces

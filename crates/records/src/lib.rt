@@ -1,5 +1,7 @@
 // Records of a classic pcap file on standard input, read piece by piece into one lent buffer, which has room for the
 // longest record with its head.
+#![tactic(auto)]
+
 ghost use Rattle.std.specs.Prelude.{◌≡◌, ◌+◌, ◌≤◌, ◌<◌, length, get_or};
 ghost use Rattle.lines.specs.Unread.{tidy_of};
 ghost use Rattle.records.specs.Heads.{number_at, pair_at, is_right, order_of};
@@ -26,7 +28,7 @@ const BIG_MAGIC: usize = 2712847316;
 const ETHERNET: usize = 1;
 
 // How a file orders the bytes of its numbers, if its head is right.
-#[derive(Drop)]
+#[derive(Clone, Copy)]
 enum Order {
     Bad,
     Little,
@@ -35,7 +37,7 @@ enum Order {
 
 // What was read of a file and isn't handed on yet; whether its head was, and, from then on, whether the highest byte of
 // its numbers comes first.
-#[derive(Drop)]
+#[derive(Clone, Copy)]
 pub struct Input {
     pub unread: lines::Input,
     pub opened: bool,
@@ -43,7 +45,7 @@ pub struct Input {
 }
 
 // What stands next in a file.
-#[derive(Drop)]
+#[derive(Clone, Copy)]
 pub enum Found {
     // Not enough of it yet.
     More,
@@ -63,7 +65,7 @@ pub enum Found {
 }
 
 // What a reader of records is handed: the next one, or why there is none.
-#[derive(Drop)]
+#[derive(Clone, Copy)]
 pub enum Came {
     // Nothing any more.
     End,

@@ -4,7 +4,7 @@ use mathlib.Core.List.{List, [], ◌∷◌}
 use Prim.Native.Nat.{ℕ, suc, ◌-◌, ◌≤◌, ◌<◌}
 use native.Mathlib.Omega.{arith}
 use lib.ListN.{length, take, drop}
-use Rattle.bytes.specs.Bytes.{slice}
+use Rattle.octets.specs.Bytes.{slice}
 use Rattle.quantity.specs.declared.count.DatalinkId.{DatalinkId}
 use Rattle.lines.proofs.Laws.{slice_is}
 use Rattle.records.specs.declared.Input.{Input}

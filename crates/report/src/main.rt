@@ -1,4 +1,6 @@
 // Document 02, "A report over captures": counts what a capture holds of CIRI, and prints every count.
+#![tactic(auto)]
+
 ghost use Rattle.std.specs.Prelude.{◌≡◌};
 ghost use Rattle.report.specs.Serving.{TurnedTo, Served};
 

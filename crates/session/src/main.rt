@@ -1,4 +1,6 @@
 // The session script: reads a line, writes its answer, and stops early only where reading or writing fails. A command is a row of `session_read`'s table and a call here.
+#![tactic(auto)]
+
 ghost use Rattle.std.specs.Prelude.{◌≡◌, ◌≤◌, length, take};
 ghost use Rattle.session.specs.Answers.{Answers};
 
@@ -26,7 +28,7 @@ const BYTES: usize = 70000;
 const MEMORY: usize = MOST_CHANNELS * LARGEST_STORE;
 
 // Whether a state was started, and how much of the words and of the memory is lent with it.
-#[derive(Drop)]
+#[derive(Clone, Copy)]
 struct Held {
     started: bool,
     words: usize,
@@ -34,14 +36,14 @@ struct Held {
 }
 
 // What is held behind a line, and how long its answer is.
-#[derive(Drop)]
+#[derive(Clone, Copy)]
 struct Turn {
     held: Held,
     count: usize,
 }
 
 // What is held behind a line, and whether its answer was written.
-#[derive(Drop)]
+#[derive(Clone, Copy)]
 struct Said {
     held: Held,
     written: bool,

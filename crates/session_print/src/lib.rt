@@ -1,4 +1,6 @@
 // The answers of the session page: what a message means or is written as, the endpoint's answers, what a channel is, and what a state keeps.
+#![tactic(auto)]
+
 mod answers;
 mod echo;
 mod messages;

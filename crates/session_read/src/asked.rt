@@ -13,7 +13,7 @@ use crate::table::{
 use meaning::message::End;
 
 // The words of each line in their order; the bytes that it says, the words, and what `start` says, stand beside.
-#[derive(Drop)]
+#[derive(Clone, Copy)]
 pub enum Asked {
     Bad,
     Read(End, u8),
@@ -23,7 +23,7 @@ pub enum Asked {
 }
 
 // A line that asks for a state that was started.
-#[derive(Drop)]
+#[derive(Clone, Copy)]
 pub enum Command {
     Offer(u8, u64, u64),
     Offers(u64, ListCounts),

@@ -13,7 +13,7 @@ use crate::table::{COMMANDS, OFFERS, PLACES, START};
 const LONGEST_LINE: usize = 140000;
 
 // What a line asks for, how many bytes it says, and what its numbers are if it is a `start`.
-#[derive(Drop)]
+#[derive(Clone, Copy)]
 pub struct Line {
     pub asked: Asked,
     pub bytes: usize,

@@ -23,7 +23,7 @@ const SAID_LENGTHS: usize = 6;
 const SAID_ANSWERS: usize = 8;
 
 // How long each list of a handful is. The numbers of the first three stand one list behind the other.
-#[derive(Drop)]
+#[derive(Clone, Copy)]
 pub struct ListCounts {
     pub channels: usize,
     pub expiries: usize,

@@ -14,7 +14,7 @@ pub(crate) const SAID_COUNT: usize = 1;
 pub(crate) const SAID_CHANNELS: usize = 2;
 
 // How many words the line's configuration has, how many channels, and how long the lent memory is.
-#[derive(Drop)]
+#[derive(Clone, Copy)]
 pub struct StartWords {
     pub words: usize,
     pub channels: usize,

@@ -1,4 +1,6 @@
 // The station script, the radio's end: reads a line, writes its answer, and stops early only where reading or writing fails. A command is a row of `station_read`'s table and a call here.
+#![tactic(auto)]
+
 ghost use Rattle.std.specs.Prelude.{◌≡◌, [], ◌≤◌, min, length, take};
 ghost use Rattle.message_words.specs.Saying.{Says};
 ghost use Rattle.radio_end_state.specs.Calls.{heard, status_told, queued_told, context_told, link_told, told};
@@ -31,21 +33,21 @@ const BYTES: usize = 70000;
 const WORDS: usize = HEAD + SLOT * MOST_CHANNELS;
 
 // Whether a state was started, and how many of the words are its own.
-#[derive(Drop)]
+#[derive(Clone, Copy)]
 struct Held {
     started: bool,
     words: usize,
 }
 
 // What is held behind a line, and how long its answer is.
-#[derive(Drop)]
+#[derive(Clone, Copy)]
 struct Turn {
     held: Held,
     count: usize,
 }
 
 // What is held behind a line, and whether its answer was written.
-#[derive(Drop)]
+#[derive(Clone, Copy)]
 struct Said {
     held: Held,
     written: bool,

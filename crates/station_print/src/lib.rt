@@ -1,4 +1,6 @@
 // The answers of the station page: what a call of the radio's end came to, and what a channel is.
+#![tactic(auto)]
+
 mod answers;
 mod shown;
 

@@ -7,7 +7,7 @@ ghost use Rattle.station_read.specs.declared.asked.Command.{Command};
 use crate::table::{CONTEXT, HEAR, LINK, PLACES, QUEUED, SHOW, START, STATUS, TELL};
 
 // A start of so many channels, whose words are the numbers of the line; a command for a state that was started, with the room of its output.
-#[derive(Drop)]
+#[derive(Clone, Copy)]
 pub enum Asked {
     Bad,
     Start(usize),
@@ -15,7 +15,7 @@ pub enum Asked {
 }
 
 // The words of each line in their order; the bytes that it says stand beside.
-#[derive(Drop)]
+#[derive(Clone, Copy)]
 pub enum Command {
     Hear,
     Status(u8, u8),

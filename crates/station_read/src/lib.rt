@@ -1,4 +1,6 @@
 // The lines of the station page, read: a command is a row of the table (table.rt) and what its numbers ask for (asked.rt).
+#![tactic(auto)]
+
 mod asked;
 mod context;
 mod line;

@@ -9,7 +9,7 @@ use crate::table::{COMMANDS, PLACES};
 const LONGEST_LINE: usize = 140000;
 
 // What a line asks for, and how many bytes it says.
-#[derive(Drop)]
+#[derive(Clone, Copy)]
 pub struct Line {
     pub asked: Asked,
     pub bytes: usize,

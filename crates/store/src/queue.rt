@@ -8,27 +8,27 @@ ghost use Rattle.store.specs.Parts.{kept, appended, amount_of, Countable, IsFirs
 use quantity::count::ByteCount;
 use quantity::limit::MOST_WAITING;
 
-#[derive(Drop)]
+#[derive(Clone, Copy)]
 pub struct Entry {
     pub length: ByteCount,
     pub expiry: u64,
 }
 
-#[derive(Drop)]
+#[derive(Clone, Copy)]
 pub struct Queue {
     pub entries: [Entry; MOST_WAITING],
     pub count: usize,
 }
 
 // How many packets, and how many bytes.
-#[derive(Drop)]
+#[derive(Clone, Copy)]
 pub struct Amount {
     pub packets: usize,
     pub bytes: ByteCount,
 }
 
 // A packet's stretch of the store, and the index behind its entry.
-#[derive(Drop)]
+#[derive(Clone, Copy)]
 pub(crate) struct Front {
     pub start: usize,
     pub end: usize,

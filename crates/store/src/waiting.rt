@@ -13,14 +13,14 @@ use quantity::count::ByteCount;
 use quantity::limit::MOST_WAITING;
 
 // The queue of the packets that stay, and how many bytes were moved for them.
-#[derive(Drop)]
+#[derive(Clone, Copy)]
 pub struct Remaining {
     pub queue: Queue,
     pub moved: ByteCount,
 }
 
 // Whether a packet was taken, the queue then, and how many bytes were moved in the store.
-#[derive(Drop)]
+#[derive(Clone, Copy)]
 pub struct Offered {
     pub taken: bool,
     pub queue: Queue,
@@ -28,7 +28,7 @@ pub struct Offered {
 }
 
 // Where the packets that stay end in the store, and how many bytes were moved for them.
-#[derive(Drop)]
+#[derive(Clone, Copy)]
 struct Compacted {
     end: usize,
     moved: ByteCount,
@@ -134,7 +134,7 @@ fn join(queue: Queue, store: &mut [u8], used: ByteCount, packet: &[u8], expiry: 
     ensures store_after { store.new ≡ pasted store.old used.0 packet.now (length packet.now) }
 {
     let start = used.0;
-    bytes::copy(packet, &mut store[start..]);
+    octets::copy(packet, &mut store[start..]);
     let length = ByteCount(packet.len());
     queue::append(queue, Entry { length, expiry })
 }

@@ -6,22 +6,22 @@ use native.Mathlib.Omega.{arith}
 use lib.ListN.{length, take, drop, length-append, length-drop, take-append-drop}
 use lib.Seq.{take_all, take-length}
 use Rattle.facts.proofs.Lists.{rest_part}
-use Rattle.bytes.specs.Bytes.{indexOf, slice}
+use Rattle.octets.specs.Bytes.{index_of, slice}
 use Rattle.text.specs.Words.{head_of, tail_of}
 
 pub none_is : (s : List ℕ) → length s ≡ 0 → ◌≡◌ {A = List ℕ} [] (drop 1 s)
 none_is [] h = refl
 none_is (a ∷ s) h = absurd (omega arith)
 
--- where `bytes::scan::find` finds a space in the whole line
-module _ (line : List ℕ) (end : ℕ) (found : end ≡ 0 + indexOf 32 (slice 0 (length line) line)) where
-  space_is : end ≡ indexOf 32 line
+-- where `octets::find` finds a space in the whole line
+module _ (line : List ℕ) (end : ℕ) (found : end ≡ 0 + index_of 32 (slice 0 (length line) line)) where
+  space_is : end ≡ index_of 32 line
   unfolding slice
-  space_is = let e : end ≡ 0 + indexOf 32 line = rw (take-length line) at found in omega arith
+  space_is = let e : end ≡ 0 + index_of 32 line = rw (take-length line) at found in omega arith
 
   pub head_is : take (end - 0) line ≡ head_of line
   unfolding head_of
-  head_is = let e : end - 0 ≡ indexOf 32 line = omega (arith, space_is) in ap (λ (n : ℕ). take n line) e
+  head_is = let e : end - 0 ≡ index_of 32 line = omega (arith, space_is) in ap (λ (n : ℕ). take n line) e
 
   pub tail_is : take (length line - end) (drop end line) ≡ tail_of line
   unfolding tail_of
@@ -30,4 +30,4 @@ module _ (line : List ℕ) (end : ℕ) (found : end ≡ 0 + indexOf 32 (slice 0 
 -- the two parts are the whole
 pub parts_length : (line : List ℕ) → length (head_of line) + length (tail_of line) ≡ length line
 unfolding head_of tail_of
-parts_length line = let n = indexOf 32 line in sym (length-append (take n line) (drop n line)) ∙ ap length (take-append-drop n line)
+parts_length line = let n = index_of 32 line in sym (length-append (take n line) (drop n line)) ∙ ap length (take-append-drop n line)

@@ -38,7 +38,7 @@ lays_empty out at h =
       bytes = sym (laid_in out at [] room ∙ ap (λ (n : ℕ). take at out ++ [] ++ drop n out) (sym e) ∙ same);
     }
 
--- what `bytes::copy` leaves in the part of an output from the cursor on
+-- what `octets::copy` leaves in the part of an output from the cursor on
 pub lays_copy : (out : List ℕ) (at : ℕ) (text : List ℕ) (n : ℕ) (part : List ℕ) → at + length text ≤ length out → n ≡ length text
     → part ≡ take (length text) text ++ drop (length text) (mid_of at (length out - at) out)
     → Lays out at text (at + n) (put_mid at (length out - at) out part)

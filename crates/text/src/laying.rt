@@ -13,7 +13,7 @@ pub fn put(out: &mut [u8], at: usize, text: &[u8]) -> usize
     if text.len() > out.len() - at {
         return at;
     }
-    at + bytes::copy(text, &mut out[at..])
+    at + octets::copy(text, &mut out[at..])
 }
 
 // Lays a number in decimal.

@@ -1,4 +1,6 @@
 // The text form of lines: words, numbers in decimal, and byte strings in hexadecimal, read and laid into an output.
+#![tactic(auto)]
+
 mod laying;
 mod numbers;
 mod strings;
@@ -10,14 +12,14 @@ pub use strings::{put_bytes, unhex};
 pub use words::{beyond, head, tail, word};
 
 // What a word stands for as a number.
-#[derive(Drop)]
+#[derive(Clone, Copy)]
 pub enum Number {
     Bad,
     Value(u64),
 }
 
 // What a word stands for as a byte string: n bytes.
-#[derive(Drop)]
+#[derive(Clone, Copy)]
 pub enum Hexed {
     Bad,
     Long(usize),

@@ -7,7 +7,7 @@ ghost use Rattle.text.specs.Words.{head_of, tail_of, word_of, beyond_of};
 pub fn head(line: &[u8]) -> &[u8]
     ensures { result.now ≡ head_of line.now }
 {
-    let end = bytes::scan::find(line, 0, line.len(), b' ');
+    let end = octets::find(line, 0, line.len(), b' ');
     &line[0..end]
 }
 
@@ -15,7 +15,7 @@ pub fn head(line: &[u8]) -> &[u8]
 pub fn tail(line: &[u8]) -> &[u8]
     ensures { result.now ≡ tail_of line.now }
 {
-    let end = bytes::scan::find(line, 0, line.len(), b' ');
+    let end = octets::find(line, 0, line.len(), b' ');
     &line[end..]
 }
 

@@ -1,4 +1,6 @@
 // A whole capture in memory: its counts, and its verdicts. `report` and `judge` come to the same, piece by piece. Exports to measure by, from Rust or C (bench/).
+#![tactic(auto)]
+
 ghost use Rattle.std.specs.Prelude.{◌≡◌, length, replicate};
 ghost use Rattle.records.specs.Files.{reports_of};
 ghost use Rattle.records.specs.Endings.{refusal_of};

@@ -4,7 +4,7 @@ use mathlib.Core.Bool.{true, false}
 use mathlib.Core.Path.{◌≡◌}
 use Rattle.meaning.specs.Kinds.{among}
 use Rattle.ips_state.specs.State.{State, no_start, channel_at, fresh_of}
-use Rattle.ips_state.specs.Limits.{ids, indexOf, state_fits_under}
+use Rattle.ips_state.specs.Limits.{ids, index_of, state_fits_under}
 use Rattle.ips_words_survey.specs.declared.place.Place.{Place}
 use Rattle.ips_words_survey.specs.Places.{found_at}
 use Rattle.endpoint.specs.declared.shown.KeptAnswer.{KeptAnswer}
@@ -21,7 +21,7 @@ module _ (s : State) (fits : state_fits_under EARLIER-LIMITS s ≡ true) where
 
   -- a configured channel as it stands
   pub widened_shown : (id : ℕ) → among id (ids s.channels) ≡ true
-      → let index = indexOf id (ids s.channels) in shown_of s id ≡ record { place = Place.At (found_at s index); channel = channel_at s index }
+      → let index = index_of id (ids s.channels) in shown_of s id ≡ record { place = Place.At (found_at s index); channel = channel_at s index }
   widened_shown id known = shown_channel s id (widened_state s fits) known
 
   -- 12 where no channel has the ID, and no channel's numbers

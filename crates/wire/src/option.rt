@@ -11,7 +11,7 @@ const LENGTH_AT: usize = 1;
 pub const FRAME_SIZE: usize = 3;
 
 // The first option of a rest: cut off, or whole, with its type and its content's length.
-#[derive(Drop)]
+#[derive(Clone, Copy)]
 pub enum Frame {
     Cut,
     Whole(u8, usize),
@@ -40,6 +40,6 @@ pub fn lay(out: &mut [u8], kind: u8, content: &[u8]) -> usize
     let size = content.len();
     out[0] = kind;
     number::write(&mut out[LENGTH_AT..FRAME_SIZE], size as u64);
-    bytes::copy(content, &mut out[FRAME_SIZE..]);
+    octets::copy(content, &mut out[FRAME_SIZE..]);
     FRAME_SIZE + size
 }

@@ -7,7 +7,7 @@ use quantity::limit::LONGEST_DATAGRAM;
 use quantity::refusal::Refusal;
 
 // The message's length, or the refusal.
-#[derive(Drop)]
+#[derive(Clone, Copy)]
 pub enum WriteAnswer {
     Wrote(ByteCount),
     Refused(Refusal),
