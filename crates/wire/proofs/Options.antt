@@ -1,17 +1,17 @@
 -- The laws of options: a body is exactly the concatenation of its options, and back. No bound on their number shows in any of them. Assumes nothing.
-use Prim.Native.Nat.{ℕ, zero, suc, ◌+◌, ◌-◌, ◌*◌, ◌/◌, ◌%◌, ◌^◌, ◌≤◌, ◌<◌}
+use Prim.Native.Nat.{ℕ, zero, suc, ◌+◌, ◌-◌, ◌*◌, ◌^◌, ◌≤◌, ◌<◌}
 use mathlib.Core.Path.{◌≡◌, refl, sym, ap, ap₂, ◌∙◌}
 use mathlib.Core.List.{List, [], ◌∷◌, ◌++◌, append_assoc, append-nil}
 use mathlib.Core.Bool.{Bool, true, false, cond}
 use native.Mathlib.Omega.{arith}
 use borrow.Author.Tests.{lt-ltb, le-ltb, eq-eqb, ne_eqb, eqb-true, ltb-false}
 use lib.Dec.{ltb, eqb}
-use lib.ListN.{length, get_or, take, drop, set, length-append, length-drop, length-take, take-append-drop, drop_of_length-le}
+use lib.ListN.{length, get_or, take, drop, set, length-append, length-drop, take-append-drop, drop_of_length-le}
 use lib.Seq.{length-take-le, take-length, drop-length, take_at, drop_at, drop-drop, drop-cons}
 use Rattle.wire.specs.declared.option.Frame.{Frame}
 use Rattle.wire.specs.declared.option.Frame.TheVariants.{Cut, Whole}
 use Rattle.wire.specs.Numbers.{number_from, big_endian, bytes_of, Octets}
-use Rattle.wire.specs.Options.{option_bytes, length_at, frame_of, Options, done, cut, option, bytes, split_first, split_with, split, WholeOptions, over, Laid}
+use Rattle.wire.specs.Options.{option_bytes, length_at, frame_of, Options, done, cut, option, bytes, split_first, split_with, split, WholeOptions, Laid}
 use Rattle.wire.proofs.Numbers.{length_bytes, there_and_back, back_and_there}
 
 -- ---- the first option
