@@ -1,9 +1,9 @@
 -- A part of a list, and where a byte first stands in one.
-use Rattle.std.specs.Prelude.{ℕ, suc, ◌-◌, Bool, true, false, List, [], ◌∷◌, take, drop, nat_eq}
+use Rattle.std.specs.Prelude.{ℕ, suc, Bool, true, false, List, [], ◌∷◌, take, drop, nat_eq}
 
 -- from one index to another
-unfoldable pub slice : (from to : ℕ) → List ℕ → List ℕ
-slice from to text = take (to - from) (drop from text)
+abbrev pub slice : (from to : ℕ) → List ℕ → List ℕ
+slice from to text = drop from (take to text)
 
 -- 0 here, or one more than further on
 unfoldable pub index_after : Bool → ℕ → ℕ
