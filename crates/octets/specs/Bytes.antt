@@ -2,7 +2,7 @@
 use Rattle.std.specs.Prelude.{ℕ, suc, Bool, true, false, List, [], ◌∷◌, take, drop, nat_eq}
 
 -- from one index to another
-abbrev pub slice : (from to : ℕ) → List ℕ → List ℕ
+unfoldable pub slice : (from to : ℕ) → List ℕ → List ℕ
 slice from to text = drop from (take to text)
 
 -- 0 here, or one more than further on
