@@ -1,0 +1,29 @@
+-- `kind::is_known` meets its contract, arm by arm. Assumes nothing.
+use Rattle.meaning.proofs.kind.is_known.Goals as goal
+
+pub returns-in-1 : goal.returns-in-1
+returns-in-1 c = rw c.in-1.is
+
+pub returns-in-3 : goal.returns-in-3
+returns-in-3 c = rw c.in-3.is
+
+pub returns-in-4 : goal.returns-in-4
+returns-in-4 c = rw c.in-4.is
+
+pub returns-in-5 : goal.returns-in-5
+returns-in-5 c = rw c.in-5.is
+
+pub returns-in-6 : goal.returns-in-6
+returns-in-6 c = rw c.in-6.is
+
+pub returns-in-128 : goal.returns-in-128
+returns-in-128 c = rw c.in-128.is
+
+pub returns-in-129 : goal.returns-in-129
+returns-in-129 c = rw c.in-129.is
+
+pub returns-in-130 : goal.returns-in-130
+returns-in-130 c = rw c.in-130.is
+
+pub returns-in-134 : goal.returns-in-134
+returns-in-134 c = rw c.in-134.is

@@ -1,0 +1,11 @@
+-- `kind::radio_data` meets its contract, arm by arm. Assumes nothing.
+use Rattle.meaning.proofs.kind.radio_data.Goals as goal
+
+pub returns-in-1 : goal.returns-in-1
+returns-in-1 c = rw c.in-1.is
+
+pub returns-in-128 : goal.returns-in-128
+returns-in-128 c = rw c.in-128.is
+
+pub returns-in-129 : goal.returns-in-129
+returns-in-129 c = rw c.in-129.is
