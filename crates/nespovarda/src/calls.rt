@@ -13,15 +13,13 @@ use answer_codes::{Answer, of_write};
 use ips_words::waiting;
 
 // How many words a state of so many channels asks for; 0 where no state has so many.
-#[unsafe(no_mangle)]
-pub extern "C" fn nespovarda_words(channels: u64) -> u64
+pub fn nespovarda_words(channels: u64) -> u64
     ensures { result ≡ words_needed channels }
 {
     waiting::wide(endpoint::words_for(waiting::narrow(channels)))
 }
 
-#[unsafe(no_mangle)]
-pub extern "C" fn nespovarda_start(
+pub fn nespovarda_start(
     words: &mut [u64],
     memory: &mut [u8],
     configuration: &[u64],
@@ -31,8 +29,7 @@ pub extern "C" fn nespovarda_start(
     answer::of_start(endpoint::start(words, memory, configuration))
 }
 
-#[unsafe(no_mangle)]
-pub extern "C" fn nespovarda_offer(
+pub fn nespovarda_offer(
     words: &mut [u64],
     memory: &mut [u8],
     channel: u8,
@@ -45,8 +42,7 @@ pub extern "C" fn nespovarda_offer(
     answer::of_offer(endpoint::offer(words, memory, channel, packet, expiry, time))
 }
 
-#[unsafe(no_mangle)]
-pub extern "C" fn nespovarda_next(
+pub fn nespovarda_next(
     words: &mut [u64],
     memory: &mut [u8],
     channel: u8,
@@ -58,29 +54,25 @@ pub extern "C" fn nespovarda_next(
     answer::of_next(endpoint::next(words, memory, channel, time, out))
 }
 
-#[unsafe(no_mangle)]
-pub extern "C" fn nespovarda_withdraw(words: &mut [u64], memory: &mut [u8], channel: u8) -> Answer
+pub fn nespovarda_withdraw(words: &mut [u64], memory: &mut [u8], channel: u8) -> Answer
     ensures { Exported (on channel rules.withdraw) (lent words.old memory.old) result [] (lent words.new memory.new) }
 {
     answer::of_withdraw(endpoint::withdraw(words, memory, channel))
 }
 
-#[unsafe(no_mangle)]
-pub extern "C" fn nespovarda_radio(words: &mut [u64], time: u64, datagram: &[u8]) -> Answer
+pub fn nespovarda_radio(words: &mut [u64], time: u64, datagram: &[u8]) -> Answer
     ensures { ExportedWithAny (run.radio time datagram.now) words.old result [] words.new }
 {
     answer::of_radio(endpoint::hand_in(words, time, datagram))
 }
 
-#[unsafe(no_mangle)]
-pub extern "C" fn nespovarda_pace(words: &mut [u64], time: u64) -> Answer
+pub fn nespovarda_pace(words: &mut [u64], time: u64) -> Answer
     ensures { ExportedWithAny (run.pace time) words.old result [] words.new }
 {
     answer::of_pace(endpoint::pace(words, time))
 }
 
-#[unsafe(no_mangle)]
-pub extern "C" fn nespovarda_query(words: &[u64], out: &mut [u8]) -> Answer
+pub fn nespovarda_query(words: &[u64], out: &mut [u8]) -> Answer
     ensures { ExportedWithAny (run.query out.old) words.now result out.new words.now }
 {
     of_write(endpoint::query(words, out))

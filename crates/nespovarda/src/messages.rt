@@ -4,8 +4,7 @@ ghost use Rattle.message_calls.specs.Calls.{ReadsControl, ReadsData, WritesContr
 use answer_codes::Answer;
 use message_calls::{reading, writing};
 
-#[unsafe(no_mangle)]
-pub extern "C" fn nespovarda_read_control(
+pub fn nespovarda_read_control(
     datagram: &[u8],
     end: u8,
     datalink: u8,
@@ -16,8 +15,7 @@ pub extern "C" fn nespovarda_read_control(
     reading::read_control(datagram, end, datalink, meaning)
 }
 
-#[unsafe(no_mangle)]
-pub extern "C" fn nespovarda_read_data(
+pub fn nespovarda_read_data(
     datagram: &[u8],
     end: u8,
     datalink: u8,
@@ -28,15 +26,13 @@ pub extern "C" fn nespovarda_read_data(
     reading::read_data(datagram, end, datalink, parts)
 }
 
-#[unsafe(no_mangle)]
-pub extern "C" fn nespovarda_write_control(end: u8, meaning: &[u64], out: &mut [u8]) -> Answer
+pub fn nespovarda_write_control(end: u8, meaning: &[u64], out: &mut [u8]) -> Answer
     ensures { WritesControl end meaning.now out.old result out.new }
 {
     writing::write_control(end, meaning, out)
 }
 
-#[unsafe(no_mangle)]
-pub extern "C" fn nespovarda_write_data(
+pub fn nespovarda_write_data(
     end: u8,
     parts: &[u64],
     packet: &[u8],

@@ -6,8 +6,7 @@ use crate::answer;
 use answer_codes::Answer;
 
 // `OFFERED`, and an answer for each packet: 0 where it is taken, else its number of refusal; or 19, 24, and every answer as it was.
-#[unsafe(no_mangle)]
-pub extern "C" fn nespovarda_offers(
+pub fn nespovarda_offers(
     words: &mut [u64],
     memory: &mut [u8],
     channels: &[u8],

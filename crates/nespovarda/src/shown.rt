@@ -41,8 +41,7 @@ fn show(channel: Channel, start: usize, shown: &mut [u64; CHANNEL_NUMBERS])
 }
 
 // `SHOWN` and the channel's numbers; or 19, 12.
-#[unsafe(no_mangle)]
-pub extern "C" fn nespovarda_show(
+pub fn nespovarda_show(
     words: &[u64],
     channel: u8,
     shown: &mut [u64; CHANNEL_NUMBERS],
@@ -75,8 +74,7 @@ fn show_waiting(channel: Channel, position: usize, shown: &mut [u64; WAITING_NUM
 }
 
 // As `show_waiting`; or 19, 12.
-#[unsafe(no_mangle)]
-pub extern "C" fn nespovarda_waiting(
+pub fn nespovarda_waiting(
     words: &[u64],
     channel: u8,
     position: u64,
@@ -102,8 +100,7 @@ fn show_kept(link: Instance, kept: Context, shown: &mut [u64; KEPT_NUMBERS])
 }
 
 // `KEPT` with the Link Instance as last given and the Context of the last accepted control message; or 19.
-#[unsafe(no_mangle)]
-pub extern "C" fn nespovarda_kept(words: &[u64], shown: &mut [u64; KEPT_NUMBERS]) -> Answer
+pub fn nespovarda_kept(words: &[u64], shown: &mut [u64; KEPT_NUMBERS]) -> Answer
     ensures { ShowsKept (state_in words.now) shown.old result shown.new }
 {
     match endpoint::kept(words) {
@@ -129,8 +126,7 @@ fn show_pacer(pacer: Pacer, shown: &mut [u64; PACER_NUMBERS])
 }
 
 // `PACER_SHOWN` and the pacer's numbers; or 19.
-#[unsafe(no_mangle)]
-pub extern "C" fn nespovarda_pacer(words: &[u64], shown: &mut [u64; PACER_NUMBERS]) -> Answer
+pub fn nespovarda_pacer(words: &[u64], shown: &mut [u64; PACER_NUMBERS]) -> Answer
     ensures { ShowsPacer (state_in words.now) shown.old result shown.new }
 {
     match endpoint::pacer(words) {

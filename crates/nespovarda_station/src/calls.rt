@@ -12,22 +12,19 @@ use quantity::count::ByteCount;
 use radio_end_words::slot;
 
 // How many words a state of so many channels asks for; 0 where no state has so many.
-#[unsafe(no_mangle)]
-pub extern "C" fn nespovarda_station_words(channels: u64) -> u64
+pub fn nespovarda_station_words(channels: u64) -> u64
     ensures { result ≡ words_needed channels }
 {
     slot::wide(radio_end::words_for(slot::narrow(channels)))
 }
 
-#[unsafe(no_mangle)]
-pub extern "C" fn nespovarda_station_start(words: &mut [u64], configuration: &[u64]) -> Answer
+pub fn nespovarda_station_start(words: &mut [u64], configuration: &[u64]) -> Answer
     ensures { StartExported configuration.now words.old result words.new }
 {
     answer::of_start(radio_end::start(words, configuration))
 }
 
-#[unsafe(no_mangle)]
-pub extern "C" fn nespovarda_station_hear(
+pub fn nespovarda_station_hear(
     words: &mut [u64],
     datagram: &[u8],
     out: &mut [u8],
@@ -37,8 +34,7 @@ pub extern "C" fn nespovarda_station_hear(
     answer::of_call(radio_end::hear(words, datagram, out))
 }
 
-#[unsafe(no_mangle)]
-pub extern "C" fn nespovarda_station_status(
+pub fn nespovarda_station_status(
     words: &mut [u64],
     channel: u8,
     value: u8,
@@ -49,8 +45,7 @@ pub extern "C" fn nespovarda_station_status(
     answer::of_call(radio_end::tell_status(words, channel, value, out))
 }
 
-#[unsafe(no_mangle)]
-pub extern "C" fn nespovarda_station_queued(
+pub fn nespovarda_station_queued(
     words: &mut [u64],
     channel: u8,
     bytes: u64,
@@ -62,8 +57,7 @@ pub extern "C" fn nespovarda_station_queued(
     answer::of_call(radio_end::tell_queued(words, channel, queued, out))
 }
 
-#[unsafe(no_mangle)]
-pub extern "C" fn nespovarda_station_context(
+pub fn nespovarda_station_context(
     words: &mut [u64],
     value: u64,
     length: u64,
@@ -75,16 +69,14 @@ pub extern "C" fn nespovarda_station_context(
     answer::of_call(radio_end::tell_context(words, context, out))
 }
 
-#[unsafe(no_mangle)]
-pub extern "C" fn nespovarda_station_link(words: &mut [u64], value: u64, length: u64) -> Answer
+pub fn nespovarda_station_link(words: &mut [u64], value: u64, length: u64) -> Answer
     ensures { Exported (link_told (state_in words.old) (instance_said value length) []) words.old result words.new [] }
 {
     let instance = named::instance(value, length);
     answer::of_call(radio_end::tell_link(words, instance))
 }
 
-#[unsafe(no_mangle)]
-pub extern "C" fn nespovarda_station_tell(words: &[u64], out: &mut [u8]) -> Answer
+pub fn nespovarda_station_tell(words: &[u64], out: &mut [u8]) -> Answer
     ensures { Exported (told (state_in words.now) out.old) words.now result words.now out.new }
 {
     answer::of_call(radio_end::tell(words, out))

@@ -31,8 +31,7 @@ fn show(channel: Channel, shown: &mut [u64; STATION_NUMBERS])
 }
 
 // `SHOWN` and the channel's numbers; or 19, 12.
-#[unsafe(no_mangle)]
-pub extern "C" fn nespovarda_station_show(
+pub fn nespovarda_station_show(
     words: &[u64],
     channel: u8,
     shown: &mut [u64; STATION_NUMBERS],
