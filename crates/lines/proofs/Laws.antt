@@ -14,7 +14,6 @@ use lib.ListN.{length, get_or, take, drop, set, length-set, length-drop}
 use lib.Seq.{length-take-le, take-add, drop_at, get_or-drop, paste, paste-zero, paste-suc, take-paste, drop-paste, length-paste}
 use Rattle.facts.proofs.Tests.{clash}
 use Rattle.octets.specs.Bytes.{index_of, index_after, slice}
-use Rattle.io.specs.Counts.{clamp_len}
 use Rattle.lines.specs.declared.Input.{Input}
 use Rattle.lines.specs.declared.Found.{Found}
 use Rattle.lines.specs.declared.Found.TheVariants.{More, End, Line, Over, Failed}
@@ -120,7 +119,7 @@ read_is (negsuc n) kept have dropped = refl
 
 -- what a read leaves in the part behind the bytes that are kept
 pub behind_is : (buffer : List ℕ) (kept got : ℕ) (answer : ℤ) (dropped : Bool) (part : List ℕ) {r : Input} → kept ≤ length buffer
-    → length part ≡ length (mid_of kept (length buffer - kept) buffer) → got ≤ length part → got ≡ clamp_len answer (length part)
+    → length part ≡ length (mid_of kept (length buffer - kept) buffer) → got ≤ length part → (failed_by answer ≡ true → got ≡ 0)
     → r ≡ read_of answer kept (kept + got) dropped → Behind buffer kept dropped r (put_mid kept (length buffer - kept) buffer part)
 unfolding read_of
 behind_is buffer kept got answer dropped part h e l c p =
@@ -133,12 +132,8 @@ behind_is buffer kept got answer dropped part h e l c p =
       most = omega arith;
       over = refl;
       ended = refl;
-      failed = none answer c;
+      failed = λ f. let z = c f in eq-eqb (kept + got) kept (omega arith);
     })
-  where
-    none : (z : ℤ) → got ≡ clamp_len z (length part) → failed_by z ≡ true → eqb (kept + got) kept ≡ true
-    none (pos n) q f = absurd (true≢false (sym f))
-    none (negsuc n) q f = eq-eqb (kept + got) kept (omega arith)
 
 -- a stretch of a list, taken from its start or from its end
 pub slice_is : (from to : ℕ) (l : List ℕ) → from ≤ to → to ≤ length l → slice from to l ≡ take (to - from) (drop from l)

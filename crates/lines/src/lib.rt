@@ -1,4 +1,4 @@
-// Lines of standard input, read piece by piece into one lent buffer. A line ends at a newline; a last line without one
+// Lines of what a reader gives, read piece by piece into one lent buffer. A line ends at a newline; a last line without one
 // counts if it isn't empty. A line that has no room in the buffer with its newline is dropped, and found as over once.
 // Where reading fails, the lines that ended are found, and then that it failed.
 #![tactic(auto)]
@@ -7,7 +7,8 @@ ghost use Rattle.std.specs.Prelude.{◌≡◌, ◌+◌, ◌≤◌, length, drop}
 ghost use Rattle.std.proofs.Math.Seq.{paste};
 ghost use Rattle.lines.specs.Unread.{start_of, tidy_of, line_of, last_of, next_of, lost_of, read_of, Behind, Filled};
 
-use libc::STDIN_FILENO;
+use std::io;
+use std::io::Read;
 
 // What was read and isn't handed on yet: a buffer from `at` to `have`.
 #[derive(Clone, Copy)]
@@ -161,18 +162,20 @@ fn after(answer: isize, kept: usize, have: usize, over: bool) -> Input
 }
 
 // Reads behind the bytes that are kept. No contract can say which bytes the system hands over.
-fn read_behind(buffer: &mut [u8], kept: usize, over: bool) -> Input
+fn read_behind<R: Read>(reader: &mut R, buffer: &mut [u8], kept: usize, over: bool) -> Input
     requires { kept ≤ length buffer.old }
     ensures { Behind buffer.old kept over result buffer.new }
 {
     let part = &mut buffer[kept..];
-    let answer = libc::read(STDIN_FILENO, part);
-    let have = kept + io::count(answer, part);
-    after(answer, kept, have, over)
+    match reader.read(part) {
+        // Of a count, only that it isn't below 0 is asked: one that fills half of all memory has no number of its own there.
+        Ok(n) => after(0, kept, kept + n, over),
+        Err(_) => after(-1, kept, kept, over),
+    }
 }
 
 // Moves what is unread to the start of the buffer and reads more behind it.
-pub fn fill(buffer: &mut [u8], input: Input) -> Input
+pub fn fill<R: Read>(reader: &mut R, buffer: &mut [u8], input: Input) -> Input
     ensures { Filled buffer.old input result buffer.new }
 {
     if !tidy(input, buffer.len()) {
@@ -185,10 +188,10 @@ pub fn fill(buffer: &mut [u8], input: Input) -> Input
         };
     }
     if lost(input, buffer.len()) {
-        return read_behind(buffer, 0, true);
+        return read_behind(reader, buffer, 0, true);
     }
     let at = input.at;
     let n = input.have - at;
     move_down(buffer, at, n);
-    read_behind(buffer, n, false)
+    read_behind(reader, buffer, n, false)
 }
