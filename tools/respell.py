@@ -20,6 +20,8 @@ SNAKE = os.path.join(KIT, "port/notes/2026-11-18-names-are-in-snake-case/snake.p
 WORD = r"[^\s(){}.;,@\"«»:]+"
 DECLARED = re.compile(r"^(\s*)((?:pub |abbrev |unfoldable )*)(" + WORD + r")(?:\s+\{[^}]*\})?\s*:(?:\s|$)", re.M)
 # names of capitals alone that fall together with nothing, and are types
+# constructors that share a line, and names that a signature binds
+BOUND = """windowShut nothingWaiting notOperational sentRest paceTexts nextTexts radioTexts onData onControl offerTexts withdrawTexts queryTexts answersTexts anotherTexts offersTexts isUnknown isOperational isControlled isKnown""".split()
 TYPES = {"Whole-options": "WholeOptions"}
 
 
@@ -60,7 +62,7 @@ def snake(name):
 def table():
     own, walks = declared()
     theirs = imported()
-    rows = {}
+    rows = {w: snake(w) for w in BOUND}
     for n in sorted(own):
         if n in TYPES:
             rows[n] = TYPES[n]

@@ -18,17 +18,17 @@ pub data Row : Type 0 where
   distance : (sequence window : ℕ) → ℤ → Row
   fits : (sequence window bytes : ℕ) → Bool → Row
   becomes : (sequence bytes after : ℕ) → Row
-  status : (content : List ℕ) (channel number : ℕ) (isUnknown isOperational : Bool) → Row
+  status : (content : List ℕ) (channel number : ℕ) (is_unknown is_operational : Bool) → Row
   window : (content : List ℕ) → OptionAnswer → Row
 
 abbrev pub Right : Row → Type 0
 Right (distance s w d) = distance_of (record { 0 = s }) (record { 0 = w }) ≡ d
 Right (fits s w n answer) = fits_of (record { 0 = s }) (record { 0 = w }) (record { 0 = n }) ≡ answer
 Right (becomes s n after) = advance_of (record { 0 = s }) (record { 0 = n }) ≡ record { 0 = after }
-Right (status content channel number isUnknown isOperational) =
+Right (status content channel number is_unknown is_operational) =
     (answer_of planes.Control Radio CHANNEL-STATUS content ≡ Took (Item.Status channel number))
-    × (unknown DEFAULT-CODES (Status.Given number) ≡ isUnknown)
-    × (operational DEFAULT-CODES (Status.Given number) ≡ isOperational)
+    × (unknown DEFAULT-CODES (Status.Given number) ≡ is_unknown)
+    × (operational DEFAULT-CODES (Status.Given number) ≡ is_operational)
 Right (window content answer) = answer_of planes.Control Radio FLOW-WINDOW content ≡ answer
 
 abbrev pub AllRight : List Row → Type 0

@@ -8,7 +8,7 @@ use borrow.Rule.Slice.PartMut.{put_mid}
 use lib.ListN.{length, take, drop}
 use lib.Seq.{drop-drop}
 use Rattle.quantity.specs.declared.count.ByteCount.{ByteCount}
-use Rattle.ips_channel_rules.specs.Rules.{ChannelCall, offer, next, withdraw, taken, nothingWaiting, notOperational, windowShut, sent, emptied, Says, Answer, refused, answered, unless_refused, Terms}
+use Rattle.ips_channel_rules.specs.Rules.{ChannelCall, offer, next, withdraw, taken, nothing_waiting, not_operational, window_shut, sent, emptied, Says, Answer, refused, answered, unless_refused, Terms}
 use Rattle.ips_channel.specs.declared.state.Channel.{Channel}
 use Rattle.ips_channel_calls.specs.Calls.{Reply, reply_to, channel_after, Ready, Serves, Moves}
 use Rattle.ips_state.specs.Limits.{state_fits}
@@ -32,9 +32,9 @@ pub unless_told : {A : Type 0} (k : Terms) (call : ChannelCall) (a : Answer (Say
 unless_told k (offer packet time) (refused number) was is = refl
 unless_told k (offer packet time) (answered taken) was is = refl
 unless_told k (next time out) (refused number) was is = refl
-unless_told k (next time out) (answered nothingWaiting) was is = refl
-unless_told k (next time out) (answered notOperational) was is = refl
-unless_told k (next time out) (answered windowShut) was is = refl
+unless_told k (next time out) (answered nothing_waiting) was is = refl
+unless_told k (next time out) (answered not_operational) was is = refl
+unless_told k (next time out) (answered window_shut) was is = refl
 unless_told k (next time out) (answered (sent packet sequence)) was is = refl
 unless_told k withdraw (refused number) was is = refl
 unless_told k withdraw (answered emptied) was is = refl

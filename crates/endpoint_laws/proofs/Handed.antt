@@ -14,7 +14,7 @@ use Rattle.reader.specs.Readings.{Verdict, read_data}
 use Rattle.store.specs.Packets.{Packet}
 use Rattle.flow.specs.declared.Flow.{Flow}
 use Rattle.flow.specs.Counting.{may_go, sequence_on, carried_by}
-use Rattle.ips_channel_rules.specs.Rules.{next, Tried, nothingWaiting, notOperational, windowShut, sent, Answer, refused, answered, Terms, Result, counted_on, message_of, message_bytes}
+use Rattle.ips_channel_rules.specs.Rules.{next, Tried, nothing_waiting, not_operational, window_shut, sent, Answer, refused, answered, Terms, Result, counted_on, message_of, message_bytes}
 use Rattle.ips_channel_rules.specs.Machine.{machine}
 use Rattle.ips_channel_rules.specs.Exactly.{Asked, asked_early, asked_nothing, asked_not_operational, asked_shut, asked_no_room, asked_sent}
 use Rattle.ips_channel_rules.proofs.Exact as rules
@@ -111,9 +111,9 @@ module _ (w : World) (id time : ℕ) (out : List ℕ) where
       where
         go : (a : Answer Tried) → (calling id (next time out) w).answer ≡ a → HandedOver w id time count out out'
         go (refused number) e = clash (cc (rw e at h.reply_is))
-        go (answered nothingWaiting) e = clash (cc (rw e at h.reply_is))
-        go (answered notOperational) e = clash (cc (rw e at h.reply_is))
-        go (answered windowShut) e = clash (cc (rw e at h.reply_is))
+        go (answered nothing_waiting) e = clash (cc (rw e at h.reply_is))
+        go (answered not_operational) e = clash (cc (rw e at h.reply_is))
+        go (answered window_shut) e = clash (cc (rw e at h.reply_is))
         go (answered (sent packet sequence)) e =
             let message = message_bytes k sequence packet in
             let counted : NextAnswer.Sent count ≡ NextAnswer.Sent (record { 0 = length message }) = cc (rw e at h.reply_is) in
@@ -126,9 +126,9 @@ module _ (w : World) (id time : ℕ) (out : List ℕ) where
       where
         go : (a : Answer Tried) → (calling id (next time out) w).answer ≡ a → out' ≡ out
         go (refused number) e = cc (rw e at h.reply_is)
-        go (answered nothingWaiting) e = cc (rw e at h.reply_is)
-        go (answered notOperational) e = cc (rw e at h.reply_is)
-        go (answered windowShut) e = cc (rw e at h.reply_is)
+        go (answered nothing_waiting) e = cc (rw e at h.reply_is)
+        go (answered not_operational) e = cc (rw e at h.reply_is)
+        go (answered window_shut) e = cc (rw e at h.reply_is)
         go (answered (sent packet sequence)) e =
             let counted : answer ≡ NextAnswer.Sent (record { 0 = length (message_bytes k sequence packet) }) = cc (rw e at h.reply_is) in
             absurd (not _ counted)

@@ -13,7 +13,7 @@ use Rattle.meaning.specs.declared.message.Control.{Control}
 use Rattle.flow.specs.declared.Flow.{Flow}
 use Rattle.flow.specs.Counting.{flow_after}
 use Rattle.ips_channel_rules.specs.Rules as rules
-use Rattle.ips_channel_rules.specs.Rules.{ChannelCall, offer, next, withdraw, nothingWaiting, notOperational, windowShut, sent, taken, emptied, Says, Answer, refused, answered, Event, Happened, called, heard, Terms, Condition, happens, step, history, final}
+use Rattle.ips_channel_rules.specs.Rules.{ChannelCall, offer, next, withdraw, nothing_waiting, not_operational, window_shut, sent, taken, emptied, Says, Answer, refused, answered, Event, Happened, called, heard, Terms, Condition, happens, step, history, final}
 use Rattle.ips_channel_rules.specs.Machine.{machine}
 use Rattle.ips_channel_rules.proofs.Within.{plain_free_lem}
 use Rattle.ips_channel_rules.proofs.Leaves.{Leaves, stays, joins, looks, sends, clears, hears, leaves}
@@ -69,9 +69,9 @@ time_told : (k : Terms) (c : ChannelCall) (a : Answer (Says c)) → time_from c 
 time_told k (offer packet time) (refused number) = refl
 time_told k (offer packet time) (answered taken) = refl
 time_told k (next time out) (refused number) = refl
-time_told k (next time out) (answered nothingWaiting) = refl
-time_told k (next time out) (answered notOperational) = refl
-time_told k (next time out) (answered windowShut) = refl
+time_told k (next time out) (answered nothing_waiting) = refl
+time_told k (next time out) (answered not_operational) = refl
+time_told k (next time out) (answered window_shut) = refl
 time_told k (next time out) (answered (sent packet sequence)) = refl
 time_told k withdraw (refused number) = refl
 time_told k withdraw (answered emptied) = refl

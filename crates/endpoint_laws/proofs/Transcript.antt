@@ -18,7 +18,7 @@ use Rattle.meaning.specs.declared.message.Sequence.{Sequence}
 use Rattle.store.specs.Waiting.{packets_of}
 use Rattle.flow.specs.declared.Flow.{Flow}
 use Rattle.ips_channel_rules.specs.Rules as rules
-use Rattle.ips_channel_rules.specs.Rules.{ChannelCall, offer, next, withdraw, Says, Answer, refused, answered, taken, nothingWaiting, notOperational, windowShut, sent, emptied, Tried, Happened, called, heard, Terms, Condition, final}
+use Rattle.ips_channel_rules.specs.Rules.{ChannelCall, offer, next, withdraw, Says, Answer, refused, answered, taken, nothing_waiting, not_operational, window_shut, sent, emptied, Tried, Happened, called, heard, Terms, Condition, final}
 use Rattle.ips_channel_rules.specs.Machine.{machine}
 use Rattle.ips_channel_rules.specs.Simple.{simple}
 use Rattle.ips_channel_rules.specs.Account.{took_by, taken_in, handed_by, handed_over, bytes_over, Account}
@@ -113,9 +113,9 @@ module _ (w : World) (id : ℕ) where
 
       go : (a : Answer Tried) → (calling id (next time out) w).answer ≡ a → if_sent (next_answer k a) (output_after k a out) ≡ handed_by (called (next time out) a)
       go (refused number) e = refl
-      go (answered nothingWaiting) e = refl
-      go (answered notOperational) e = refl
-      go (answered windowShut) e = refl
+      go (answered nothing_waiting) e = refl
+      go (answered not_operational) e = refl
+      go (answered window_shut) e = refl
       go (answered (sent packet sequence)) e =
           let done : Performed (on id (next time out)) w (of_channel (asked (next_answer k (answered (sent packet sequence))) (output_after k (answered (sent packet sequence)) out))) (after (on id (next time out)) w) =
           record { reply_is = rw e; world_is = refl } in

@@ -12,7 +12,7 @@ use Rattle.reader.specs.declared.answer.PlaneAnswer.{PlaneAnswer}
 use Rattle.writer.specs.declared.answer.WriteAnswer.{WriteAnswer}
 use Rattle.writer.specs.Written.{no_room_of}
 use Rattle.store.specs.Packets.{Packet}
-use Rattle.ips_channel_rules.specs.Rules.{ChannelCall, offer, next, withdraw, Taken, taken, Tried, nothingWaiting, notOperational, windowShut, sent, Emptied, emptied, Answer, refused, answered, Terms}
+use Rattle.ips_channel_rules.specs.Rules.{ChannelCall, offer, next, withdraw, Taken, taken, Tried, nothing_waiting, not_operational, window_shut, sent, Emptied, emptied, Answer, refused, answered, Terms}
 use Rattle.ips_channel_calls.specs.declared.offering.OfferAnswer.{OfferAnswer}
 use Rattle.ips_channel_calls.specs.declared.asking.NextAnswer.{NextAnswer}
 use Rattle.ips_channel_calls.specs.Calls.{offer_answer, next_answer, withdraw_answer, output_after, Reply, offered, asked, withdrawn}
@@ -43,9 +43,9 @@ offer_told (answered taken) refusal e = clash (cc)
 
 next_told : (k : Terms) (a : Answer Tried) (refusal : Refusal) → next_answer k a ≡ NextAnswer.Refused refusal → a ≡ refused refusal.number
 next_told k (refused number) refusal e = let n : number ≡ refusal.number = cc in rw n
-next_told k (answered nothingWaiting) refusal e = clash (cc)
-next_told k (answered notOperational) refusal e = clash (cc)
-next_told k (answered windowShut) refusal e = clash (cc)
+next_told k (answered nothing_waiting) refusal e = clash (cc)
+next_told k (answered not_operational) refusal e = clash (cc)
+next_told k (answered window_shut) refusal e = clash (cc)
 next_told k (answered (sent packet sequence)) refusal e = clash (cc)
 
 withdraw_told : (a : Answer Emptied) (refusal : Refusal) → withdraw_answer a ≡ WithdrawAnswer.Refused refusal → a ≡ refused refusal.number

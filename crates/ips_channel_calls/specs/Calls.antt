@@ -8,7 +8,7 @@ use Rattle.wire.specs.Options.{over}
 use Rattle.store.specs.Packets.{Packet}
 use Rattle.store.specs.Moves.{Stretch, displaced, expiring, sending, withdrawing, unchanging}
 use Rattle.store.specs.Waiting.{packets_of, store_of, well_formed}
-use Rattle.ips_channel_rules.specs.Rules.{ChannelCall, offer, next, withdraw, Taken, taken, Tried, nothingWaiting, notOperational, windowShut, sent, Emptied, emptied, Says, Answer, refused, answered, unless_refused, Terms, longest_on, Result, message_bytes, call_at}
+use Rattle.ips_channel_rules.specs.Rules.{ChannelCall, offer, next, withdraw, Taken, taken, Tried, nothing_waiting, not_operational, window_shut, sent, Emptied, emptied, Says, Answer, refused, answered, unless_refused, Terms, longest_on, Result, message_bytes, call_at}
 use Rattle.ips_channel_rules.specs.Machine.{machine}
 use Rattle.ips_channel.specs.declared.state.DatalinkSetting.{DatalinkSetting}
 use Rattle.ips_channel.specs.declared.state.Channel.{Channel}
@@ -39,9 +39,9 @@ answer_of number = cond (eqb number 0) OfferAnswer.Taken (OfferAnswer.Refused (r
 
 abbrev pub next_answer : Terms → Answer Tried → NextAnswer
 next_answer k (refused number) = NextAnswer.Refused (refused_with number)
-next_answer k (answered nothingWaiting) = NextAnswer.NothingWaiting
-next_answer k (answered notOperational) = NextAnswer.NotOperational
-next_answer k (answered windowShut) = NextAnswer.WindowShut
+next_answer k (answered nothing_waiting) = NextAnswer.NothingWaiting
+next_answer k (answered not_operational) = NextAnswer.NotOperational
+next_answer k (answered window_shut) = NextAnswer.WindowShut
 next_answer k (answered (sent packet sequence)) = NextAnswer.Sent (record { 0 = length (message_bytes k sequence packet) })
 
 abbrev pub withdraw_answer : Answer Emptied → WithdrawAnswer
@@ -51,9 +51,9 @@ withdraw_answer (answered emptied) = WithdrawAnswer.Withdrawn
 -- the message over the output's first bytes; all other answers "leave the output's bytes as they stood"
 abbrev pub output_after : Terms → Answer Tried → List ℕ → List ℕ
 output_after k (refused number) out = out
-output_after k (answered nothingWaiting) out = out
-output_after k (answered notOperational) out = out
-output_after k (answered windowShut) out = out
+output_after k (answered nothing_waiting) out = out
+output_after k (answered not_operational) out = out
+output_after k (answered window_shut) out = out
 output_after k (answered (sent packet sequence)) out = over (message_bytes k sequence packet) out
 
 -- ---- what the caller gets: the answer, and of Next the output after it
@@ -107,9 +107,9 @@ abbrev pub leaving_by : (call : ChannelCall) → Answer (Says call) → List Pac
 leaving_by (offer packet time) (refused number) ps = unchanging ps
 leaving_by (offer packet time) (answered taken) ps = expiring time ps
 leaving_by (next time out) (refused number) ps = unchanging ps
-leaving_by (next time out) (answered nothingWaiting) ps = expiring time ps
-leaving_by (next time out) (answered notOperational) ps = expiring time ps
-leaving_by (next time out) (answered windowShut) ps = expiring time ps
+leaving_by (next time out) (answered nothing_waiting) ps = expiring time ps
+leaving_by (next time out) (answered not_operational) ps = expiring time ps
+leaving_by (next time out) (answered window_shut) ps = expiring time ps
 leaving_by (next time out) (answered (sent packet sequence)) ps = sending time ps
 leaving_by withdraw (refused number) ps = unchanging ps
 leaving_by withdraw (answered emptied) ps = withdrawing ps

@@ -18,7 +18,7 @@ use Rattle.writer.specs.Written.{data_options, data_written, no_room_of}
 use Rattle.store.specs.Packets.{Packet}
 use Rattle.ipv6.specs.FixedHeader.{FixedHeader}
 use Rattle.ipv6.proofs.FixedHeader.{ipv6_exactly}
-use Rattle.ips_channel_rules.specs.Rules.{taken, Tried, nothingWaiting, notOperational, windowShut, sent, Terms, ChannelParts, Condition, Result, message_bytes, refusal, left, grown, offer_at, next_at}
+use Rattle.ips_channel_rules.specs.Rules.{taken, Tried, nothing_waiting, not_operational, window_shut, sent, Terms, ChannelParts, Condition, Result, message_bytes, refusal, left, grown, offer_at, next_at}
 use Rattle.ips_channel_rules.specs.Limits.{NoPlace, TooLong, Limited}
 use Rattle.ips_channel_rules.specs.FlowCases.{IsFree, IsShut, IsUnder}
 use Rattle.ips_channel_rules.proofs.Limits.{both_short, place_empty}
@@ -90,11 +90,11 @@ module _ (P : ChannelParts) (k : Terms) (time room : ℕ) (st : Condition P) whe
 
   module _ (t : st.latest ≤ time) where
     -- "tried in this order: nothing waiting, not operational, window shut"
-    pub next_none_waits : P.waiting (P.expire time st.keeping) ≡ [] → next_at P k time room st ≡ keeps nothingWaiting
+    pub next_none_waits : P.waiting (P.expire time st.keeping) ≡ [] → next_at P k time room st ≡ keeps nothing_waiting
     next_none_waits = next_nothing P k time room st t
 
     module _ (p : Packet) (ps : List Packet) (w : P.waiting (P.expire time st.keeping) ≡ p ∷ ps) where
-      pub next_down : (MaySend k.codes.0 st.status → ⊥) → next_at P k time room st ≡ keeps notOperational
+      pub next_down : (MaySend k.codes.0 st.status → ⊥) → next_at P k time room st ≡ keeps not_operational
       next_down not = next_not_operational P k time room st t p ps w (false_unless _ (λ e. not ((operational_exactly k.codes st.status).0 e)))
 
       module _ (up : MaySend k.codes.0 st.status) where
@@ -122,7 +122,7 @@ module _ (P : ChannelParts) (k : Terms) (time room : ℕ) (st : Condition P) whe
           next_free_eighteen = without_room _ _ _ (free.goes _) (free.counted _) free.carried (size_free k p.bytes)
 
         -- no window: none goes
-        pub next_no_window : IsShut P st.counting → next_at P k time room st ≡ keeps windowShut
+        pub next_no_window : IsShut P st.counting → next_at P k time room st ≡ keeps window_shut
         next_no_window none = next_shut P k time room st t p ps w ((operational_exactly k.codes st.status).1 up) (none.stays _)
 
         -- under a window: a packet goes exactly when it may, if the output has 20 bytes more than it
@@ -134,6 +134,6 @@ module _ (P : ChannelParts) (k : Terms) (time room : ℕ) (st : Condition P) whe
           pub next_under_eighteen : May → (room < 20 + length p.bytes) ⊎ (65507 < 20 + length p.bytes) → next_at P k time room st ≡ refusal P 18 st
           next_under_eighteen may = without_room _ _ _ (under.goes.1 may) under.counted under.carried (size_under k (record { 0 = word }) p.bytes)
 
-          pub next_past : (May → ⊥) → next_at P k time room st ≡ keeps windowShut
+          pub next_past : (May → ⊥) → next_at P k time room st ≡ keeps window_shut
           next_past not =
               next_shut P k time room st t p ps w ((operational_exactly k.codes st.status).1 up) (false_unless _ (λ e. not (under.goes.0 e)))

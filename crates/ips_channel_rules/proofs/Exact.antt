@@ -13,7 +13,7 @@ use Rattle.meaning.specs.Statuses.{operational}
 use Rattle.writer.specs.Written.{no_room_of}
 use Rattle.store.specs.Packets.{Packet}
 use Rattle.ipv6.specs.Ipv6.{is_ipv6}
-use Rattle.ips_channel_rules.specs.Rules.{ChannelCall, offer, next, withdraw, Taken, taken, Tried, nothingWaiting, notOperational, windowShut, sent, emptied, Terms, ChannelParts, Condition, Result, message_bytes, refusal, left, grown, offer_at, try_first, next_at, withdraw_at, radio_at, call_at}
+use Rattle.ips_channel_rules.specs.Rules.{ChannelCall, offer, next, withdraw, Taken, taken, Tried, nothing_waiting, not_operational, window_shut, sent, emptied, Terms, ChannelParts, Condition, Result, message_bytes, refusal, left, grown, offer_at, try_first, next_at, withdraw_at, radio_at, call_at}
 use Rattle.ips_channel_rules.specs.Exactly.{Offered, offered_not_ipv6, offered_long, offered_early, offered_past, offered_full, offered_taken, Asked, asked_early, asked_nothing, asked_not_operational, asked_shut, asked_no_room, asked_sent, Exactly}
 
 module _ (P : ChannelParts) (k : Terms) where
@@ -66,21 +66,21 @@ module _ (P : ChannelParts) (k : Terms) where
     module _ (t : st.latest ≤ time) where
       -- "tried in this order: nothing waiting, .."
       pub next_nothing : P.waiting (P.expire time st.keeping) ≡ []
-          → next_at P k time room st ≡ left P nothingWaiting st.counting (P.expire time st.keeping) time st
+          → next_at P k time room st ≡ left P nothing_waiting st.counting (P.expire time st.keeping) time st
       unfolding next_at try_first
       next_nothing w = simp (le-ltb time st.latest t, w)
 
       module _ (p : Packet) (ps : List Packet) (w : P.waiting (P.expire time st.keeping) ≡ p ∷ ps) where
         -- ".. not operational, .."
         pub next_not_operational : operational k.codes st.status ≡ false
-            → next_at P k time room st ≡ left P notOperational st.counting (P.expire time st.keeping) time st
+            → next_at P k time room st ≡ left P not_operational st.counting (P.expire time st.keeping) time st
         unfolding next_at try_first
         next_not_operational o = simp (le-ltb time st.latest t, w, o)
 
         module _ (o : operational k.codes st.status ≡ true) where
           -- ".. window shut."
           pub next_shut : P.fits st.counting (record { 0 = length p.bytes }) ≡ false
-              → next_at P k time room st ≡ left P windowShut st.counting (P.expire time st.keeping) time st
+              → next_at P k time room st ≡ left P window_shut st.counting (P.expire time st.keeping) time st
           unfolding next_at try_first
           next_shut f = simp (le-ltb time st.latest t, w, o, f)
 

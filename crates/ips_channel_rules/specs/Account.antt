@@ -3,7 +3,7 @@
 use Rattle.std.specs.Prelude.{ℕ, ◌+◌, ◌<◌, ◌≤◌, List, [], ◌∷◌, ◌++◌, map, ◌≡◌, length}
 use Rattle.meaning.specs.declared.message.Status.{Status}
 use Rattle.store.specs.Packets.{Packet}
-use Rattle.ips_channel_rules.specs.Rules.{offer, next, withdraw, taken, Tried, nothingWaiting, notOperational, windowShut, sent, emptied, refused, answered, Event, call, radio, Happened, called, heard}
+use Rattle.ips_channel_rules.specs.Rules.{offer, next, withdraw, taken, Tried, nothing_waiting, not_operational, window_shut, sent, emptied, refused, answered, Event, call, radio, Happened, called, heard}
 use Rattle.ips_channel_rules.specs.Simple as simples
 use Rattle.ips_channel_rules.specs.Simple.{Fate, Entry, is_sent, is_waiting, having}
 
@@ -24,9 +24,9 @@ taken_in (h ∷ hs) = took_by h ++ taken_in hs
 
 -- the packet that Next says was sent
 abbrev pub sent_by : Tried → List (List ℕ)
-sent_by nothingWaiting = []
-sent_by notOperational = []
-sent_by windowShut = []
+sent_by nothing_waiting = []
+sent_by not_operational = []
+sent_by window_shut = []
 sent_by (sent bytes sequence) = bytes ∷ []
 
 -- the packet of a call, if one was sent

@@ -6,7 +6,7 @@ use Rattle.meaning.specs.Statuses.{operational}
 use Rattle.writer.specs.Written.{no_room_of}
 use Rattle.store.specs.Packets.{Packet}
 use Rattle.ipv6.specs.Ipv6.{is_ipv6}
-use Rattle.ips_channel_rules.specs.Rules.{ChannelCall, offer, next, withdraw, Says, Taken, taken, Tried, nothingWaiting, notOperational, windowShut, sent, emptied, Terms, ChannelParts, Condition, Result, message_bytes, refusal, left, grown}
+use Rattle.ips_channel_rules.specs.Rules.{ChannelCall, offer, next, withdraw, Says, Taken, taken, Tried, nothing_waiting, not_operational, window_shut, sent, emptied, Terms, ChannelParts, Condition, Result, message_bytes, refusal, left, grown}
 
 module _ (P : ChannelParts) (k : Terms) where
   -- "offering a packet: 12, 13, 14, 15, 16, 17"
@@ -25,12 +25,12 @@ module _ (P : ChannelParts) (k : Terms) where
   pub data Asked (time room : ℕ) (st : Condition P) : Result P Tried → Type 0 where
     asked_early : time < st.latest → Asked time room st (refusal P EARLIER-TIME st)
     asked_nothing : st.latest ≤ time → P.waiting (P.expire time st.keeping) ≡ []
-        → Asked time room st (left P nothingWaiting st.counting (P.expire time st.keeping) time st)
+        → Asked time room st (left P nothing_waiting st.counting (P.expire time st.keeping) time st)
     asked_not_operational : {p : Packet} {ps : List Packet} → st.latest ≤ time → P.waiting (P.expire time st.keeping) ≡ p ∷ ps → operational k.codes st.status ≡ false
-        → Asked time room st (left P notOperational st.counting (P.expire time st.keeping) time st)
+        → Asked time room st (left P not_operational st.counting (P.expire time st.keeping) time st)
     asked_shut : {p : Packet} {ps : List Packet} → st.latest ≤ time → P.waiting (P.expire time st.keeping) ≡ p ∷ ps → operational k.codes st.status ≡ true
         → P.fits st.counting (record { 0 = length p.bytes }) ≡ false
-        → Asked time room st (left P windowShut st.counting (P.expire time st.keeping) time st)
+        → Asked time room st (left P window_shut st.counting (P.expire time st.keeping) time st)
     asked_no_room : {p : Packet} {ps : List Packet} → st.latest ≤ time → P.waiting (P.expire time st.keeping) ≡ p ∷ ps → operational k.codes st.status ≡ true
         → P.fits st.counting (record { 0 = length p.bytes }) ≡ true
         → no_room_of (length (message_bytes k (P.carried (grown P p.bytes st)) p.bytes)) room ≡ true → Asked time room st (refusal P NO-ROOM st)

@@ -5,7 +5,7 @@ use Rattle.quantity.specs.Limits.{LONGEST-PACKET}
 use Rattle.meaning.specs.declared.message.Status.TheVariants as statuses
 use Rattle.meaning.specs.declared.message.Sequence.{Sequence}
 use Rattle.meaning.specs.declared.message.Window.{Window}
-use Rattle.ips_channel_rules.specs.Rules.{offer, next, withdraw, Taken, taken, Tried, nothingWaiting, notOperational, windowShut, sent, emptied, Answer, refused, answered, Event, call, radio, Happened, called, heard, Terms, ChannelParts, Condition, history}
+use Rattle.ips_channel_rules.specs.Rules.{offer, next, withdraw, Taken, taken, Tried, nothing_waiting, not_operational, window_shut, sent, emptied, Answer, refused, answered, Event, call, radio, Happened, called, heard, Terms, ChannelParts, Condition, history}
 
 -- ---- a row, and when it is right
 
@@ -29,7 +29,7 @@ event_of (heard status window) = radio status window
 
 -- with the longest packet of the limits in force, so that the rows with 9,000 and 9,001 bytes pin it
 abbrev pub terms : Bool → (size codes : ℕ) → Terms
-terms isControlled size codes = record { datalink = record { 0 = 7 }; codes = record { 0 = codes }; id = 3; controlled = isControlled; size = size; longest = LONGEST-PACKET }
+terms is_controlled size codes = record { datalink = record { 0 = 7 }; codes = record { 0 = codes }; id = 3; controlled = is_controlled; size = size; longest = LONGEST-PACKET }
 
 -- the same events on a channel made of these parts, with the answers that the rules give
 abbrev pub lived : (P : ChannelParts) → (Bool → FlowSequence → Condition P) → Life → List Happened
@@ -79,13 +79,13 @@ abbrev went_with : ℕ → ℕ → Answer Tried
 went_with n sequence = answered (sent (packet_of n) (Sequence.Given (record { 0 = sequence })))
 
 abbrev nothing : Answer Tried
-nothing = answered nothingWaiting
+nothing = answered nothing_waiting
 
 abbrev down : Answer Tried
-down = answered notOperational
+down = answered not_operational
 
 abbrev shut : Answer Tried
-shut = answered windowShut
+shut = answered window_shut
 
 -- ---- the rows
 abbrev pub table : List Life

@@ -31,7 +31,7 @@ pub data Taken : Type 0 where
 
 -- `sent` has the packet and the Flow Sequence that its message carries
 pub data Tried : Type 0 where
-  nothingWaiting notOperational windowShut : Tried
+  nothing_waiting not_operational window_shut : Tried
   sent : List ℕ → Sequence → Tried
 
 pub data Emptied : Type 0 where
@@ -161,10 +161,10 @@ module _ (P : ChannelParts) where
     -- in this order: nothing waiting, not operational, window shut. .. Only the first waiting packet is tried." Document 02: "Whether a status is operational now
     -- depends on that setting, and all who ask must pass it."
     unfoldable pub try_first : (waiting : List Packet) (time room : ℕ) → Condition P → Result P Tried
-    try_first [] time room st = left nothingWaiting st.counting (P.expire time st.keeping) time st
+    try_first [] time room st = left nothing_waiting st.counting (P.expire time st.keeping) time st
     try_first (p ∷ ps) time room st =
-        cond (not (operational k.codes st.status)) (left notOperational st.counting (P.expire time st.keeping) time st)
-        (cond (not (P.fits st.counting (record { 0 = length p.bytes }))) (left windowShut st.counting (P.expire time st.keeping) time st)
+        cond (not (operational k.codes st.status)) (left not_operational st.counting (P.expire time st.keeping) time st)
+        (cond (not (P.fits st.counting (record { 0 = length p.bytes }))) (left window_shut st.counting (P.expire time st.keeping) time st)
         (cond (no_room_of (length (message_bytes k (P.carried (grown p.bytes st)) p.bytes)) room) (refusal NO-ROOM st)
         (left (sent p.bytes (P.carried (grown p.bytes st))) (grown p.bytes st) (P.send (P.expire time st.keeping)) time st)))
 

@@ -85,11 +85,11 @@ abbrev pub due : ℕ → Packet → Fate
 due time p = cond (lasts_at time p.expiry) waits expired
 
 -- the first that waits is sent
-abbrev pub send_or : Fate → Packet → (rest sentRest : List Entry) → List Entry
-send_or waits p rest sentRest = record { packet = p; fate = sent } ∷ rest
-send_or sent p rest sentRest = record { packet = p; fate = sent } ∷ sentRest
-send_or expired p rest sentRest = record { packet = p; fate = expired } ∷ sentRest
-send_or withdrawn p rest sentRest = record { packet = p; fate = withdrawn } ∷ sentRest
+abbrev pub send_or : Fate → Packet → (rest sent_rest : List Entry) → List Entry
+send_or waits p rest sent_rest = record { packet = p; fate = sent } ∷ rest
+send_or sent p rest sent_rest = record { packet = p; fate = sent } ∷ sent_rest
+send_or expired p rest sent_rest = record { packet = p; fate = expired } ∷ sent_rest
+send_or withdrawn p rest sent_rest = record { packet = p; fate = withdrawn } ∷ sent_rest
 
 abbrev pub send_first : List Entry → List Entry
 send_first [] = []

@@ -20,7 +20,7 @@ use Rattle.radio_end_start.proofs.Exactly.{started_leaves}
 use Rattle.radio_end.specs.Ran as far
 use Rattle.radio_end.proofs.Ran as far-ran
 use Rattle.ips_channel_rules.specs.Rules as rules
-use Rattle.ips_channel_rules.specs.Rules.{next, Tried, nothingWaiting, notOperational, windowShut, sent, refused, answered, Terms}
+use Rattle.ips_channel_rules.specs.Rules.{next, Tried, nothing_waiting, not_operational, window_shut, sent, refused, answered, Terms}
 use Rattle.ips_channel_calls.specs.declared.asking.NextAnswer.{NextAnswer}
 use Rattle.ips_channel_calls.specs.Calls.{asked}
 use Rattle.ips_state.specs.State.{Configuration, start_at}
@@ -152,9 +152,9 @@ module _ {configuration words memory words' memory' : List ℕ} (begun : Started
           go : (a : rules.Answer Tried) → (calling k.id (next time out) w).answer ≡ a → of_channel (asked (NextAnswer.Sent n) out') ≡ reply_of (on k.id (next time out)) w
               → NotPast k time out (ends_in x)
           go (refused number) e f = clash (cc (rw e at f))
-          go (answered nothingWaiting) e f = clash (cc (rw e at f))
-          go (answered notOperational) e f = clash (cc (rw e at f))
-          go (answered windowShut) e f = clash (cc (rw e at f))
+          go (answered nothing_waiting) e f = clash (cc (rw e at f))
+          go (answered not_operational) e f = clash (cc (rw e at f))
+          go (answered window_shut) e f = clash (cc (rw e at f))
           go (answered (sent packet carried)) e f =
               all_not_past conf taken small index inside controlled j (far-words.state_in after') far_there (ends_in x) reached time out packet carried e
 

@@ -23,7 +23,7 @@ operational_by_default Status.Absent = false
 operational_by_default (Status.Given status) = leb 1 status && leb status 7
 
 -- each of the sixteen under a setting, with whether it is operational, and whether it is unknown
-pub data OneOfThree (codes : ℕ) : (status : ℕ) (isOperational isUnknown : Bool) → Type 0 where
+pub data OneOfThree (codes : ℕ) : (status : ℕ) (is_operational is_unknown : Bool) → Type 0 where
   zero_status : OneOfThree codes 0 false false
   one_to_seven : {status : ℕ} → 1 ≤ status → status ≤ 7 → OneOfThree codes status true false
   made_operational : {place : ℕ} → place ≤ 7 → codes / 2 ^ place % 2 ≡ 1 → OneOfThree codes (8 + place) true false

@@ -15,7 +15,7 @@ use Rattle.meaning.specs.declared.message.Sequence.{Sequence}
 use Rattle.meaning.specs.declared.message.Window.{Window}
 use Rattle.flow.specs.declared.Flow as ours
 use Rattle.flow.specs.Counting.{may_go, sequence_on, carried_by, flow_after}
-use Rattle.ips_channel_rules.specs.Rules.{offer, next, withdraw, nothingWaiting, notOperational, windowShut, sent, refused, answered, taken, emptied, Event, Happened, called, heard, Terms, Condition}
+use Rattle.ips_channel_rules.specs.Rules.{offer, next, withdraw, nothing_waiting, not_operational, window_shut, sent, refused, answered, taken, emptied, Event, Happened, called, heard, Terms, Condition}
 use Rattle.ips_channel_rules.specs.Machine.{WordCounter, machine}
 use Rattle.ips_channel_rules.proofs.Leaves.{Leaves, stays, joins, looks, sends, clears, hears}
 use Rattle.conduct_rules.specs.declared.Flow.{Flow}
@@ -94,9 +94,9 @@ pub record Went (packet : List ℕ) (carried : Sequence) (counter counter' : Wor
 abbrev pub After : Happened → (counter counter' : WordCounter) → Type 0
 After (called c (refused number)) counter counter' = counter' ≡ counter
 After (called (offer packet time) (answered taken)) counter counter' = counter' ≡ counter
-After (called (next time out) (answered nothingWaiting)) counter counter' = counter' ≡ counter
-After (called (next time out) (answered notOperational)) counter counter' = counter' ≡ counter
-After (called (next time out) (answered windowShut)) counter counter' = counter' ≡ counter
+After (called (next time out) (answered nothing_waiting)) counter counter' = counter' ≡ counter
+After (called (next time out) (answered not_operational)) counter counter' = counter' ≡ counter
+After (called (next time out) (answered window_shut)) counter counter' = counter' ≡ counter
 After (called (next time out) (answered (sent packet carried))) counter counter' = Went packet carried counter counter'
 After (called withdraw (answered emptied)) counter counter' = counter' ≡ counter
 After (heard status window) counter counter' = Unit {0}
@@ -104,9 +104,9 @@ After (heard status window) counter counter' = Unit {0}
 pub leaves_after : {k : Terms} {e : Event} {st st' : Condition machine} {h : Happened} → Leaves machine k e st h st' → After h st.counting st'.counting
 leaves_after stays = refl
 leaves_after (joins t x) = refl
-leaves_after (looks {says = nothingWaiting} n t) = refl
-leaves_after (looks {says = notOperational} n t) = refl
-leaves_after (looks {says = windowShut} n t) = refl
+leaves_after (looks {says = nothing_waiting} n t) = refl
+leaves_after (looks {says = not_operational} n t) = refl
+leaves_after (looks {says = window_shut} n t) = refl
 leaves_after (looks {says = sent packet carried} n t) = clash (cc)
 leaves_after (sends t w f) = record { fits = f; carried_is = refl; counter_is = refl }
 leaves_after clears = refl

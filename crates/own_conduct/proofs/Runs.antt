@@ -23,7 +23,7 @@ use Rattle.read_data.specs.Message.{data_refused, data_other}
 use Rattle.writer.specs.declared.answer.WriteAnswer.{WriteAnswer}
 use Rattle.writer.specs.Written.{control_written, no_room_of}
 use Rattle.ips_channel_rules.specs.Rules as rules
-use Rattle.ips_channel_rules.specs.Rules.{ChannelCall, offer, next, withdraw, Says, Tried, nothingWaiting, notOperational, windowShut, sent, Answer, refused, answered, taken, emptied, called, Terms, Condition, counted_on, radio_at, step, happens, final}
+use Rattle.ips_channel_rules.specs.Rules.{ChannelCall, offer, next, withdraw, Says, Tried, nothing_waiting, not_operational, window_shut, sent, Answer, refused, answered, taken, emptied, called, Terms, Condition, counted_on, radio_at, step, happens, final}
 use Rattle.ips_channel_rules.specs.Machine.{WordCounter, machine}
 use Rattle.ips_channel_rules.proofs.Leaves.{leaves}
 use Rattle.ips_channel_calls.specs.declared.asking.NextAnswer.{NextAnswer}
@@ -105,9 +105,9 @@ radio_messages w time datagram = go (handed w.state time datagram)
 abbrev sent_of : (id : ℕ) (c : ChannelCall) → Answer (Says c) → List Message
 sent_of id c (refused number) = []
 sent_of id (offer bytes time) (answered taken) = []
-sent_of id (next time out) (answered nothingWaiting) = []
-sent_of id (next time out) (answered notOperational) = []
-sent_of id (next time out) (answered windowShut) = []
+sent_of id (next time out) (answered nothing_waiting) = []
+sent_of id (next time out) (answered not_operational) = []
+sent_of id (next time out) (answered window_shut) = []
 sent_of id (next time out) (answered (sent bytes carried)) = packet id (record { 0 = length bytes }) carried ∷ []
 sent_of id withdraw (answered emptied) = []
 
@@ -136,9 +136,9 @@ module _ (w : World) (id : ℕ) where
       go : (a : Answer Tried) → (calling id (next time out) w).answer ≡ a
           → messages_in w.state.datalink.id (map to_radio (if_sent (next_answer (terms_in w (index_in w id)) a) (output_after (terms_in w (index_in w id)) a out))) ≡ sent_of id (next time out) a
       go (refused number) e = refl
-      go (answered nothingWaiting) e = refl
-      go (answered notOperational) e = refl
-      go (answered windowShut) e = refl
+      go (answered nothing_waiting) e = refl
+      go (answered not_operational) e = refl
+      go (answered window_shut) e = refl
       go (answered (sent bytes carried)) e =
           let done : Performed (on id (next time out)) w (of_channel (asked (next_answer (terms_in w (index_in w id)) (answered (sent bytes carried))) (output_after (terms_in w (index_in w id)) (answered (sent bytes carried)) out))) (after (on id (next time out)) w) =
           record { reply_is = rw e; world_is = refl } in
@@ -191,9 +191,9 @@ module _ (own : ℕ) (flow : Flow) (base : Sequence) (rest : List Message) where
     own_call : (c : ChannelCall) (a : Answer (Says c)) → After (called c a) counter counter' → Obeying own flow base (sent_of own c a ++ rest)
     own_call c (refused number) e = still e
     own_call (offer bytes time) (answered taken) e = still e
-    own_call (next time out) (answered nothingWaiting) e = still e
-    own_call (next time out) (answered notOperational) e = still e
-    own_call (next time out) (answered windowShut) e = still e
+    own_call (next time out) (answered nothing_waiting) e = still e
+    own_call (next time out) (answered not_operational) e = still e
+    own_call (next time out) (answered window_shut) e = still e
     own_call (next time out) (answered (sent bytes carried)) went =
         let gone : Goes flow base (record { 0 = length bytes }) carried counter' = rw (went.carried_is, went.counter_is) (goes (record { 0 = length bytes }) agrees went.fits) in
         rw (eq-eqb own own refl) ((λ e. gone.obeys), onward flow _ gone.agrees)
@@ -203,9 +203,9 @@ module _ (own : ℕ) (flow : Flow) (base : Sequence) (rest : List Message) where
     other_call : (id : ℕ) → (id ≡ own → ⊥) → (c : ChannelCall) (a : Answer (Says c)) → Obeying own flow base (sent_of id c a ++ rest)
     other_call id n c (refused number) = onward flow base agrees
     other_call id n (offer bytes time) (answered taken) = onward flow base agrees
-    other_call id n (next time out) (answered nothingWaiting) = onward flow base agrees
-    other_call id n (next time out) (answered notOperational) = onward flow base agrees
-    other_call id n (next time out) (answered windowShut) = onward flow base agrees
+    other_call id n (next time out) (answered nothing_waiting) = onward flow base agrees
+    other_call id n (next time out) (answered not_operational) = onward flow base agrees
+    other_call id n (next time out) (answered window_shut) = onward flow base agrees
     other_call id n (next time out) (answered (sent bytes carried)) = rw (ne_eqb id own n) ((λ e. absurd (n e)), onward flow base agrees)
     other_call id n withdraw (answered emptied) = onward flow base agrees
 

@@ -127,8 +127,8 @@ unfolding answer_of stated_of
 answer_told end kind content =
     go (among kind known) refl (among kind (may_hold Data end)) refl (length_listed kind (length content)) (value_listed kind content)
   where
-    go : (isKnown : Bool) → among kind known ≡ isKnown → (allowed : Bool) → among kind (may_hold Data end) ≡ allowed → (long meant : Bool)
-        → Told (eqb kind PACKET-DATA) (cond isKnown (cond allowed (cond long (cond meant (Took (item_of kind content)) (Refused VALUE)) (Refused LENGTH)) (Refused UNLISTED)) (Took Item.Skipped))
+    go : (is_known : Bool) → among kind known ≡ is_known → (allowed : Bool) → among kind (may_hold Data end) ≡ allowed → (long meant : Bool)
+        → Told (eqb kind PACKET-DATA) (cond is_known (cond allowed (cond long (cond meant (Took (item_of kind content)) (Refused VALUE)) (Refused LENGTH)) (Refused UNLISTED)) (Took Item.Skipped))
     go false e allowed a long meant = unknown_told kind e
     go true e false a long meant = tt
     go true e true a false meant = tt

@@ -43,12 +43,12 @@ module _ {A B : Type 0} {S : Sort A B} {add : Item → A → Step A} (adding : A
   step_is kind content m =
       go (S.closed m) (among kind known) (among kind (may_hold S.plane S.end)) (length_listed kind (length content)) (value_listed kind content) (λ e. sym (adding.seats m kind e content))
     where
-      go : {seat : Step A} (closed isKnown allowed long meant : Bool) → (allowed ≡ true → seat ≡ add (item_of kind content) m)
-          → let fault = cond isKnown (cond allowed (cond long (cond meant 0 VALUE) LENGTH) UNLISTED) 0 in
-          cond closed (stop BEHIND-PACKET) (cond (eqb fault 0) (cond isKnown seat (next m)) (stop fault))
+      go : {seat : Step A} (closed is_known allowed long meant : Bool) → (allowed ≡ true → seat ≡ add (item_of kind content) m)
+          → let fault = cond is_known (cond allowed (cond long (cond meant 0 VALUE) LENGTH) UNLISTED) 0 in
+          cond closed (stop BEHIND-PACKET) (cond (eqb fault 0) (cond is_known seat (next m)) (stop fault))
           ≡ cond closed (stop BEHIND-PACKET)
-          (take_in add (cond isKnown (cond allowed (cond long (cond meant (Took (item_of kind content)) (Refused VALUE)) (Refused LENGTH)) (Refused UNLISTED)) (Took Item.Skipped)) m)
-      go true isKnown allowed long meant seated = refl
+          (take_in add (cond is_known (cond allowed (cond long (cond meant (Took (item_of kind content)) (Refused VALUE)) (Refused LENGTH)) (Refused UNLISTED)) (Took Item.Skipped)) m)
+      go true is_known allowed long meant seated = refl
       go false false allowed long meant seated = sym (adding.skips m)
       go false true false long meant seated = refl
       go false true true false meant seated = refl

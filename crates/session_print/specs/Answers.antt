@@ -75,48 +75,48 @@ abbrev pub start_texts : StartAnswer → List (List ℕ)
 start_texts StartAnswer.Started = STARTED ∷ []
 start_texts (StartAnswer.Refused refusal) = refused_texts refusal
 
-abbrev pub offerTexts : OfferAnswer → List (List ℕ)
-offerTexts OfferAnswer.Taken = TAKEN ∷ []
-offerTexts (OfferAnswer.Refused refusal) = refused_texts refusal
+abbrev pub offer_texts : OfferAnswer → List (List ℕ)
+offer_texts OfferAnswer.Taken = TAKEN ∷ []
+offer_texts (OfferAnswer.Refused refusal) = refused_texts refusal
 
 -- "`offered`, and then for each packet, in their order, `taken` or `refused NUMBER 0`, as `offer` would answer it": an answer is a byte, 0 where the packet is taken,
 -- else its number of refusal
-abbrev pub anotherTexts : ℕ → List (List ℕ)
-anotherTexts number = SPACE ∷ offerTexts (answer_of number)
+abbrev pub another_texts : ℕ → List (List ℕ)
+another_texts number = SPACE ∷ offer_texts (answer_of number)
 
-unfoldable pub answersTexts : List ℕ → List (List ℕ)
-answersTexts [] = []
-answersTexts (number ∷ numbers) = anotherTexts number ++ answersTexts numbers
+unfoldable pub answers_texts : List ℕ → List (List ℕ)
+answers_texts [] = []
+answers_texts (number ∷ numbers) = another_texts number ++ answers_texts numbers
 
-abbrev pub offersTexts : List ℕ → List (List ℕ)
-offersTexts answers = OFFERED ∷ answersTexts answers
+abbrev pub offers_texts : List ℕ → List (List ℕ)
+offers_texts answers = OFFERED ∷ answers_texts answers
 
 -- `sent HEX`, `nothing waiting`, `not operational` or `window shut`; the message stands at the start of the output
-abbrev pub nextTexts : NextAnswer → List ℕ → List (List ℕ)
-nextTexts (NextAnswer.Sent count) out = SENT ∷ (bytes_text (take count.0 out) ∷ [])
-nextTexts NextAnswer.NothingWaiting out = NOTHING-WAITING ∷ []
-nextTexts NextAnswer.NotOperational out = NOT-OPERATIONAL ∷ []
-nextTexts NextAnswer.WindowShut out = WINDOW-SHUT ∷ []
-nextTexts (NextAnswer.Refused refusal) out = refused_texts refusal
+abbrev pub next_texts : NextAnswer → List ℕ → List (List ℕ)
+next_texts (NextAnswer.Sent count) out = SENT ∷ (bytes_text (take count.0 out) ∷ [])
+next_texts NextAnswer.NothingWaiting out = NOTHING-WAITING ∷ []
+next_texts NextAnswer.NotOperational out = NOT-OPERATIONAL ∷ []
+next_texts NextAnswer.WindowShut out = WINDOW-SHUT ∷ []
+next_texts (NextAnswer.Refused refusal) out = refused_texts refusal
 
-abbrev pub withdrawTexts : WithdrawAnswer → List (List ℕ)
-withdrawTexts WithdrawAnswer.Withdrawn = WITHDRAWN ∷ []
-withdrawTexts (WithdrawAnswer.Refused refusal) = refused_texts refusal
+abbrev pub withdraw_texts : WithdrawAnswer → List (List ℕ)
+withdraw_texts WithdrawAnswer.Withdrawn = WITHDRAWN ∷ []
+withdraw_texts (WithdrawAnswer.Refused refusal) = refused_texts refusal
 
 -- `accepted`, or `accepted due` where a mobility message is due
-abbrev pub radioTexts : RadioAnswer → List (List ℕ)
-radioTexts RadioAnswer.Accepted = ACCEPTED ∷ []
-radioTexts RadioAnswer.Due = ACCEPTED-DUE ∷ []
-radioTexts (RadioAnswer.Refused refusal) = refused_texts refusal
+abbrev pub radio_texts : RadioAnswer → List (List ℕ)
+radio_texts RadioAnswer.Accepted = ACCEPTED ∷ []
+radio_texts RadioAnswer.Due = ACCEPTED-DUE ∷ []
+radio_texts (RadioAnswer.Refused refusal) = refused_texts refusal
 
 -- "`quiet`, `due` (a query is), `silent` (the radio is), `due silent`"
-abbrev pub paceTexts : PaceAnswer → List (List ℕ)
-paceTexts PaceAnswer.Quiet = QUIET ∷ []
-paceTexts PaceAnswer.Due = DUE ∷ []
-paceTexts PaceAnswer.Silent = SILENT ∷ []
-paceTexts PaceAnswer.DueSilent = DUE-SILENT ∷ []
-paceTexts (PaceAnswer.Refused refusal) = refused_texts refusal
+abbrev pub pace_texts : PaceAnswer → List (List ℕ)
+pace_texts PaceAnswer.Quiet = QUIET ∷ []
+pace_texts PaceAnswer.Due = DUE ∷ []
+pace_texts PaceAnswer.Silent = SILENT ∷ []
+pace_texts PaceAnswer.DueSilent = DUE-SILENT ∷ []
+pace_texts (PaceAnswer.Refused refusal) = refused_texts refusal
 
-abbrev pub queryTexts : WriteAnswer → List ℕ → List (List ℕ)
-queryTexts (WriteAnswer.Wrote count) out = QUERY ∷ (bytes_text (take count.0 out) ∷ [])
-queryTexts (WriteAnswer.Refused refusal) out = refused_texts refusal
+abbrev pub query_texts : WriteAnswer → List ℕ → List (List ℕ)
+query_texts (WriteAnswer.Wrote count) out = QUERY ∷ (bytes_text (take count.0 out) ∷ [])
+query_texts (WriteAnswer.Refused refusal) out = refused_texts refusal

@@ -13,9 +13,9 @@ verdict_texts accepted Verdict.OtherPlane = []
 verdict_texts accepted (Verdict.Refused refusal) = refused_texts refusal
 
 abbrev pub plane_texts : List (List ℕ) → List (List ℕ) → PlaneAnswer → List (List ℕ)
-plane_texts onControl onData PlaneAnswer.Control = onControl
-plane_texts onControl onData PlaneAnswer.Data = onData
-plane_texts onControl onData (PlaneAnswer.Refused refusal) = refused_texts refusal
+plane_texts on_control on_data PlaneAnswer.Control = on_control
+plane_texts on_control on_data PlaneAnswer.Data = on_data
+plane_texts on_control on_data (PlaneAnswer.Refused refusal) = refused_texts refusal
 
 abbrev pub control_read_texts : ControlReading → List (List ℕ)
 control_read_texts reading = verdict_texts (control_texts reading.message) reading.verdict
@@ -25,7 +25,7 @@ data_read_texts reading packet = verdict_texts (data_texts reading.message packe
 
 -- by the plane of a datagram, what a reader of that plane answers
 unfoldable pub by_plane : (ControlReading → List (List ℕ)) → (DataReading → List ℕ → List (List ℕ)) → End → DatalinkId → List ℕ → List (List ℕ)
-by_plane onControl onData end id datagram = plane_texts (onControl (read_control end id datagram)) (onData (read_data end id datagram) (packet_of datagram)) (plane_of datagram)
+by_plane on_control on_data end id datagram = plane_texts (on_control (read_control end id datagram)) (on_data (read_data end id datagram) (packet_of datagram)) (plane_of datagram)
 
 abbrev pub reading_texts : End → DatalinkId → List ℕ → List (List ℕ)
 reading_texts end id datagram = by_plane control_read_texts data_read_texts end id datagram

@@ -2,7 +2,7 @@
 ghost use Rattle.std.specs.Prelude.{[], ◌∷◌, take};
 ghost use Rattle.text.specs.Strings.{bytes_text};
 ghost use Rattle.message_words.specs.Saying.{Says};
-ghost use Rattle.session_print.specs.Answers.{start_texts, offerTexts, nextTexts, withdrawTexts, radioTexts, paceTexts, queryTexts};
+ghost use Rattle.session_print.specs.Answers.{start_texts, offer_texts, next_texts, withdraw_texts, radio_texts, pace_texts, query_texts};
 
 use ips_channel_calls::asking::NextAnswer;
 use ips_channel_calls::offering::{OfferAnswer, WithdrawAnswer};
@@ -25,7 +25,7 @@ pub fn started(out: &mut [u8], at: usize, answer: StartAnswer) -> usize
 
 // The answer to `offer`.
 pub fn offered(out: &mut [u8], at: usize, answer: OfferAnswer) -> usize
-    ensures { Says out.old at (offerTexts answer) result out.new }
+    ensures { Says out.old at (offer_texts answer) result out.new }
 {
     match answer {
         OfferAnswer::Taken => put(out, at, b"taken"),
@@ -35,7 +35,7 @@ pub fn offered(out: &mut [u8], at: usize, answer: OfferAnswer) -> usize
 
 // The message stands at the start of the lent output; of an output that is too short, all of it is shown.
 pub fn asked(out: &mut [u8], at: usize, answer: NextAnswer, lent: &[u8]) -> usize
-    ensures { Says out.old at (nextTexts answer lent.now) result out.new }
+    ensures { Says out.old at (next_texts answer lent.now) result out.new }
 {
     match answer {
         NextAnswer::Sent(count) => message(out, at, b"sent ", count.0, lent),
@@ -59,7 +59,7 @@ fn message(out: &mut [u8], at: usize, label: &[u8], count: usize, lent: &[u8]) -
 
 // The answer to `withdraw`.
 pub fn emptied(out: &mut [u8], at: usize, answer: WithdrawAnswer) -> usize
-    ensures { Says out.old at (withdrawTexts answer) result out.new }
+    ensures { Says out.old at (withdraw_texts answer) result out.new }
 {
     match answer {
         WithdrawAnswer::Withdrawn => put(out, at, b"withdrawn"),
@@ -69,7 +69,7 @@ pub fn emptied(out: &mut [u8], at: usize, answer: WithdrawAnswer) -> usize
 
 // The answer to `radio`.
 pub fn heard(out: &mut [u8], at: usize, answer: RadioAnswer) -> usize
-    ensures { Says out.old at (radioTexts answer) result out.new }
+    ensures { Says out.old at (radio_texts answer) result out.new }
 {
     match answer {
         RadioAnswer::Accepted => put(out, at, b"accepted"),
@@ -80,7 +80,7 @@ pub fn heard(out: &mut [u8], at: usize, answer: RadioAnswer) -> usize
 
 // The answer to `pace`.
 pub fn paced(out: &mut [u8], at: usize, answer: PaceAnswer) -> usize
-    ensures { Says out.old at (paceTexts answer) result out.new }
+    ensures { Says out.old at (pace_texts answer) result out.new }
 {
     match answer {
         PaceAnswer::Quiet => put(out, at, b"quiet"),
@@ -93,7 +93,7 @@ pub fn paced(out: &mut [u8], at: usize, answer: PaceAnswer) -> usize
 
 // The answer to `query`, with the message that was written.
 pub fn queried(out: &mut [u8], at: usize, answer: WriteAnswer, lent: &[u8]) -> usize
-    ensures { Says out.old at (queryTexts answer lent.now) result out.new }
+    ensures { Says out.old at (query_texts answer lent.now) result out.new }
 {
     match answer {
         WriteAnswer::Wrote(count) => message(out, at, b"query ", count.0, lent),

@@ -2,7 +2,7 @@
 ghost use Rattle.std.specs.Prelude.{◌≡◌};
 ghost use Rattle.message_words.specs.Saying.{Says};
 ghost use Rattle.ips_channel_calls.specs.Calls.{answer_of};
-ghost use Rattle.session_print.specs.Answers.{anotherTexts, offersTexts};
+ghost use Rattle.session_print.specs.Answers.{another_texts, offers_texts};
 
 use crate::answers::offered;
 use ips_channel_calls::offering::OfferAnswer;
@@ -20,7 +20,7 @@ fn answer_of(number: u8) -> OfferAnswer
 }
 
 fn another(out: &mut [u8], at: usize, number: u8) -> usize
-    ensures { Says out.old at (anotherTexts number) result out.new }
+    ensures { Says out.old at (another_texts number) result out.new }
 {
     let behind = put(out, at, b" ");
     offered(out, behind, answer_of(number))
@@ -28,7 +28,7 @@ fn another(out: &mut [u8], at: usize, number: u8) -> usize
 
 // A handful that isn't refused as a whole, with a byte for each packet: 0 where it is taken, else its number of refusal.
 pub fn handed(out: &mut [u8], at: usize, answers: &[u8]) -> usize
-    ensures { Says out.old at (offersTexts answers.now) result out.new }
+    ensures { Says out.old at (offers_texts answers.now) result out.new }
 {
     let mut behind = put(out, at, b"offered");
     let mut index = 0;

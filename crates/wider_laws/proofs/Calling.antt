@@ -9,7 +9,7 @@ use lib.Dec.{leb, ltb}
 use lib.ListN.{length}
 use Rattle.quantity.specs.Limits.{Limits}
 use Rattle.store.specs.Packets.{Packet}
-use Rattle.ips_channel_rules.specs.Rules.{ChannelCall, offer, next, withdraw, nothingWaiting, notOperational, windowShut, sent, Says, Answer, refused, answered, Terms, Condition, message_bytes, offer_at, try_first, next_at, withdraw_at, call_at}
+use Rattle.ips_channel_rules.specs.Rules.{ChannelCall, offer, next, withdraw, nothing_waiting, not_operational, window_shut, sent, Says, Answer, refused, answered, Terms, Condition, message_bytes, offer_at, try_first, next_at, withdraw_at, call_at}
 use Rattle.ips_channel_rules.specs.Machine.{machine}
 use Rattle.ips_channel.specs.declared.state.DatalinkSetting.{DatalinkSetting}
 use Rattle.ips_channel.specs.declared.state.Setting.{Setting}
@@ -64,9 +64,9 @@ module _ (narrow wide : ℕ) (up : narrow ≤ wide) (datalink : DatalinkSetting)
   unfolding message_bytes
   told_same (offer p time) answer = refl
   told_same (next time out) (refused number) = refl
-  told_same (next time out) (answered nothingWaiting) = refl
-  told_same (next time out) (answered notOperational) = refl
-  told_same (next time out) (answered windowShut) = refl
+  told_same (next time out) (answered nothing_waiting) = refl
+  told_same (next time out) (answered not_operational) = refl
+  told_same (next time out) (answered window_shut) = refl
   told_same (next time out) (answered (sent packet sequence)) = refl
   told_same withdraw answer = refl
 
