@@ -9,9 +9,9 @@ use Prim.Native.Nat.{ℕ, zero, suc, ◌+◌, ◌-◌, ◌*◌, ◌/◌, ◌%◌
 use native.Mathlib.Numerals.{add-one}
 use native.Mathlib.Omega.{arith}
 use borrow.Author.Tests.{eq-eqb, ne_eqb, lt-ltb, le-ltb, leb-true, leb-false}
-use lib.Dec.{eqb, ltb, leb}
-use lib.ListN.{length, take, drop, get_or, set, drop_of_length-le, length-append, length-drop, length-take, length-set, take-append-drop}
-use lib.Seq.{drop-cons, drop-drop, take-add, take_at, drop_at, take_all, take-suc-set, drop-set-lt, length-take-le, get_or-take, drop-length}
+use lib.Dec.{eqb, leb}
+use lib.ListN.{length, take, drop, get_or, set, drop_of_length-le, length-append, length-drop, length-set, take-append-drop}
+use lib.Seq.{drop-cons, drop-drop, take_at, drop_at, take_all, take-suc-set, drop-set-lt, length-take-le, get_or-take, drop-length}
 use Rattle.text.specs.Words.{word_of, beyond_of}
 use Rattle.text.specs.Numbers.{parse_of}
 use Rattle.text.specs.Strings.{hexed_of, pairs_of, unhexed, readable_of}
@@ -19,7 +19,6 @@ use Rattle.text.specs.Laying.{laid}
 use Rattle.text.specs.declared.Number.{Number}
 use Rattle.text.specs.declared.Hexed.{Hexed}
 use Rattle.text.proofs.Hexadecimal.{unhex_inside, unhex_bytes, unhex_bad, unhex_long, pairs_most}
-use Rattle.text.proofs.Spaces.{parts_length}
 use Rattle.text.specs.Words.{tail_of}
 use borrow.Rule.Slice.PartMut.{put_mid, mid_of}
 use Rattle.text.proofs.Writing.{laid_in}

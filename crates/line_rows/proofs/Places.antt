@@ -5,12 +5,11 @@ use mathlib.Core.List.{List, [], ◌∷◌, ◌++◌, append-nil, append_assoc}
 use Prim.Native.Nat.{ℕ, zero, suc, ◌+◌, ◌-◌, ◌*◌, ◌/◌, ◌≤◌, ◌<◌}
 use native.Mathlib.Decide.{dec_le}
 use native.Mathlib.Nat.{suc-mul}
-use native.Mathlib.Numerals.{add-one}
 use native.Mathlib.Omega.{arith}
 use borrow.Author.Tests.{eq-eqb, ne_eqb, ltb-true, ltb-false, eqb-true, eqb-false}
 use lib.Dec.{eqb, ltb}
 use lib.ListN.{length, take, drop, get_or, get_or-append, get_or-eq_default, length-append}
-use lib.Seq.{append_snoc, get_or-append-add, get_or-drop, take-nil}
+use lib.Seq.{get_or-append-add, get_or-drop, take-nil}
 use Rattle.text.specs.Words.{head_of, tail_of, word_of}
 use Rattle.text.specs.declared.Number.{Number}
 use Rattle.text.proofs.Bounds.{parse_most}

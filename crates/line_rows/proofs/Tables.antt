@@ -1,18 +1,17 @@
 -- The command of a table that a word names. Assumes nothing.
-use mathlib.Core.Bool.{Bool, true, false, cond}
+use mathlib.Core.Bool.{Bool, true, false}
 use mathlib.Core.Path.{◌≡◌, refl, sym, ap, ◌∙◌}
 use mathlib.Core.List.{List, [], ◌∷◌}
-use Prim.Native.Nat.{ℕ, zero, suc, ◌+◌, ◌-◌, ◌*◌, ◌≤◌, ◌<◌}
+use Prim.Native.Nat.{ℕ, ◌+◌, ◌-◌, ◌*◌, ◌≤◌, ◌<◌}
 use native.Mathlib.Omega.{arith}
 use borrow.Author.Tests.{lt-ltb, le-ltb}
 use borrow.Rule.Slice.PartMut.{mid_of}
-use lib.Dec.{ltb}
 use lib.ListN.{length, take, drop, get_or, drop_of_length-le, length-drop}
 use lib.Seq.{drop-drop, drop-length, get_or-drop, take_all}
 use Rattle.facts.proofs.Lists.{rest_part}
 use Rattle.text.specs.Words.{head_of, tail_of}
 use Rattle.line_rows.specs.declared.row.RowRead.{RowRead}
-use Rattle.line_rows.specs.Rows.{spells_of, good_by, ReadsRow}
+use Rattle.line_rows.specs.Rows.{spells_of, ReadsRow}
 use Rattle.line_rows.specs.Tables.{named_of, items_left, command_of, key_of, items_behind, said_in, key_in, Found, Reads}
 use Rattle.line_rows.proofs.Laws.{two}
 

@@ -1,6 +1,6 @@
 -- What a line says by a row of items, two numbers for each item. docs/SESSION.md: "A line is words with one space between two .. Numbers are decimal without
 -- needless zeros in front; byte strings are lowercase hexadecimal, two digits a byte, and `-` is the empty one."
-use Rattle.std.specs.Prelude.{◌≡◌, Bool, true, false, cond, ◌&&◌, List, [], ◌∷◌, ◌++◌, ℕ, zero, suc, ◌+◌, ◌-◌, ◌*◌, ◌/◌, ◌%◌, ◌≤◌, eqb, ltb, length, take, drop, get_or}
+use Rattle.std.specs.Prelude.{◌≡◌, Bool, true, false, cond, ◌&&◌, List, [], ◌∷◌, ◌++◌, ℕ, zero, suc, ◌+◌, ◌-◌, ◌*◌, ◌/◌, ◌%◌, eqb, ltb, length, take, drop, get_or}
 use Rattle.text.specs.Words.{word_of, beyond_of}
 use Rattle.text.specs.Numbers.{parse_of}
 use Rattle.text.specs.Strings.{hexed_of, pairs_of}
