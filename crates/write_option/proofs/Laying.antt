@@ -4,7 +4,7 @@ use mathlib.Core.Path.{◌≡◌, refl, sym, ap, ap₂, ◌∙◌}
 use mathlib.Core.List.{List, [], ◌∷◌, ◌++◌, append_assoc, append-nil}
 use native.Mathlib.Omega.{arith}
 use lib.ListN.{length, take, drop, set, length-append, length-drop, take-append-drop, drop_of_length-le}
-use lib.Seq.{length-take-le, take_at, drop_at, drop-drop, take_all}
+use lib.Seq.{length-take-le, take_at, drop_at, drop-drop}
 use Rattle.facts.proofs.Lists.{rest_part}
 use Rattle.wire.specs.Numbers.{bytes_of}
 use Rattle.wire.specs.Options.{Options, done, option, option_bytes, bytes, over, Laid}
