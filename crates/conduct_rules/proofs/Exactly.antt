@@ -1,5 +1,5 @@
 -- The test of a data message says what the papers say. Assumes nothing.
-use Rattle.std.proofs.Common.{◌≡◌, ℕ, zero, suc, ◌+◌, ◌-◌, ◌%◌, ◌^◌, ◌<◌, ◌≤◌, true, eqb, pos, ◌-ℤ◌, ◌≤ℤ◌, sym, refl, ap, ◌∙◌, arith, le-ltb, lt-ltb, eq-eqb, eqb-true}
+use Rattle.std.proofs.Common.{◌≡◌, ℕ, zero, suc, ◌+◌, ◌-◌, ◌%◌, ◌^◌, ◌<◌, true, eqb, pos, ◌-ℤ◌, ◌≤ℤ◌, sym, refl, ap, ◌∙◌, arith, le-ltb, lt-ltb, eq-eqb, eqb-true}
 use mathlib.Core.Bool.{and-eq-true_iff}
 use lib.IntN.{sub_ℕ}
 use lib.Signed.{le_z}
