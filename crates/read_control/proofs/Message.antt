@@ -1,15 +1,18 @@
 -- A control message as its reader reads it: the seats of what options state, the tests on the whole, and a turn of the loop. Assumes nothing.
-use Prim.Native.Nat.{ℕ, ◌+◌, ◌-◌, ◌<◌}
+use Prim.Native.Nat.{ℕ, ◌+◌, ◌-◌, ◌≤◌, ◌<◌}
 use mathlib.Core.Path.{◌≡◌, refl, sym, ◌∙◌}
-use mathlib.Core.List.{List, [], ◌∷◌}
+use mathlib.Core.List.{List}
 use mathlib.Core.Bool.{Bool, true, false, cond}
 use native.Mathlib.Omega.{arith}
-use lib.ListN.{length, get_or, set, drop}
-use types.Run.{OneOf}
-use denote.Enum.Declared.{tag_of}
+use lib.ListN.{length, get_or, set, take, drop}
 use Rattle.quantity.specs.declared.count.DatalinkId.{DatalinkId}
+use Rattle.quantity.specs.declared.count.LinkInstanceId.{LinkInstanceId}
+use Rattle.quantity.specs.declared.count.FlowSequence.{FlowSequence}
+use Rattle.meaning.specs.declared.message.ContextBytes.{ContextBytes}
 use Rattle.quantity.specs.Refusals.{REPEATED, MISSING, OTHER-DATALINK}
-use Rattle.wire.specs.Options.{split}
+use Rattle.wire.specs.declared.option.Frame.{Frame}
+use Rattle.wire.specs.declared.option.Frame.TheVariants.{Whole}
+use Rattle.wire.specs.Options.{frame_of, split}
 use Rattle.meaning.specs.declared.message.End.{End}
 use Rattle.meaning.specs.declared.message.Plane.{Plane}
 use Rattle.meaning.specs.declared.message.Datalink.{Datalink}
@@ -21,16 +24,14 @@ use Rattle.meaning.specs.declared.message.Window.{Window}
 use Rattle.meaning.specs.declared.message.Control.{Control}
 use Rattle.meaning.specs.Kinds.{among, may_hold, must_hold, CHANNEL-STATUS}
 use Rattle.meaning.specs.Cells.{no_status, no_sequence, no_window}
-use Rattle.meaning.specs.contracts.message.Window as windows
-use Rattle.meaning.proofs.Amongst.{amongst, no_key}
+use Rattle.meaning.proofs.Amongst.{amongst}
 use Rattle.read_option.specs.declared.answer.Item.{Item}
 use Rattle.read_option.specs.declared.answer.OptionAnswer.{OptionAnswer}
 use Rattle.read_option.specs.declared.answer.OptionAnswer.TheVariants.{Took, Refused}
 use Rattle.read_option.specs.Items.{item_of, answer_of, InTable, Placed, number_of}
-use Rattle.read_option.specs.contracts.answer.Item.{the_type}
 use Rattle.read_rules.specs.Judging.{Step, next, stop, judge}
 use Rattle.read_rules.specs.Sorts.{finish_of, rules_of, unstated_datalink, is_ours}
-use Rattle.read_rules.proofs.Taking.{Seats, Adding, Framed, content_at, faulty, parting}
+use Rattle.read_rules.proofs.Taking.{Seats, Adding, Framed, content_at, room_of, faulty, parting}
 use Rattle.read_control.specs.declared.ControlReading.{ControlReading}
 use Rattle.read_control.specs.Message.{unstated_instance, unstated_context, unstated_status, unstated_sequence, unstated_window, blank_control, control_unstated, control_state, control_sort, control_accepted, control_refused}
 
@@ -133,42 +134,52 @@ pub record Stating (end : End) (id : DatalinkId) (s : List ℕ) (at n : ℕ) (m 
   pub taken : seat_unstated item m ≡ true → Reached end id s (at + 3 + n) (seated item m)
   pub repeated : seat_unstated item m ≡ false → control_refused REPEATED at ≡ whole_of end id s
 
-module _ {end : End} {id : DatalinkId} {s : List ℕ} {at kind n : ℕ} {m : Control} (f : Framed (control_sort end id) (whole_of end id s) s at m kind n) where
-  pub refusing : {answer : OptionAnswer} {number : ℕ} → answer ≡ answer_of Plane.Control end kind (content_at s at n) → answer ≡ Refused number
-      → control_refused (number_of answer) at ≡ whole_of end id s
-  refusing a e = rw e (sym (faulty f (adding end id) refl (sym e ∙ a)))
+-- how a turn comes to an item: at a place that is reached within the datagram, a whole option of a type and n bytes of content stands, and is answered
+module _ (end : End) (id : DatalinkId) (s : List ℕ) (at kind n : ℕ) (m : Control) (inv : Reached end id s at m) (inside : at < length s)
+    {frame : Frame} (first : frame ≡ frame_of (take (length s - at) (drop at s))) (there : frame ≡ Whole kind n) where
+  framed : Framed (control_sort end id) (whole_of end id s) s at m kind n
+  framed = record { inv = inv; frame = sym there ∙ first; inside = inside }
 
-  pub stating : {answer : OptionAnswer} {item : Item} → answer ≡ answer_of Plane.Control end kind (content_at s at n) → Placed answer → answer ≡ Took item
-      → Stating end id s at n m item
-  stating {item} a p e =
-      let parts = parting f (adding end id) {item = item} refl (sym e ∙ a) in
-      record {
-        in_table = rw e at p;
-        less = parts.less;
-        taken = λ t. parts.goes_on (rw t);
-        repeated = λ t. sym (parts.refuses (rw t));
-      }
+  pub room : at + 3 + n ≤ length s
+  room = room_of framed
+
+  module _ {answer : OptionAnswer} (a : answer ≡ answer_of Plane.Control end kind (content_at s at n)) where
+    pub refusing : {number : ℕ} → answer ≡ Refused number → control_refused (number_of answer) at ≡ whole_of end id s
+    refusing e = rw e (sym (faulty framed (adding end id) refl (sym e ∙ a)))
+
+    pub stating : Placed answer → (item : Item) → answer ≡ Took item → Stating end id s at n m item
+    stating p item e =
+        let parts = parting framed (adding end id) {item = item} refl (sym e ∙ a) in
+        record {
+          in_table = rw e at p;
+          less = parts.less;
+          taken = λ t. parts.goes_on (rw t);
+          repeated = λ t. sym (parts.refuses (rw t));
+        }
 
 module _ {end : End} {id : DatalinkId} {s : List ℕ} {at n : ℕ} {m : Control} where
   -- the variants of `Item` that take no seat: an unknown option's, and those of a data message
-  pub passing : (item : Item) → OneOf (0 ∷ 7 ∷ 8 ∷ 9 ∷ []) (tag_of the_type item) → Stating end id s at n m item → Reached end id s (at + 3 + n) m
-  passing Item.Skipped h x = x.taken refl
-  passing (Item.Datalink d) h x = no_key (0 ∷ 7 ∷ 8 ∷ 9 ∷ []) 1 refl h
-  passing (Item.Instance v k) h x = no_key (0 ∷ 7 ∷ 8 ∷ 9 ∷ []) 2 refl h
-  passing (Item.Context b k) h x = no_key (0 ∷ 7 ∷ 8 ∷ 9 ∷ []) 3 refl h
-  passing (Item.Status channel v) h x = no_key (0 ∷ 7 ∷ 8 ∷ 9 ∷ []) 4 refl h
-  passing (Item.Sequence channel v) h x = no_key (0 ∷ 7 ∷ 8 ∷ 9 ∷ []) 5 refl h
-  passing (Item.Window channel v) h x = no_key (0 ∷ 7 ∷ 8 ∷ 9 ∷ []) 6 refl h
-  passing (Item.Channel channel) h x = x.taken refl
-  passing (Item.Expiration t) h x = x.taken refl
-  passing Item.Packet h x = x.taken refl
+  pub passing : (item : Item) → ((d : DatalinkId) → item ≡ Item.Datalink d → ⊥) → ((v : LinkInstanceId) (k : ℕ) → item ≡ Item.Instance v k → ⊥)
+      → ((b : ContextBytes) (k : ℕ) → item ≡ Item.Context b k → ⊥) → ((channel v : ℕ) → item ≡ Item.Status channel v → ⊥)
+      → ((channel : ℕ) (v : FlowSequence) → item ≡ Item.Sequence channel v → ⊥) → ((channel : ℕ) (v : Window) → item ≡ Item.Window channel v → ⊥)
+      → Stating end id s at n m item → Reached end id s (at + 3 + n) m
+  passing Item.Skipped d i b v q w x = x.taken refl
+  passing (Item.Datalink a) d i b v q w x = absurd (d a refl)
+  passing (Item.Instance a k) d i b v q w x = absurd (i a k refl)
+  passing (Item.Context a k) d i b v q w x = absurd (b a k refl)
+  passing (Item.Status channel a) d i b v q w x = absurd (v channel a refl)
+  passing (Item.Sequence channel a) d i b v q w x = absurd (q channel a refl)
+  passing (Item.Window channel a) d i b v q w x = absurd (w channel a refl)
+  passing (Item.Channel channel) d i b v q w x = x.taken refl
+  passing (Item.Expiration t) d i b v q w x = x.taken refl
+  passing Item.Packet d i b v q w x = x.taken refl
 
   -- a Flow Window where one stands, with the field or without
   pub window_repeated : {channel : ℕ} {v : Window} → Stating end id s at n m (Item.Window channel v)
-      → OneOf (1 ∷ 2 ∷ []) (tag_of windows.the_type (get_or m.windows channel no_window).window) → control_refused REPEATED at ≡ whole_of end id s
+      → ((get_or m.windows channel no_window).window ≡ Window.Absent → ⊥) → control_refused REPEATED at ≡ whole_of end id s
   window_repeated {channel} x h = x.repeated (there (get_or m.windows channel no_window).window h)
     where
-      there : (w : Window) → OneOf (1 ∷ 2 ∷ []) (tag_of windows.the_type w) → unstated_window w ≡ false
-      there Window.Absent k = no_key (1 ∷ 2 ∷ []) 0 refl k
+      there : (w : Window) → (w ≡ Window.Absent → ⊥) → unstated_window w ≡ false
+      there Window.Absent k = absurd (k refl)
       there Window.Empty k = refl
       there (Window.Given v) k = refl

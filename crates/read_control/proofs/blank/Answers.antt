@@ -3,12 +3,8 @@ use mathlib.Core.Path.{refl}
 use Rattle.facts.specs.Tables.{tabulate}
 use Rattle.read_option.specs.Stated.{control_stated}
 use Rattle.read_control.specs.Message.{blank_control}
-use Rattle.read_control.proofs.blank.Statement.{statement}
-use Rattle.read_control.proofs.blank.Tie as tie
+use Rattle.read_control.proofs.blank.Goals as goal
 
-returns : tie.Need-returns
+pub returns : goal.returns
 unfolding blank_control control_stated tabulate
 returns c = refl
-
-pub blank-spec : {M : Type 1} → statement M
-blank-spec = tie.close (tie.spec returns)
