@@ -1,21 +1,19 @@
 -- The highest sequence and the window in numbers that never wrap. Assumes nothing.
-use Prim.Native.Nat.{ℕ, suc, ◌+◌, ◌-◌, ◌%◌, ◌^◌, ◌≤◌, ◌<◌, max}
+use Prim.Native.Nat.{ℕ, ◌+◌, ◌%◌, ◌^◌, ◌≤◌, ◌<◌, max}
 use mathlib.Core.Path.{◌≡◌, refl, sym, ap, ◌∙◌}
-use mathlib.Core.Bool.{Bool, true, false, cond}
 use mathlib.Core.List.Memᴰ
 use mathlib.Core.List.{List, [], ◌∷◌, Memᴰ}
 use mathlib.Core.Logic.{◌⊎◌, inl, inr, ⊎_elim}
 use native.Mathlib.Omega.{arith}
 use lib.IntN.{ℤ, pos, negsuc}
 use lib.Signed.{le_z, ◌≤ℤ◌}
-use lib.Dec.{leb, leb→le, le→leb}
+use lib.Dec.{le→leb}
 use borrow.Author.Tests.{le-leb, lt-leb}
 use Rattle.facts.proofs.Tests.{by_le}
 use Rattle.quantity.specs.declared.count.FlowSequence.{FlowSequence}
-use Rattle.quantity.specs.declared.count.FlowWindow.{FlowWindow}
 use Rattle.quantity.specs.declared.count.ByteCount.{ByteCount}
-use Rattle.quantity.specs.Distance.{low_of, distance_of, fits_of}
-use Rattle.quantity.specs.Window.{sequence_at, Stands, standing_at}
+use Rattle.quantity.specs.Distance.{distance_of, fits_of}
+use Rattle.quantity.specs.Window.{sequence_at, Stands}
 use Rattle.quantity.proofs.Distance.{distance_ahead}
 use Rattle.quantity.proofs.Window.{standing_stands, fits_is, sequence_start}
 use Rattle.radio_flow.specs.declared.Highest.{Highest}

@@ -1,10 +1,9 @@
 -- The test for a change of a window tells whether two are the same. Assumes nothing.
 use Prim.Native.Nat.{ℕ}
 use mathlib.Core.Path.{◌≡◌, refl, ap}
-use mathlib.Core.Bool.{true, false}
+use mathlib.Core.Bool.{true}
 use borrow.Author.Tests.{eqb-true, eq-eqb}
 use Rattle.facts.proofs.Tests.{clash}
-use Rattle.quantity.specs.declared.count.FlowWindow.{FlowWindow}
 use Rattle.meaning.specs.declared.message.Window.{Window}
 use Rattle.radio_flow.specs.Granting.{same_window}
 
