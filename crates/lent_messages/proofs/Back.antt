@@ -1,8 +1,8 @@
 -- What is put into words is read out of them again. Assumes nothing.
-use Prim.Native.Nat.{ℕ, zero, suc, ◌+◌, ◌*◌, ◌≤◌, ◌<◌}
+use Prim.Native.Nat.{ℕ, zero, suc, ◌+◌, ◌*◌, ◌<◌}
 use mathlib.Core.Path.{◌≡◌, refl, sym, ap, ◌∙◌}
 use mathlib.Core.Logic.{⊎_elim}
-use mathlib.Core.List.{List, [], ◌∷◌, ◌++◌}
+use mathlib.Core.List.{List}
 use native.Mathlib.Nat.{eq-or-lt_of_le}
 use native.Mathlib.Omega.{arith}
 use lib.ListN.{length, get_or, length-append, get_or-append}
@@ -19,16 +19,13 @@ use Rattle.meaning.specs.declared.message.Window.{Window}
 use Rattle.meaning.specs.declared.message.Counted.{Counted}
 use Rattle.meaning.specs.declared.message.Channel.{Channel}
 use Rattle.meaning.specs.declared.message.Expiration.{Expiration}
-use Rattle.meaning.specs.declared.message.StatusCell.{StatusCell}
-use Rattle.meaning.specs.declared.message.SequenceCell.{SequenceCell}
-use Rattle.meaning.specs.declared.message.WindowCell.{WindowCell}
 use Rattle.meaning.specs.declared.message.Control.{Control}
 use Rattle.meaning.specs.declared.message.Data.{Data}
 use Rattle.meaning.specs.Cells.{no_status, no_sequence, no_window}
 use Rattle.lent_messages.specs.Layout as layout
 use Rattle.lent_messages.specs.Layout.{CONTROL-HEAD, CHANNEL-WORDS, CONTROL-WORDS}
 use Rattle.lent_messages.specs.Stated.{datalink_stated, instance_stated, context_stated, status_stated, sequence_stated, window_stated, counted_stated, channel_stated, expiration_stated, datalink_of, instance_of, context_of, status_of, sequence_of, window_of, counted_of, channel_of, expiration_of}
-use Rattle.lent_messages.specs.Words.{word, channel_start, status_at, sequence_at, window_at, control_of, head_words, channel_words, words_at, joined, control_words, data_of, data_words}
+use Rattle.lent_messages.specs.Words.{word, channel_start, status_at, sequence_at, window_at, control_of, head_words, words_at, joined, control_words, data_of, data_words}
 
 -- ---- one thing that may be stated
 datalink_back : (stated : Datalink) → datalink_of (datalink_stated stated).tag (datalink_stated stated).first ≡ stated

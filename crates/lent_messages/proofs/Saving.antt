@@ -1,11 +1,11 @@
 -- What the writes of `control` and `data` leave. Assumes nothing.
-use Prim.Native.Nat.{ℕ, suc, ◌+◌, ◌*◌, ◌≤◌, ◌<◌}
+use Prim.Native.Nat.{ℕ, suc, ◌+◌, ◌≤◌, ◌<◌}
 use mathlib.Core.Path.{◌≡◌, refl, sym, ap, ◌∙◌}
 use mathlib.Core.List.{List, [], ◌∷◌, ◌++◌, append_assoc, append-nil}
 use native.Mathlib.Numerals.{add-one}
 use native.Mathlib.Omega.{arith}
-use lib.ListN.{length, take, drop, set, length-append, length-set, length-take, drop_of_length-le}
-use lib.Seq.{sets, sets-eq, take_all, take_at, take-append-le}
+use lib.ListN.{length, take, drop, set, length-append, length-take, drop_of_length-le}
+use lib.Seq.{sets-eq, take_all, take_at}
 use Rattle.quantity.specs.Limits.{CHANNEL-IDS}
 use Rattle.lent_messages.specs.Layout.{CONTROL-HEAD, CHANNEL-WORDS, CONTROL-WORDS, DATA-WORDS}
 use Rattle.meaning.specs.declared.message.Control.{Control}

@@ -1,0 +1,10 @@
+use Prim.Native.Nat.{◌-◌}
+use Rattle.quantity.specs.Limits.{CHANNEL-IDS}
+use Rattle.lent_messages.proofs.Saying.{Judged}
+use Rattle.lent_messages.proofs.control.channels_spelled.Given as goal
+
+abbrev pub invariant-loop-id : goal.invariant-loop-id
+invariant-loop-id l = Judged l.words l.from l.id
+
+abbrev pub decreases-loop-id : goal.decreases-loop-id
+decreases-loop-id l = CHANNEL-IDS - l.id

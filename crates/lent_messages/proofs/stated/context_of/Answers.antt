@@ -1,0 +1,13 @@
+-- `stated::context_of` meets its contract, by the tag. Assumes nothing.
+use borrow.Author.Tests.{ne_eqb}
+use Rattle.lent_messages.specs.Layout.{ABSENT}
+use Rattle.lent_messages.specs.Stated.{context_of}
+use Rattle.lent_messages.proofs.stated.context_of.Goals as goal
+
+pub returns-then-tag-eq-ABSENT : goal.returns-then-tag-eq-ABSENT
+unfolding context_of
+returns-then-tag-eq-ABSENT c = rw c.if-tag-eq-ABSENT.true
+
+pub returns : goal.returns
+unfolding context_of
+returns c = rw (ne_eqb _ ABSENT c.if-tag-eq-ABSENT.false)
