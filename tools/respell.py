@@ -62,7 +62,7 @@ def snake(name):
 def table():
     own, walks = declared()
     theirs = imported()
-    rows = {w: snake(w) for w in BOUND}
+    rows = {}
     for n in sorted(own):
         if n in TYPES:
             rows[n] = TYPES[n]
@@ -90,6 +90,8 @@ def table():
     both = [new for new, k in collections.Counter(rows.values()).items() if k > 1]
     if both:
         raise SystemExit(f"respell: these fall together: {both}")
+    # no file has one of these beside an own name of the same new spelling
+    rows.update({w: snake(w) for w in BOUND + ["indexOf"]})
     return {a: b for a, b in rows.items() if a != b}
 
 
