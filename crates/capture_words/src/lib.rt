@@ -6,6 +6,7 @@ ghost use Rattle.capture_words.specs.Settings.{setting_of, refused_of, numbers_s
 
 use ethernet::Ports;
 use quantity::count::DatalinkId;
+use std::env::{Env, FillError};
 use text::Number;
 
 // "ports and Datalink ID are set in the program"
@@ -83,26 +84,33 @@ pub fn words_say(radio: Number, ips: Number, datalink: Number) -> Setting
     numbers_say(to_radio, to_ips, named)
 }
 
-// The number that a word of the command line stands for.
-fn word(i: usize) -> Number {
+// Whether the command line has a word; the program's own name is word 0.
+fn has_word(env: &impl Env, i: usize) -> bool {
     let mut buffer = [0u8; WORD];
-    let n = os::arg(i, &mut buffer);
-    if os::errno() != 0 {
-        return Number::Bad;
+    !matches!(env.arg(i, &mut buffer), Err(FillError::NotPresent))
+}
+
+// The number that a word of the command line stands for.
+fn word(env: &impl Env, i: usize) -> Number {
+    let mut buffer = [0u8; WORD];
+    match env.arg(i, &mut buffer) {
+        Ok(n) => text::parse(&buffer[..n], u64::MAX),
+        Err(_) => Number::Bad,
     }
-    text::parse(&buffer[..n], u64::MAX)
 }
 
 // What the words of the command line say: three, or none; the program's own name stands before them.
-pub fn asked() -> Setting
+pub fn asked(env: &impl Env) -> Setting
     ensures { Asked result }
 {
-    let words = os::arg_count();
-    if words <= 1 {
+    if !has_word(env, 1) {
         return numbers_say(RADIO_PORT, IPS_PORT, DATALINK);
     }
-    if words == 4 {
-        return words_say(word(1), word(2), word(3));
+    if !has_word(env, 3) {
+        return refused();
     }
-    refused()
+    if has_word(env, 4) {
+        return refused();
+    }
+    words_say(word(env, 1), word(env, 2), word(env, 3))
 }

@@ -6,10 +6,10 @@ ghost use Rattle.judge.specs.Serving.{TurnedTo, Served, Judged};
 
 use conduct::{Finding, Tally, WORDS};
 use ethernet::Ports;
-use libc::{STDERR_FILENO, STDOUT_FILENO};
 use quantity::count::DatalinkId;
 use quantity::limit::CHANNEL_IDS;
 use records::{Came, Input};
+use std::io::Read;
 
 // How many bytes of the capture are held at once.
 const ROOM: usize = 2 * records::ROOM;
@@ -30,28 +30,50 @@ fn put_finding(out: &mut [u8], at: usize, finding: Finding) -> usize {
     }
 }
 
+// Says something on standard error, where nothing is left to say of what can't be written there.
+fn complain(complaints: &impl Print, text: &[u8]) {
+    let _said = complaints.write_all(text).is_ok();
+}
+
 // Prints the first bytes of a stretch. Whether they were written; if not, that is said on standard error.
-fn print(out: &[u8], count: usize) -> bool {
+fn print(printer: &impl Print, complaints: &impl Print, out: &[u8], count: usize) -> bool {
     if count <= out.len() {
-        if io::write_all(STDOUT_FILENO, &out[0..count]) {
+        if printer.write_all(&out[0..count]).is_ok() {
             return true;
         }
     }
-    io::write_all(STDERR_FILENO, &lines::UNWRITTEN);
+    complain(complaints, &lines::UNWRITTEN);
     false
 }
 
-fn say_finding(out: &mut [u8], channel: u8, finding: Finding) -> bool {
+fn say_finding(
+    printer: &impl Print,
+    complaints: &impl Print,
+    out: &mut [u8],
+    channel: u8,
+    finding: Finding,
+) -> bool {
     let at = text::put_number(out, 0, channel as u64);
     let end = put_finding(out, at, finding);
-    print(out, end)
+    print(printer, complaints, out, end)
 }
 
 // Prints verdict after verdict, up to one that can't be written. Whether all were.
-fn say_findings(out: &mut [u8], words: &[u64]) -> bool {
+fn say_findings(
+    printer: &impl Print,
+    complaints: &impl Print,
+    out: &mut [u8],
+    words: &[u64],
+) -> bool {
     let mut channel: usize = 0;
     while channel < CHANNEL_IDS {
-        if !say_finding(out, channel as u8, conduct::finding(words, channel as u8)) {
+        if !say_finding(
+            printer,
+            complaints,
+            out,
+            channel as u8,
+            conduct::finding(words, channel as u8),
+        ) {
             return false;
         }
         channel += 1;
@@ -67,7 +89,8 @@ struct Left {
 }
 
 // One turn: the next record is judged by its number, and counted; "a capture .. refused with 25 or 26, is reported as undecided for all channels".
-fn turn(
+fn turn<R: Read>(
+    reader: &mut R,
     buffer: &mut [u8],
     words: &mut [u64],
     input: Input,
@@ -78,7 +101,7 @@ fn turn(
 ) -> Left
     ensures { TurnedTo ports id number buffer.old input tally words.old result buffer.new words.new }
 {
-    let came = records::read_record(buffer, input);
+    let came = records::read_record(reader, buffer, input);
     match came {
         Came::End => Left { came, tally },
         Came::Record {
@@ -101,7 +124,13 @@ fn turn(
 }
 
 // Turn after turn, by the records' numbers from 1. Nothing says that a capture ends, so the turns are counted.
-fn serve(buffer: &mut [u8], words: &mut [u64], ports: Ports, id: DatalinkId) -> Tally
+fn serve<R: Read>(
+    reader: &mut R,
+    buffer: &mut [u8],
+    words: &mut [u64],
+    ports: Ports,
+    id: DatalinkId,
+) -> Tally
     ensures { Served ports id buffer.old words.old result words.new }
 {
     let mut input = records::start();
@@ -112,7 +141,7 @@ fn serve(buffer: &mut [u8], words: &mut [u64], ports: Ports, id: DatalinkId) -> 
     let mut number: u64 = 0;
     while number < u64::MAX {
         number += 1;
-        let left = turn(buffer, words, input, tally, number, ports, id);
+        let left = turn(reader, buffer, words, input, tally, number, ports, id);
         let came = left.came;
         tally = left.tally;
         match came {
@@ -125,46 +154,61 @@ fn serve(buffer: &mut [u8], words: &mut [u64], ports: Ports, id: DatalinkId) -> 
 }
 
 // On standard error, so that the verdicts stay alone: a capture of which nothing was judged has no breach, and says nothing of the endpoint.
-fn say_tally(out: &mut [u8], tally: Tally) {
+fn say_tally(complaints: &impl Print, out: &mut [u8], tally: Tally) {
     let at = text::put(out, 0, b"judged ");
     let end = text::put_number(out, at, tally.judged);
     let next = text::put(out, end, b" skipped ");
     let last = text::put_number(out, next, tally.skipped);
     let behind = text::put(out, last, b"\n");
     if behind <= out.len() {
-        io::write_all(STDERR_FILENO, &out[0..behind]);
+        complain(complaints, &out[0..behind]);
     }
 }
 
-fn judge(buffer: &mut [u8], words: &mut [u64], out: &mut [u8], ports: Ports, id: DatalinkId)
+fn judge<R: Read, O: Print, E: Print>(
+    reader: &mut R,
+    printer: &O,
+    complaints: &E,
+    buffer: &mut [u8],
+    words: &mut [u64],
+    out: &mut [u8],
+    ports: Ports,
+    id: DatalinkId,
+)
     ensures { Judged ports id buffer.old (length words.old) words.new }
 {
     conduct::start(words);
-    let tally = serve(buffer, words, ports, id);
-    if say_findings(out, words) {
-        say_tally(out, tally);
+    let tally = serve(reader, buffer, words, ports, id);
+    if say_findings(printer, complaints, out, words) {
+        say_tally(complaints, out, tally);
     }
 }
 
 // An array that is lent as an array asks no proof of its length.
 fn hold(
+    reader: &mut impl Read,
+    printer: &impl Print,
+    complaints: &impl Print,
     buffer: &mut [u8; ROOM],
     words: &mut [u64; WORDS],
     out: &mut [u8; LINE],
     ports: Ports,
     id: DatalinkId,
 ) {
-    judge(buffer, words, out, ports, id);
+    judge(reader, printer, complaints, buffer, words, out, ports, id);
 }
 
-fn main() {
-    let setting = capture_words::asked();
+fn main(rt: HostRuntime) {
+    let mut reader = rt.stdin();
+    let printer = rt.stdout();
+    let complaints = rt.stderr();
+    let setting = capture_words::asked(&rt);
     if !setting.good {
-        io::write_all(STDERR_FILENO, &capture_words::USAGE);
+        complain(&complaints, &capture_words::USAGE);
         return;
     }
     let header = b"channel verdict\n";
-    if !print(header, header.len()) {
+    if !print(&printer, &complaints, header, header.len()) {
         return;
     }
     let ports = setting.ports;
@@ -172,5 +216,14 @@ fn main() {
     let mut buffer = [0u8; ROOM];
     let mut words = [0u64; WORDS];
     let mut out = [0u8; LINE];
-    hold(&mut buffer, &mut words, &mut out, ports, id);
+    hold(
+        &mut reader,
+        &printer,
+        &complaints,
+        &mut buffer,
+        &mut words,
+        &mut out,
+        ports,
+        id,
+    );
 }

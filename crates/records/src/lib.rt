@@ -1,4 +1,4 @@
-// Records of a classic pcap file on standard input, read piece by piece into one lent buffer, which has room for the
+// Records of a classic pcap file that a reader gives, read piece by piece into one lent buffer, which has room for the
 // longest record with its head.
 #![tactic(auto)]
 
@@ -9,6 +9,7 @@ ghost use Rattle.records.specs.Unread.{start_of, held_of, behind_of, short_of, b
 ghost use Rattle.records.specs.Reading.{came_by, record_in, Comes};
 
 use quantity::refusal::{FILE_HEAD, RECORD};
+use std::io::Read;
 
 // The longest record that is taken.
 const LONGEST: usize = 65536;
@@ -328,11 +329,11 @@ pub fn record_in(capture: &[u8], input: Input) -> Came
 }
 
 // Moves what is unread to the start of the buffer and reads more behind it.
-pub fn fill(buffer: &mut [u8], input: Input) -> Input
+pub fn fill<R: Read>(reader: &mut R, buffer: &mut [u8], input: Input) -> Input
     ensures { Refilled buffer.old input result buffer.new }
 {
     let unread = input.unread;
-    let more = lines::fill(buffer, unread);
+    let more = lines::fill(reader, buffer, unread);
     Input {
         unread: more,
         opened: input.opened,
@@ -342,7 +343,7 @@ pub fn fill(buffer: &mut [u8], input: Input) -> Input
 
 // Hands over the next record, or says why there is none, reading more as it is needed; the file's head is passed over. Nothing says that an input ends,
 // so the turns are counted, and what isn't whole by then is cut off.
-pub fn read_record(buffer: &mut [u8], input: Input) -> Came
+pub fn read_record<R: Read>(reader: &mut R, buffer: &mut [u8], input: Input) -> Came
     ensures { Comes buffer.old input result buffer.new }
 {
     let mut at = input;
@@ -350,7 +351,7 @@ pub fn read_record(buffer: &mut [u8], input: Input) -> Came
     while turns > 0 {
         turns -= 1;
         match next(buffer, at) {
-            Found::More => at = fill(buffer, at),
+            Found::More => at = fill(reader, buffer, at),
             Found::End => return Came::End,
             Found::Head(rest) => at = rest,
             Found::Record {

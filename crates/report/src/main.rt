@@ -6,10 +6,10 @@ ghost use Rattle.report.specs.Serving.{TurnedTo, Served};
 
 use census::{BYTES, IPS, PACKETS, PLACES, RADIO, RECORDS, REFUSALS, SKIPPED};
 use ethernet::Ports;
-use libc::{STDERR_FILENO, STDOUT_FILENO};
 use quantity::count::DatalinkId;
 use quantity::refusal::FILE_HEAD;
 use records::{Came, Input};
+use std::io::Read;
 
 // How many bytes of the capture are held at once.
 const ROOM: usize = 2 * records::ROOM;
@@ -55,33 +55,55 @@ fn put_name(out: &mut [u8], place: usize) -> usize {
     put_channel(out, place)
 }
 
+// Says something on standard error, where nothing is left to say of what can't be written there.
+fn complain(complaints: &impl Print, text: &[u8]) {
+    let _said = complaints.write_all(text).is_ok();
+}
+
 // Prints the first bytes of a stretch. Whether they were written; if not, that is said on standard error.
-fn print(out: &[u8], count: usize) -> bool {
+fn print(printer: &impl Print, complaints: &impl Print, out: &[u8], count: usize) -> bool {
     if count <= out.len() {
-        if io::write_all(STDOUT_FILENO, &out[0..count]) {
+        if printer.write_all(&out[0..count]).is_ok() {
             return true;
         }
     }
-    io::write_all(STDERR_FILENO, &lines::UNWRITTEN);
+    complain(complaints, &lines::UNWRITTEN);
     false
 }
 
 // Prints a number behind what was laid before it. Whether it was written, as the three below say of theirs.
-fn say_number(out: &mut [u8], at: usize, value: u64) -> bool {
+fn say_number(
+    printer: &impl Print,
+    complaints: &impl Print,
+    out: &mut [u8],
+    at: usize,
+    value: u64,
+) -> bool {
     let end = text::put_number(out, at, value);
     let behind = text::put(out, end, b"\n");
-    print(out, behind)
+    print(printer, complaints, out, behind)
 }
 
-fn say_count(out: &mut [u8], place: usize, value: u64) -> bool {
+fn say_count(
+    printer: &impl Print,
+    complaints: &impl Print,
+    out: &mut [u8],
+    place: usize,
+    value: u64,
+) -> bool {
     let at = put_name(out, place);
-    say_number(out, at, value)
+    say_number(printer, complaints, out, at, value)
 }
 
-fn say_counts(out: &mut [u8], counts: &[u64]) -> bool {
+fn say_counts(
+    printer: &impl Print,
+    complaints: &impl Print,
+    out: &mut [u8],
+    counts: &[u64],
+) -> bool {
     let mut place = 0;
     while place < counts.len() {
-        if !say_count(out, place, counts[place]) {
+        if !say_count(printer, complaints, out, place, counts[place]) {
             return false;
         }
         place += 1;
@@ -90,19 +112,26 @@ fn say_counts(out: &mut [u8], counts: &[u64]) -> bool {
 }
 
 // The last line, where the capture is refused by a number; 0 is none.
-fn say_refusal(out: &mut [u8], number: u8) -> bool {
+fn say_refusal(printer: &impl Print, complaints: &impl Print, out: &mut [u8], number: u8) -> bool {
     if number == 0 {
         return true;
     }
     let at = text::put(out, 0, b"refused ");
-    say_number(out, at, number as u64)
+    say_number(printer, complaints, out, at, number as u64)
 }
 
 // One turn: the next record is counted.
-fn turn(buffer: &mut [u8], counts: &mut [u64], input: Input, ports: Ports, id: DatalinkId) -> Came
+fn turn<R: Read>(
+    reader: &mut R,
+    buffer: &mut [u8],
+    counts: &mut [u64],
+    input: Input,
+    ports: Ports,
+    id: DatalinkId,
+) -> Came
     ensures { TurnedTo ports id buffer.old input counts.old result buffer.new counts.new }
 {
-    let came = records::read_record(buffer, input);
+    let came = records::read_record(reader, buffer, input);
     match came {
         Came::End => came,
         Came::Record {
@@ -120,14 +149,20 @@ fn turn(buffer: &mut [u8], counts: &mut [u64], input: Input, ports: Ports, id: D
 
 // Turn after turn. Gives the number by which the capture is refused, or 0. Nothing says that a capture ends, so the turns
 // are counted.
-fn serve(buffer: &mut [u8], counts: &mut [u64], ports: Ports, id: DatalinkId) -> u8
+fn serve<R: Read>(
+    reader: &mut R,
+    buffer: &mut [u8],
+    counts: &mut [u64],
+    ports: Ports,
+    id: DatalinkId,
+) -> u8
     ensures { Served ports id buffer.old counts.old result counts.new }
 {
     let mut input = records::start();
     let mut number: u64 = 0;
     while number < u64::MAX {
         number += 1;
-        match turn(buffer, counts, input, ports, id) {
+        match turn(reader, buffer, counts, input, ports, id) {
             Came::End => return 0,
             Came::Record { rest, .. } => input = rest,
             Came::Refused(refusal) => return refusal,
@@ -137,36 +172,51 @@ fn serve(buffer: &mut [u8], counts: &mut [u64], ports: Ports, id: DatalinkId) ->
 }
 
 // "at 25 only the header, at 26 the report so far is printed, with a last line that says so"
-fn report(buffer: &mut [u8], counts: &mut [u64], out: &mut [u8], ports: Ports, id: DatalinkId) {
-    let number = serve(buffer, counts, ports, id);
+fn report(
+    reader: &mut impl Read,
+    printer: &impl Print,
+    complaints: &impl Print,
+    buffer: &mut [u8],
+    counts: &mut [u64],
+    out: &mut [u8],
+    ports: Ports,
+    id: DatalinkId,
+) {
+    let number = serve(reader, buffer, counts, ports, id);
     if number == FILE_HEAD {
-        say_refusal(out, number);
+        say_refusal(printer, complaints, out, number);
         return;
     }
-    if say_counts(out, counts) {
-        say_refusal(out, number);
+    if say_counts(printer, complaints, out, counts) {
+        say_refusal(printer, complaints, out, number);
     }
 }
 
 // An array that is lent as an array asks no proof of its length.
 fn hold(
+    reader: &mut impl Read,
+    printer: &impl Print,
+    complaints: &impl Print,
     buffer: &mut [u8; ROOM],
     counts: &mut [u64; PLACES],
     out: &mut [u8; LINE],
     ports: Ports,
     id: DatalinkId,
 ) {
-    report(buffer, counts, out, ports, id);
+    report(reader, printer, complaints, buffer, counts, out, ports, id);
 }
 
-fn main() {
-    let setting = capture_words::asked();
+fn main(rt: HostRuntime) {
+    let mut reader = rt.stdin();
+    let printer = rt.stdout();
+    let complaints = rt.stderr();
+    let setting = capture_words::asked(&rt);
     if !setting.good {
-        io::write_all(STDERR_FILENO, &capture_words::USAGE);
+        complain(&complaints, &capture_words::USAGE);
         return;
     }
     let header = b"count value\n";
-    if !print(header, header.len()) {
+    if !print(&printer, &complaints, header, header.len()) {
         return;
     }
     let ports = setting.ports;
@@ -174,5 +224,14 @@ fn main() {
     let mut buffer = [0u8; ROOM];
     let mut counts = [0u64; PLACES];
     let mut out = [0u8; LINE];
-    hold(&mut buffer, &mut counts, &mut out, ports, id);
+    hold(
+        &mut reader,
+        &printer,
+        &complaints,
+        &mut buffer,
+        &mut counts,
+        &mut out,
+        ports,
+        id,
+    );
 }

@@ -6,7 +6,6 @@ ghost use Rattle.session.specs.Answers.{Answers};
 
 use endpoint::{Channel, KeptAnswer, MOST_WORDS, PacerAnswer, Place, Refusal, StartAnswer};
 use handful::HandfulAnswer;
-use libc::{STDERR_FILENO, STDOUT_FILENO};
 use lines::Found;
 use message_words::whole::refused;
 use quantity::limit::{LARGEST_STORE, LONGEST_DATAGRAM, MOST_CHANNELS};
@@ -14,6 +13,7 @@ use session_print::about_state;
 use session_read::{
     Asked, CONFIGURATION_WORDS, Command, Line, ListCounts, MOST_LISTED, StartWords,
 };
+use std::io::Read;
 
 // The longest line of 140,000 bytes stands in the buffer with its newline.
 const ROOM: usize = 140001;
@@ -365,19 +365,26 @@ fn answer_line(
     )
 }
 
+// Says something on standard error, where nothing is left to say of what can't be written there.
+fn complain(complaints: &impl Print, text: &[u8]) {
+    let _said = complaints.write_all(text).is_ok();
+}
+
 // Prints the first bytes of a stretch. Whether they were written; if not, that is said on standard error.
-fn print(out: &[u8], count: usize) -> bool {
+fn print(printer: &impl Print, complaints: &impl Print, out: &[u8], count: usize) -> bool {
     if count <= out.len() {
-        if io::write_all(STDOUT_FILENO, &out[0..count]) {
+        if printer.write_all(&out[0..count]).is_ok() {
             return true;
         }
     }
-    io::write_all(STDERR_FILENO, &lines::UNWRITTEN);
+    complain(complaints, &lines::UNWRITTEN);
     false
 }
 
 // Prints the answer to a line.
 fn say(
+    printer: &impl Print,
+    complaints: &impl Print,
     held: Held,
     words: &mut [u64],
     memory: &mut [u8],
@@ -391,12 +398,15 @@ fn say(
     let left = turn.held;
     Said {
         held: left,
-        written: print(out, end),
+        written: print(printer, complaints, out, end),
     }
 }
 
 // Answers line after line, up to the end or to what can't be read or written. Nothing says that an input ends, so the turns are counted.
 fn serve(
+    reader: &mut impl Read,
+    printer: &impl Print,
+    complaints: &impl Print,
     buffer: &mut [u8],
     words: &mut [u64],
     memory: &mut [u8],
@@ -410,10 +420,20 @@ fn serve(
     while turns > 0 {
         turns -= 1;
         match lines::next(buffer, input) {
-            Found::More => input = lines::fill(buffer, input),
+            Found::More => input = lines::fill(reader, buffer, input),
             Found::End => return,
             Found::Line { from, to, rest } => {
-                let said = say(held, words, memory, &buffer[from..to], bytes, output, out);
+                let said = say(
+                    printer,
+                    complaints,
+                    held,
+                    words,
+                    memory,
+                    &buffer[from..to],
+                    bytes,
+                    output,
+                    out,
+                );
                 if !said.written {
                     return;
                 }
@@ -421,7 +441,9 @@ fn serve(
                 input = rest;
             }
             Found::Over(rest) => {
-                let said = say(held, words, memory, b"", bytes, output, out);
+                let said = say(
+                    printer, complaints, held, words, memory, b"", bytes, output, out,
+                );
                 if !said.written {
                     return;
                 }
@@ -429,7 +451,7 @@ fn serve(
                 input = rest;
             }
             Found::Failed => {
-                io::write_all(STDERR_FILENO, &lines::UNREAD);
+                complain(complaints, &lines::UNREAD);
                 return;
             }
         }
@@ -438,6 +460,9 @@ fn serve(
 
 // An array that is lent as an array asks no proof of its length.
 fn hold(
+    reader: &mut impl Read,
+    printer: &impl Print,
+    complaints: &impl Print,
     buffer: &mut [u8; ROOM],
     words: &mut [u64; MOST_WORDS],
     memory: &mut [u8; MEMORY],
@@ -445,10 +470,15 @@ fn hold(
     output: &mut [u8; LONGEST_DATAGRAM],
     out: &mut [u8; ANSWER],
 ) {
-    serve(buffer, words, memory, bytes, output, out);
+    serve(
+        reader, printer, complaints, buffer, words, memory, bytes, output, out,
+    );
 }
 
-fn main() {
+fn main(rt: HostRuntime) {
+    let mut reader = rt.stdin();
+    let printer = rt.stdout();
+    let complaints = rt.stderr();
     let mut buffer = [0u8; ROOM];
     let mut words = [0u64; MOST_WORDS];
     let mut memory = [0u8; MEMORY];
@@ -456,6 +486,9 @@ fn main() {
     let mut output = [0u8; LONGEST_DATAGRAM];
     let mut out = [0u8; ANSWER];
     hold(
+        &mut reader,
+        &printer,
+        &complaints,
         &mut buffer,
         &mut words,
         &mut memory,

@@ -9,7 +9,6 @@ ghost use Rattle.station_read.specs.Lines.{context_said};
 ghost use Rattle.station_print.specs.Answers.{ANSWER, UNASKED, TELL, HEARD, UNCHANGED, KEPT};
 ghost use Rattle.station.specs.Turns.{link_said, show_texts, called, commanded, stated, begun, asking, answered, Turns, Calls};
 
-use libc::{STDERR_FILENO, STDOUT_FILENO};
 use lines::Found;
 use meaning::message::Instance;
 use message_words::whole::refused;
@@ -19,6 +18,7 @@ use radio_end::ShowAnswer;
 use radio_end_start::StartAnswer;
 use radio_end_words::layout::{HEAD, SLOT};
 use station_read::{Asked, Command, PLACES};
+use std::io::Read;
 
 // The longest line of 140,000 bytes stands in the buffer with its newline.
 const ROOM: usize = 140001;
@@ -251,19 +251,26 @@ fn answer_line(
     )
 }
 
+// Says something on standard error, where nothing is left to say of what can't be written there.
+fn complain(complaints: &impl Print, text: &[u8]) {
+    let _said = complaints.write_all(text).is_ok();
+}
+
 // Prints the first bytes of a stretch. Whether they were written; if not, that is said on standard error.
-fn print(out: &[u8], count: usize) -> bool {
+fn print(printer: &impl Print, complaints: &impl Print, out: &[u8], count: usize) -> bool {
     if count <= out.len() {
-        if io::write_all(STDOUT_FILENO, &out[0..count]) {
+        if printer.write_all(&out[0..count]).is_ok() {
             return true;
         }
     }
-    io::write_all(STDERR_FILENO, &lines::UNWRITTEN);
+    complain(complaints, &lines::UNWRITTEN);
     false
 }
 
 // Prints the answer to a line.
 fn say(
+    printer: &impl Print,
+    complaints: &impl Print,
     held: Held,
     words: &mut [u64],
     line: &[u8],
@@ -276,12 +283,15 @@ fn say(
     let left = turn.held;
     Said {
         held: left,
-        written: print(out, end),
+        written: print(printer, complaints, out, end),
     }
 }
 
 // Answers line after line, up to the end or to what can't be read or written. Nothing says that an input ends, so the turns are counted.
 fn serve(
+    reader: &mut impl Read,
+    printer: &impl Print,
+    complaints: &impl Print,
     buffer: &mut [u8],
     words: &mut [u64],
     bytes: &mut [u8],
@@ -297,10 +307,19 @@ fn serve(
     while turns > 0 {
         turns -= 1;
         match lines::next(buffer, input) {
-            Found::More => input = lines::fill(buffer, input),
+            Found::More => input = lines::fill(reader, buffer, input),
             Found::End => return,
             Found::Line { from, to, rest } => {
-                let said = say(held, words, &buffer[from..to], bytes, output, out);
+                let said = say(
+                    printer,
+                    complaints,
+                    held,
+                    words,
+                    &buffer[from..to],
+                    bytes,
+                    output,
+                    out,
+                );
                 if !said.written {
                     return;
                 }
@@ -308,7 +327,7 @@ fn serve(
                 input = rest;
             }
             Found::Over(rest) => {
-                let said = say(held, words, b"", bytes, output, out);
+                let said = say(printer, complaints, held, words, b"", bytes, output, out);
                 if !said.written {
                     return;
                 }
@@ -316,7 +335,7 @@ fn serve(
                 input = rest;
             }
             Found::Failed => {
-                io::write_all(STDERR_FILENO, &lines::UNREAD);
+                complain(complaints, &lines::UNREAD);
                 return;
             }
         }
@@ -325,20 +344,37 @@ fn serve(
 
 // An array that is lent as an array asks no proof of its length.
 fn hold(
+    reader: &mut impl Read,
+    printer: &impl Print,
+    complaints: &impl Print,
     buffer: &mut [u8; ROOM],
     words: &mut [u64; WORDS],
     bytes: &mut [u8; BYTES],
     output: &mut [u8; LONGEST_DATAGRAM],
     out: &mut [u8; ANSWER],
 ) {
-    serve(buffer, words, bytes, output, out);
+    serve(
+        reader, printer, complaints, buffer, words, bytes, output, out,
+    );
 }
 
-fn main() {
+fn main(rt: HostRuntime) {
+    let mut reader = rt.stdin();
+    let printer = rt.stdout();
+    let complaints = rt.stderr();
     let mut buffer = [0u8; ROOM];
     let mut words = [0u64; WORDS];
     let mut bytes = [0u8; BYTES];
     let mut output = [0u8; LONGEST_DATAGRAM];
     let mut out = [0u8; ANSWER];
-    hold(&mut buffer, &mut words, &mut bytes, &mut output, &mut out);
+    hold(
+        &mut reader,
+        &printer,
+        &complaints,
+        &mut buffer,
+        &mut words,
+        &mut bytes,
+        &mut output,
+        &mut out,
+    );
 }
