@@ -11,7 +11,7 @@ use Rattle.quantity.specs.Refusals.{FILE-HEAD, RECORD}
 use Rattle.records.specs.declared.Order.{Order}
 use Rattle.records.specs.Heads.{pair_at, number_at, is_right, captured_in, original_in, order_of}
 use Rattle.records.specs.Unread.{LONGEST}
-use Rattle.records.specs.Files.{Report, kept, refused, whole, first_of, records_of, reports_of}
+use Rattle.records.specs.Files.{kept, refused, whole, first_of, records_of, reports_of}
 use Rattle.records.proofs.Files.{first_head, first_long, first_cut, first_whole, records_none, records_broken, records_whole}
 
 -- ---- the head: "d4 c3 b2 a1", version 2.4, twelve bytes that aren't looked at, link type 1

@@ -1,12 +1,12 @@
 -- The records of a file, one by one; the bound on their number shows in none of these laws. Assumes nothing.
-use mathlib.Core.Path.{◌≡◌, refl, sym, ap, ◌∙◌}
+use mathlib.Core.Path.{◌≡◌, refl, ap, ◌∙◌}
 use mathlib.Core.Bool.{Bool, true, false, cond}
 use mathlib.Core.List.{List, [], ◌∷◌, ◌++◌}
 use Prim.Native.Nat.{ℕ, zero, suc, ◌+◌, ◌-◌, ◌≤◌, ◌<◌}
 use native.Mathlib.Omega.{arith}
 use borrow.Author.Tests.{lt-ltb, le-ltb, eq-eqb, ne_eqb, ltb-false}
 use lib.Dec.{ltb, eqb}
-use lib.ListN.{length, get_or, take, drop, length-take, length-drop, get_or-append}
+use lib.ListN.{length, take, drop, length-take, length-drop, get_or-append}
 use Rattle.quantity.specs.Refusals.{FILE-HEAD, RECORD}
 use Rattle.records.specs.declared.Order.{Order}
 use Rattle.records.specs.Heads.{pair_at, number_at, captured_in, original_in, order_of}

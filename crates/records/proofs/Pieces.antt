@@ -168,7 +168,7 @@ module _ (buffer : List ℕ) (input : Input) where
       go (next.opens big l f p) = clash (cc)
 
 module _ {failed : Bool} where
-  passed_back : {lent buffer : List ℕ} {start input : Input} {n : ℕ} {reports : List Report} → Passed lent start n buffer input → Reads failed buffer input reports
+  passed_back : {lent : List ℕ} {start : Input} {buffer : List ℕ} {input : Input} {n : ℕ} {reports : List Report} → Passed lent start n buffer input → Reads failed buffer input reports
       → Reads failed lent start reports
   passed_back here r = r
   passed_back (opened {buffer = buffer} {input = input} k e) r =

@@ -1,0 +1,10 @@
+-- `byte` meets its contract. Assumes nothing.
+use mathlib.Core.Path.{refl}
+use native.Mathlib.Omega.{arith}
+use Rattle.records.proofs.byte.Goals as goal
+
+pub overflow_cast-result : goal.overflow_cast-result
+overflow_cast-result c = omega (arith, c.type_inv.bytes c.args.at)
+
+pub returns : goal.returns
+returns c = record { value = refl; below = omega (arith, c.type_inv.bytes c.args.at) }
