@@ -1,16 +1,18 @@
 -- How an item is added to what a data message states. Assumes nothing.
-use Prim.Native.Nat.{ℕ}
-use mathlib.Core.Path.{◌≡◌, refl, sym, subst}
-use mathlib.Core.List.{List, [], ◌∷◌}
+use Prim.Native.Nat.{ℕ, ◌+◌, ◌-◌, ◌≤◌, ◌<◌}
+use mathlib.Core.Path.{◌≡◌, refl, sym, subst, ◌∙◌}
+use mathlib.Core.List.{List}
 use mathlib.Core.Bool.{Bool, true, false, cond, not}
 use borrow.Author.Tests.{eqb-true}
 use lib.Dec.{eqb}
-use lib.ListN.{length}
-use types.Run.{OneOf, miss}
-use denote.Enum.Declared.{tag_of, declared}
+use lib.ListN.{length, take, drop}
 use Rattle.quantity.specs.declared.count.DatalinkId.{DatalinkId}
+use Rattle.quantity.specs.declared.count.FlowSequence.{FlowSequence}
 use Rattle.facts.proofs.Tests.{clash}
-use Rattle.quantity.specs.Refusals.{LENGTH, VALUE, UNLISTED, REPEATED}
+use Rattle.quantity.specs.Refusals.{LENGTH, VALUE, UNLISTED, REPEATED, BEHIND-PACKET}
+use Rattle.wire.specs.declared.option.Frame.{Frame}
+use Rattle.wire.specs.declared.option.Frame.TheVariants.{Whole}
+use Rattle.wire.specs.Options.{frame_of, split}
 use Rattle.meaning.specs.declared.message.End.{End}
 use Rattle.meaning.specs.declared.message.End.TheVariants.{Ips, Radio}
 use Rattle.meaning.specs.declared.message.Plane.TheVariants.{Data}
@@ -23,12 +25,12 @@ use Rattle.meaning.proofs.Amongst.{amongst}
 use Rattle.read_option.specs.declared.answer.Item.{Item}
 use Rattle.read_option.specs.declared.answer.OptionAnswer.{OptionAnswer}
 use Rattle.read_option.specs.declared.answer.OptionAnswer.TheVariants.{Took, Refused}
-use Rattle.read_option.specs.Items.{item_of, stated_of, answer_of}
-use Rattle.read_option.specs.contracts.answer.Item.{enum}
-use Rattle.read_rules.specs.Judging.{Step, next, stop}
-use Rattle.read_rules.specs.Sorts.{unstated_datalink}
-use Rattle.read_rules.proofs.Taking.{Seats, Adding}
-use Rattle.read_data.specs.Message.{Gathered, unstated_counted, unstated_channel, unstated_expiration, data_unstated, data_state, data_sort}
+use Rattle.read_option.specs.Items.{item_of, stated_of, answer_of, number_of}
+use Rattle.read_rules.specs.Judging.{Step, next, stop, judge}
+use Rattle.read_rules.specs.Sorts.{unstated_datalink, rules_of}
+use Rattle.read_rules.proofs.Taking.{Seats, Adding, Framed, Parting, content_at, room_of, behind, faulty, parting}
+use Rattle.read_data.specs.Message.{Gathered, unstated_counted, unstated_channel, unstated_expiration, data_unstated, data_state, data_sort, data_refused}
+use Rattle.read_data.specs.declared.DataReading.{DataReading}
 
 -- what the code keeps of a message, each part in a variable of its own
 abbrev pub gathered : Datalink → Counted → Channel → Expiration → Bool → Gathered
@@ -65,21 +67,25 @@ adding end id = record {
       ((λ content. refl), ((λ content. refl), ((λ content. refl), ((λ content. refl), ((λ content. refl), tt))))) kind (held end kind e);
 }
 
--- the variants of `Item` that take no seat: an unknown option, and those of a control message
-abbrev pub seatless : List ℕ
-seatless = 0 ∷ 2 ∷ 3 ∷ 4 ∷ 6 ∷ []
+-- the variants of `Item` that take no seat: an unknown option's, and those of a control message
+pub record Seatless (item : Item) : Type 0 where
+  pub no_datalink : (d : DatalinkId) → item ≡ Item.Datalink d → ⊥
+  pub no_sequence : (n : ℕ) (s : FlowSequence) → item ≡ Item.Sequence n s → ⊥
+  pub no_channel : (n : ℕ) → item ≡ Item.Channel n → ⊥
+  pub no_expiration : (t : ℕ) → item ≡ Item.Expiration t → ⊥
+  pub no_packet_item : item ≡ Item.Packet → ⊥
 
-pub passed_over : (item : Item) (g : Gathered) → OneOf seatless (tag_of (declared enum) item) → add item g ≡ next g
+pub passed_over : (item : Item) (g : Gathered) → Seatless item → add item g ≡ next g
 passed_over Item.Skipped g h = refl
 passed_over (Item.Instance v n) g h = refl
 passed_over (Item.Context b n) g h = refl
 passed_over (Item.Status n s) g h = refl
 passed_over (Item.Window n w) g h = refl
-passed_over (Item.Datalink d) g h = absurd (miss seatless 1 tt h)
-passed_over (Item.Sequence n s) g h = absurd (miss seatless 5 tt h)
-passed_over (Item.Channel n) g h = absurd (miss seatless 7 tt h)
-passed_over (Item.Expiration t) g h = absurd (miss seatless 8 tt h)
-passed_over Item.Packet g h = absurd (miss seatless 9 tt h)
+passed_over (Item.Datalink d) g h = absurd (h.no_datalink d refl)
+passed_over (Item.Sequence n s) g h = absurd (h.no_sequence n s refl)
+passed_over (Item.Channel n) g h = absurd (h.no_channel n refl)
+passed_over (Item.Expiration t) g h = absurd (h.no_expiration t refl)
+passed_over Item.Packet g h = absurd (h.no_packet_item refl)
 
 -- ---- which option holds the packet
 
@@ -95,7 +101,7 @@ is_packet (Item.Window n w) = false
 is_packet (Item.Channel n) = false
 is_packet (Item.Expiration t) = false
 
-pub no_packet : (item : Item) → OneOf seatless (tag_of (declared enum) item) → is_packet item ≡ false
+pub no_packet : (item : Item) → Seatless item → is_packet item ≡ false
 no_packet Item.Skipped h = refl
 no_packet (Item.Instance v n) h = refl
 no_packet (Item.Context b n) h = refl
@@ -105,7 +111,7 @@ no_packet (Item.Datalink d) h = refl
 no_packet (Item.Sequence n s) h = refl
 no_packet (Item.Channel n) h = refl
 no_packet (Item.Expiration t) h = refl
-no_packet Item.Packet h = absurd (miss seatless 9 tt h)
+no_packet Item.Packet h = absurd (h.no_packet_item refl)
 
 item_told : (end : End) (kind : ℕ) (content : List ℕ) → among kind (may_hold Data end) ≡ true → is_packet (item_of kind content) ≡ eqb kind PACKET-DATA
 unfolding item_of
@@ -137,3 +143,34 @@ answer_told end kind content =
 
 pub packet_told : (end : End) (kind : ℕ) (content : List ℕ) (item : Item) → Took item ≡ answer_of Data end kind content → is_packet item ≡ eqb kind PACKET-DATA
 packet_told end kind content item e = subst (Told (eqb kind PACKET-DATA)) (sym e) (answer_told end kind content)
+
+-- ---- a turn of the loop over the options
+
+-- what reading all the options gives
+abbrev pub whole_of : End → DatalinkId → List ℕ → DataReading
+whole_of end id s = judge (rules_of (data_sort end id)) (split (drop 1 s)) 1 (data_sort end id).blank
+
+-- at a place that is reached within the datagram, a whole option of a type and n bytes of content stands
+module _ (end : End) (id : DatalinkId) (s : List ℕ) (at kind n : ℕ) (g : Gathered)
+    (inv : whole_of end id s ≡ judge (rules_of (data_sort end id)) (split (drop at s)) at g) (inside : at < length s)
+    {frame : Frame} (first : frame ≡ frame_of (take (length s - at) (drop at s))) (there : frame ≡ Whole kind n) where
+  framed : Framed (data_sort end id) (whole_of end id s) s at g kind n
+  framed = record { inv = inv; frame = sym there ∙ first; inside = inside }
+
+  pub room : at + 3 + n ≤ length s
+  room = room_of framed
+
+  pub behind_packet : g.packet ≡ true → whole_of end id s ≡ data_refused BEHIND-PACKET at
+  behind_packet shut = behind framed (adding end id) shut
+
+  -- and is answered, with the packet still ahead
+  module _ (ahead : g.packet ≡ false) {answer : OptionAnswer} (a : answer ≡ answer_of Data end kind (content_at s at n)) where
+    pub refusing : {number : ℕ} → answer ≡ Refused number → whole_of end id s ≡ data_refused (number_of answer) at
+    refusing e = rw e (faulty framed (adding end id) ahead (sym e ∙ a))
+
+    pub parted : (item : Item) → answer ≡ Took item → Parting (data_sort end id) add (whole_of end id s) s at g n item
+    parted item e = parting framed (adding end id) {item = item} ahead (sym e ∙ a)
+
+    -- whether the option holds the packet
+    pub told_by : (item : Item) → answer ≡ Took item → eqb kind PACKET-DATA ≡ is_packet item
+    told_by item e = sym (packet_told end kind (content_at s at n) item (sym e ∙ a))

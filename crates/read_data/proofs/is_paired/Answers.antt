@@ -1,0 +1,5 @@
+-- `is_paired` tests number 10. Assumes nothing.
+use Rattle.read_data.proofs.is_paired.Goals as goal
+
+pub returns : goal.returns
+returns c = rw (c.in-Given.is, c.in-Given-channel.is)
