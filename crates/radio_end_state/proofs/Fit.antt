@@ -1,19 +1,17 @@
 -- Number 19 as facts. Assumes nothing.
-use Prim.Native.Nat.{ℕ, zero, suc, ◌^◌, ◌≤◌, ◌<◌}
-use mathlib.Core.Bool.{Bool, true, false, cond, ◌&&◌, and-eq-true_iff}
-use mathlib.Core.List.{List, [], ◌∷◌, map}
-use mathlib.Core.Path.{◌≡◌, refl, sym, ap, ◌∙◌}
-use native.Mathlib.Omega.{arith}
-use borrow.Author.Tests.{leb-true, ltb-true, eqb-true, le-leb, lt-ltb, eq-eqb}
-use lib.Dec.{eqb, leb, ltb}
+use Prim.Native.Nat.{ℕ, zero, suc, ◌≤◌, ◌<◌}
+use mathlib.Core.Bool.{true, and-eq-true_iff}
+use mathlib.Core.List.{List, [], ◌∷◌}
+use mathlib.Core.Path.{◌≡◌, refl, ap}
+use borrow.Author.Tests.{leb-true, ltb-true, le-leb, lt-ltb}
+use lib.Dec.{leb}
 use lib.ListN.{length, get_or}
 use Rattle.quantity.specs.Limits.{FEWEST-CHANNELS, MOST-CHANNELS, RESERVED-CHANNEL, HIGHEST-STATUS, MOST-ALLOWANCE}
 use Rattle.meaning.specs.declared.message.End.TheVariants as ends
 use Rattle.writable.specs.Allowed.{instance_allowed, context_allowed}
-use Rattle.radio_flow.specs.declared.Highest.{Highest}
 use Rattle.radio_end_state.specs.declared.channel.Channel.{Channel}
 use Rattle.radio_end_state.specs.State.{State, no_channel, channel_at}
-use Rattle.radio_end_state.specs.Limits.{up_to, index_of, has_id, stands_first, ids_fit, count_fits, datalink_fits, setting_fits, allowance_fits, highest_fits, channel_fits, all_fit, ids, names_fit, state_fits}
+use Rattle.radio_end_state.specs.Limits.{up_to, has_id, stands_first, ids_fit, count_fits, datalink_fits, setting_fits, allowance_fits, highest_fits, channel_fits, all_fit, ids, names_fit, state_fits}
 use Rattle.radio_end_state.proofs.UpTo.{up_to_at, up_to_by}
 
 pub record ChannelFit (c : Channel) : Type 0 where

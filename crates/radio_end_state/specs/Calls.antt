@@ -1,6 +1,6 @@
 -- Document 02, §3: each call as a function of the state and the output, its answer, the state and every byte of the output afterwards. A refusal leaves state and
 -- output as they were.
-use Rattle.std.specs.Prelude.{ℕ, Bool, true, false, cond, not, ◌&&◌, ◌||◌, List, [], ◌∷◌, map, length, get_or, leb}
+use Rattle.std.specs.Prelude.{ℕ, Bool, true, false, cond, not, ◌||◌, List, map, length, get_or, leb}
 use Rattle.quantity.specs.declared.count.ByteCount.{ByteCount}
 use Rattle.quantity.specs.declared.refusal.Refusal.{Refusal}
 use Rattle.quantity.specs.Limits.{CHANNEL-IDS, HIGHEST-STATUS}

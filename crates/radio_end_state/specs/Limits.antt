@@ -1,8 +1,7 @@
 -- Number 19 of the radio's end, and 23: "watermark or throughput above 2^31 - 1, tested in configuration after 19"; in a state both are 19.
-use Rattle.std.specs.Prelude.{ℕ, zero, suc, ◌^◌, Bool, true, false, cond, ◌&&◌, List, [], ◌∷◌, map, length, get_or, eqb, leb, ltb}
+use Rattle.std.specs.Prelude.{ℕ, zero, suc, ◌^◌, Bool, true, cond, ◌&&◌, List, [], ◌∷◌, map, length, get_or, eqb, leb, ltb}
 use Rattle.quantity.specs.declared.count.DatalinkId.{DatalinkId}
 use Rattle.quantity.specs.Limits.{FEWEST-CHANNELS, MOST-CHANNELS, RESERVED-CHANNEL, HIGHEST-STATUS, MOST-ALLOWANCE}
-use Rattle.quantity.specs.Refusals.{OUTSIDE-LIMITS, LARGE-ALLOWANCE}
 use Rattle.meaning.specs.declared.message.End.TheVariants as ends
 use Rattle.writable.specs.Allowed.{instance_allowed, context_allowed}
 use Rattle.radio_flow.specs.declared.Highest.{Highest}
