@@ -1,13 +1,12 @@
 -- Where a channel stands in the words, and what is written. Assumes nothing.
-use Prim.Native.Nat.{ℕ, zero, suc, ◌+◌, ◌*◌, ◌-◌, ◌^◌, ◌≤◌, ◌<◌}
-use mathlib.Core.Bool.{Bool, true, false, cond}
-use mathlib.Core.List.{List, [], ◌∷◌, ◌++◌}
+use Prim.Native.Nat.{ℕ, suc, ◌+◌, ◌-◌, ◌^◌, ◌≤◌, ◌<◌}
+use mathlib.Core.Bool.{true}
+use mathlib.Core.List.{List, ◌∷◌, ◌++◌}
 use mathlib.Core.Path.{◌≡◌, refl, sym, ap, ◌∙◌}
 use native.Mathlib.Numerals.{add-one}
 use borrow.Rule.Slice.PartMut.{put_mid}
 use native.Mathlib.Omega.{arith}
 use borrow.Author.Tests.{ltb-true, eq-eqb, ne_eqb}
-use lib.Dec.{eqb}
 use lib.ListN.{length, take, drop, get_or, set, drop_of_length-le}
 use lib.Seq.{get_or-take, get_or-drop, drop-cons, drop-drop}
 use Rattle.facts.proofs.Tables.{length_tabulate, get_d_tabulate}
@@ -17,12 +16,12 @@ use Rattle.lent_messages.specs.declared.stated.Stated.{Stated}
 use Rattle.lent_messages.specs.Stated.{instance_stated, context_stated}
 use Rattle.radio_flow.specs.declared.Highest.{Highest}
 use Rattle.radio_end_state.specs.declared.channel.Channel.{Channel}
-use Rattle.radio_end_state.specs.State.{State, no_channel, channel_at, with_channel, with_context, with_instance}
+use Rattle.radio_end_state.specs.State.{no_channel, channel_at, with_channel, with_context, with_instance}
 use Rattle.radio_end_state.specs.Limits.{index_of, ids, highest_fits, state_fits}
-use Rattle.radio_end_state.proofs.Fit.{ChannelFit, channel_fit, Fit, fit_facts, ids_at, ids_length}
+use Rattle.radio_end_state.proofs.Fit.{ChannelFit, channel_fit, fit_facts, ids_at, ids_length}
 use Rattle.radio_end_words.specs.Words.{HEAD, SLOT, ID, DATALINK-WORD, COUNT-WORD, INSTANCE-TAG, INSTANCE-VALUE, INSTANCE-LENGTH, CONTEXT-TAG, CONTEXT-VALUE, CONTEXT-LENGTH, words_for, word, slot_start, slot, channel_in, state_of, state_in, highest_value, channel_words, head_words, state_words, Loadable, Placed, Counted}
 use Rattle.radio_end_words.proofs.Slots.{channel_back}
-use Rattle.radio_end_words.proofs.Whole.{slot_state, put_channel_lem, Readable, readable_facts, says, fit_readable, fit_words}
+use Rattle.radio_end_words.proofs.Whole.{slot_state, put_channel_lem, readable_facts, says, fit_readable, fit_words}
 
 -- ---- the words of a state within the limits
 module _ (words : List ℕ) (fits : state_fits (state_in words) ≡ true) where

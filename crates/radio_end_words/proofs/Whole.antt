@@ -1,13 +1,13 @@
 -- The words of a whole state: a state has one form in words, and words that say a state are its words. Assumes nothing.
-use Prim.Native.Nat.{ℕ, zero, suc, ◌+◌, ◌*◌, ◌-◌, ◌≤◌, ◌<◌}
-use mathlib.Core.Bool.{Bool, true, false, cond, ◌&&◌, and-eq-true_iff}
-use mathlib.Core.List.{List, [], ◌∷◌, ◌++◌, append_assoc}
+use Prim.Native.Nat.{ℕ, ◌+◌, ◌*◌, ◌<◌}
+use mathlib.Core.Bool.{Bool, true, false, ◌&&◌, and-eq-true_iff}
+use mathlib.Core.List.{List, ◌++◌}
 use mathlib.Core.Path.{◌≡◌, refl, sym, ap, ◌∙◌}
 use native.Mathlib.Omega.{arith}
 use borrow.Author.Tests.{eqb-true, eq-eqb}
 use lib.Dec.{eqb}
-use lib.ListN.{length, take, drop, get_or, set, length-append, length-take, length-drop, take-append-drop, length-set}
-use lib.Seq.{take-append-add, drop-append-add, drop-drop, ext_get_or, get_or-take}
+use lib.ListN.{length, take, drop, get_or, length-drop, take-append-drop, length-set}
+use lib.Seq.{take-append-add, drop-append-add, drop-drop, ext_get_or}
 use Rattle.facts.specs.Tables.{tabulate}
 use Rattle.facts.proofs.Tables.{length_tabulate, get_d_tabulate}
 use Rattle.facts.proofs.Tests.{clash}
@@ -18,10 +18,10 @@ use Rattle.lent_messages.specs.Layout.{ABSENT, GIVEN}
 use Rattle.lent_messages.specs.Stated.{instance_stated, context_stated, instance_of, context_of}
 use Rattle.radio_end_state.specs.declared.channel.Channel.{Channel}
 use Rattle.radio_end_state.specs.State.{State, blank_state, no_channel, channel_at, with_channels, with_channel}
-use Rattle.radio_end_state.specs.Limits.{up_to, state_fits}
-use Rattle.radio_end_words.specs.Words.{HEAD, SLOT, COUNT-WORD, DATALINK-WORD, INSTANCE-TAG, INSTANCE-VALUE, INSTANCE-LENGTH, CONTEXT-TAG, CONTEXT-VALUE, CONTEXT-LENGTH, words_for, word, slot_start, slot, channel_in, state_of, spelled, name_spelled, head_spelled, all_spelled, readable, state_in, channel_words, slots_of, head_words, state_words}
+use Rattle.radio_end_state.specs.Limits.{state_fits}
+use Rattle.radio_end_words.specs.Words.{HEAD, SLOT, COUNT-WORD, INSTANCE-TAG, INSTANCE-VALUE, INSTANCE-LENGTH, CONTEXT-TAG, CONTEXT-VALUE, CONTEXT-LENGTH, words_for, word, slot_start, slot, channel_in, state_of, spelled, name_spelled, head_spelled, all_spelled, readable, state_in, channel_words, slots_of, head_words, state_words}
 use Rattle.radio_end_state.proofs.UpTo.{up_to_at, up_to_by}
-use Rattle.radio_end_words.proofs.Slots.{channel_back, channel_length, channel_says, channel_forth, eight, slots_length, slot_of, slots_put, slots_forth}
+use Rattle.radio_end_words.proofs.Slots.{channel_back, channel_says, eight, slots_length, slot_of, slots_put, slots_forth}
 
 -- ---- Link Instance and Context
 instance_back : (i : Instance) → instance_of (instance_stated i).tag (instance_stated i).first (instance_stated i).second ≡ i

@@ -2,8 +2,6 @@
 -- src/layout.rt, with `-` for `_`. A state has one form in words: what is absent is written as zeros.
 use Rattle.std.specs.Prelude.{ℕ, ◌+◌, ◌*◌, ◌^◌, ◌≤◌, ◌<◌, Bool, true, cond, ◌&&◌, List, [], ◌∷◌, ◌++◌, ◌≡◌, length, take, drop, get_or, eqb, leb}
 use Rattle.facts.specs.Tables.{tabulate}
-use Rattle.meaning.specs.declared.message.Instance.{Instance}
-use Rattle.meaning.specs.declared.message.Context.{Context}
 use Rattle.lent_messages.specs.Layout.{ABSENT, GIVEN}
 use Rattle.lent_messages.specs.Stated.{instance_stated, context_stated, instance_of, context_of}
 use Rattle.radio_flow.specs.declared.Highest.{Highest}
