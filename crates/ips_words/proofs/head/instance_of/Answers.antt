@@ -1,0 +1,12 @@
+-- `head::instance_of` meets its contract. Assumes nothing.
+use borrow.Author.Tests.{ne_eqb}
+use Rattle.ips_words.specs.Words.{ABSENT, instance_of}
+use Rattle.ips_words.proofs.head.instance_of.Goals as goal
+
+pub returns-then-tag-eq-ABSENT : goal.returns-then-tag-eq-ABSENT
+unfolding instance_of
+returns-then-tag-eq-ABSENT c = rw c.if-tag-eq-ABSENT.true
+
+pub returns : goal.returns
+unfolding instance_of
+returns c = rw (ne_eqb _ ABSENT c.if-tag-eq-ABSENT.false, c.narrow.ensures)

@@ -1,0 +1,7 @@
+-- `head::setting` meets its contract. Assumes nothing.
+use Rattle.ips_words.specs.Words.{state_of}
+use Rattle.ips_words.proofs.head.setting.Goals as goal
+
+pub returns : goal.returns
+unfolding state_of
+returns c = rw (c.datalink.ensures, c.byte.ensures)
