@@ -44,6 +44,7 @@ across_the_wrap =
 behind_it : {before : List Numbered} {m : Numbered} → Stands before m (hears 5 (given 540) ∷ sends 6 39 540 ∷ []) → 4 ≤ m.number
 behind_it here = omega arith
 behind_it (later here) = omega arith
+behind_it {m = m} (later (later {before = before} x12)) = elim x12 [ ]
 
 -- one byte more than fits, which plain numbers don't tell: 501 is far below 4294967000
 pub past_the_window : Breached 0 (hears 1 (given 500) ∷ sends 2 40 4294967000 ∷ sends 4 797 501 ∷ hears 5 (given 540) ∷ sends 6 39 540 ∷ []) 4

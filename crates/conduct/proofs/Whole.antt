@@ -37,6 +37,7 @@ use Rattle.conduct.proofs.Lists.{none_stands, ObeysFrom, flow_by, base_by, all_o
 module _ (ports : Ports) (id : DatalinkId) where
   numbers_rise : (reports : List Report) (number : ℕ) {before : List Numbered} {m : Numbered} → Stands before m (messages_from ports id number reports) → number ≤ m.number
   unfolding messages_from
+  numbers_rise [] number {before = before} {m = m} s = elim s [ ]
   numbers_rise (kept original frame ∷ reports) number s = go (outcome_of ports id original frame) (λ before m s. numbers_rise reports (suc number) s) s
     where
       go : (outcome : Outcome) → ((before : List Numbered) (m : Numbered) → Stands before m (messages_from ports id (suc number) reports) → suc number ≤ m.number)
