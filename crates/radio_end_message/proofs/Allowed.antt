@@ -1,12 +1,12 @@
 -- The message may always be written: number 20 is not given. Assumes nothing.
 use Prim.Native.Nat.{ℕ, zero, suc, ◌≤◌, ◌<◌}
-use mathlib.Core.Bool.{Bool, true, false, cond, ◌&&◌}
-use mathlib.Core.List.{List, [], ◌∷◌, map}
+use mathlib.Core.Bool.{Bool, true, false, cond}
+use mathlib.Core.List.{List, [], ◌∷◌}
 use mathlib.Core.Logic.{⊎_elim}
 use mathlib.Core.Path.{◌≡◌, refl, sym, ap, ◌∙◌}
 use native.Mathlib.Omega.{arith}
-use borrow.Author.Tests.{le-leb, ltb-true, eqb-true}
-use lib.Dec.{eqb, ltb, leb}
+use borrow.Author.Tests.{le-leb, ltb-true}
+use lib.Dec.{eqb}
 use lib.ListN.{length, get_or, set, replicate}
 use lib.Seq.{ext_get_or}
 use Rattle.facts.specs.Tables.{tabulate}
@@ -28,13 +28,13 @@ use Rattle.writable.specs.Allowed.{instance_allowed, context_allowed, status_all
 use Rattle.writer.specs.declared.answer.WriteAnswer.{WriteAnswer}
 use Rattle.writer.specs.Written.{control_written, Outcome}
 use Rattle.radio_end_state.specs.declared.channel.Channel.{Channel}
-use Rattle.radio_end_state.specs.Channel.{window_now, hearing_on}
+use Rattle.radio_end_state.specs.Channel.{hearing_on}
 use Rattle.radio_end_state.specs.State.{State, no_channel, channel_at}
-use Rattle.radio_end_state.specs.Limits.{index_of, has_id, ids, state_fits}
+use Rattle.radio_end_state.specs.Limits.{index_of, has_id, ids}
 use Rattle.radio_end_state.specs.Message.{status_for, window_for, message_of, message_bytes}
-use Rattle.radio_end_state.proofs.Fit.{ChannelFit, channel_fit, Fit, fit_facts, ids_at, ids_length}
+use Rattle.radio_end_state.proofs.Fit.{channel_fit, Fit, fit_facts, ids_at, ids_length}
 use Rattle.radio_end_message.specs.declared.tables.Tables.{Tables}
-use Rattle.radio_end_message.specs.Changed.{hears, changed_channels, changed, tables_of, Change}
+use Rattle.radio_end_message.specs.Changed.{changed_channels, changed, tables_of, Change}
 use Rattle.radio_end_message.proofs.Filling.{same_or_not, taken_place, kept_place, changed_length, changed_at, replaced_id}
 
 -- ---- each part of the message

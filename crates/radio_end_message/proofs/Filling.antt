@@ -1,6 +1,6 @@
 -- The tables filled from the last channel to the first: the first with an ID is the one that is stated. Assumes nothing.
-use Prim.Native.Nat.{ℕ, zero, suc, ◌+◌, ◌-◌, ◌≤◌, ◌<◌}
-use mathlib.Core.Bool.{Bool, true, false, cond}
+use Prim.Native.Nat.{ℕ, zero, suc, ◌-◌, ◌≤◌, ◌<◌}
+use mathlib.Core.Bool.{Bool, true, false}
 use mathlib.Core.List.{List, [], ◌∷◌, map}
 use mathlib.Core.Logic.{◌⊎◌, inl, inr, ⊎_elim}
 use mathlib.Core.Path.{◌≡◌, refl, sym, ap, ◌∙◌}
@@ -22,8 +22,7 @@ use Rattle.radio_end_state.specs.declared.channel.Channel.{Channel}
 use Rattle.radio_end_state.specs.Channel.{window_now, hearing_on}
 use Rattle.radio_end_state.specs.State.{State, no_channel, channel_at}
 use Rattle.radio_end_state.specs.Message.{status_for, window_for}
-use Rattle.radio_end_state.proofs.Fit.{ChannelFit, channel_fit, fit_facts}
-use Rattle.radio_end_message.specs.declared.tables.Tables.{Tables}
+use Rattle.radio_end_state.proofs.Fit.{channel_fit, fit_facts}
 use Rattle.radio_end_message.specs.Changed.{hears, changed_channels, tables_of, Replaces}
 
 eqb_sym : (a b : ℕ) → eqb a b ≡ eqb b a

@@ -5,7 +5,6 @@ use Rattle.facts.specs.Tables.{tabulate}
 use Rattle.quantity.specs.Limits.{CHANNEL-IDS}
 use Rattle.meaning.specs.declared.message.End.TheVariants as ends
 use Rattle.meaning.specs.declared.message.Context.{Context}
-use Rattle.meaning.specs.declared.message.Sequence.{Sequence}
 use Rattle.meaning.specs.declared.message.SequenceCell.{SequenceCell}
 use Rattle.meaning.specs.Cells.{no_sequence}
 use Rattle.writable.specs.Allowed.{context_allowed}
