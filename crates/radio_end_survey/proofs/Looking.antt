@@ -1,17 +1,16 @@
 -- Each way out of the survey. Assumes nothing.
 use Prim.Native.Nat.{ℕ, ◌+◌, ◌*◌, ◌≤◌, ◌<◌}
-use mathlib.Core.Bool.{Bool, true, false, ◌&&◌, and-false}
+use mathlib.Core.Bool.{Bool, true, false, and-false}
 use mathlib.Core.List.{List}
-use mathlib.Core.Path.{◌≡◌, refl, sym, ap, ◌∙◌}
+use mathlib.Core.Path.{◌≡◌, refl}
 use native.Mathlib.Omega.{arith}
 use borrow.Author.Tests.{eq-eqb, ne_eqb, lt-leb, le-leb, le-ltb, lt-ltb}
-use lib.Dec.{eqb, leb, ltb}
+use lib.Dec.{eqb, leb}
 use lib.ListN.{length}
 use Rattle.facts.proofs.Tables.{length_tabulate}
 use Rattle.quantity.specs.Limits.{FEWEST-CHANNELS, MOST-CHANNELS}
-use Rattle.radio_end_state.specs.State.{State}
-use Rattle.radio_end_state.specs.Limits.{count_fits, datalink_fits, names_fit, all_fit, ids_fit, ids, state_fits}
-use Rattle.radio_end_words.specs.Words.{HEAD, SLOT, COUNT-WORD, DATALINK-WORD, words_for, word, slot, channel_in, state_of, head_spelled, all_spelled, readable, state_in, Counted}
+use Rattle.radio_end_state.specs.Limits.{datalink_fits, names_fit, state_fits}
+use Rattle.radio_end_words.specs.Words.{HEAD, SLOT, COUNT-WORD, DATALINK-WORD, words_for, word, slot, channel_in, state_of, head_spelled, all_spelled, readable, state_in}
 use Rattle.radio_end_words.proofs.Whole.{says, says_nothing, blank_unfit}
 use Rattle.radio_end_survey.proofs.Walking.{walked}
 

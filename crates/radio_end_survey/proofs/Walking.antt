@@ -1,5 +1,5 @@
 -- The pass over the channels. Assumes nothing.
-use Prim.Native.Nat.{ℕ, suc, ◌+◌, ◌*◌, ◌-◌, ◌≤◌, ◌<◌}
+use Prim.Native.Nat.{ℕ, ◌+◌, ◌-◌, ◌≤◌, ◌<◌}
 use mathlib.Core.Bool.{Bool, true, false, ◌&&◌, and-false, and-eq-true_iff}
 use mathlib.Core.List.{List}
 use mathlib.Core.Logic.{⊎_elim}
@@ -7,14 +7,14 @@ use mathlib.Core.Path.{◌≡◌, refl, sym, ap, ◌∙◌}
 use native.Mathlib.Nat.{eq-or-lt_of_le}
 use native.Mathlib.Omega.{arith}
 use borrow.Author.Tests.{eq-eqb, ne_eqb}
-use lib.Dec.{eqb, ltb}
+use lib.Dec.{ltb}
 use lib.ListN.{length, take, drop, get_or, length-take, length-drop}
 use Rattle.radio_end_state.specs.declared.channel.Channel.{Channel}
 use Rattle.radio_end_state.specs.State.{no_channel}
 use Rattle.radio_end_state.specs.Limits.{up_to, index_of, has_id, stands_first, ids_fit, channel_fits, all_fit, ids}
 use Rattle.radio_end_state.proofs.UpTo.{up_to_by, up_to_out}
 use Rattle.radio_end_state.proofs.Fit.{ids_length}
-use Rattle.radio_end_words.specs.Words.{HEAD, SLOT, ID, words_for, word, slot_start, slot, channel_in, state_of, spelled, all_spelled, Counted}
+use Rattle.radio_end_words.specs.Words.{HEAD, SLOT, ID, word, slot_start, slot, channel_in, state_of, spelled, all_spelled, Counted}
 use Rattle.radio_end_words.proofs.Placing.{numbers_length, said_channel, number_at}
 
 -- what one channel has to pass

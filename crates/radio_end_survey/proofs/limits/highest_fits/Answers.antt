@@ -1,0 +1,12 @@
+-- `limits::highest_fits` meets its contract. Assumes nothing.
+use borrow.Author.Tests.{ne_eqb}
+use Rattle.radio_end_words.specs.Words.{UNHEARD, highest_of}
+use Rattle.radio_end_survey.proofs.limits.highest_fits.Goals as goal
+
+pub returns-then-tag-eq-UNHEARD : goal.returns-then-tag-eq-UNHEARD
+unfolding highest_of
+returns-then-tag-eq-UNHEARD c = rw c.if-tag-eq-UNHEARD.true
+
+pub returns : goal.returns
+unfolding highest_of
+returns c = rw (ne_eqb c.args.tag UNHEARD c.if-tag-eq-UNHEARD.false)
