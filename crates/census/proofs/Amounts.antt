@@ -2,11 +2,11 @@
 use mathlib.Core.Path.{◌≡◌, refl, sym, ap, ◌∙◌}
 use mathlib.Core.Bool.{Bool, true, false, cond}
 use mathlib.Core.List.{List, [], ◌∷◌, ◌++◌}
-use Prim.Native.Nat.{ℕ, zero, suc, ◌+◌, ◌*◌, ◌≤◌, ◌<◌, min}
+use Prim.Native.Nat.{ℕ, zero, suc, ◌+◌, ◌*◌, ◌≤◌, ◌<◌}
 use native.Mathlib.Omega.{arith}
 use borrow.Author.Tests.{eq-eqb, ne_eqb, eqb-true, eqb-false}
 use lib.Dec.{eqb}
-use lib.ListN.{length, get_or, set, length-set}
+use lib.ListN.{length, get_or, length-set}
 use lib.Seq.{get_or-set_same, get_or-set_other}
 use Rattle.meaning.specs.declared.message.End.{End}
 use Rattle.meaning.specs.declared.message.Window.{Window}
@@ -14,7 +14,7 @@ use Rattle.meaning.specs.declared.message.WindowCell.{WindowCell}
 use Rattle.acceptance.specs.Numbers.{OfReading}
 use Rattle.census.specs.Adding.{MOST, plus, Add, to, add_at, add_all}
 use Rattle.census.specs.Outcomes.{Reading, refused, control, carried, astray, Outcome, skipped, message}
-use Rattle.census.specs.Places.{RECORDS, SKIPPED, REFUSALS, PACKETS, BYTES, WINDOWS, end_place, window_adds, windows_from, granted_adds, reading_adds, message_adds, adds_of}
+use Rattle.census.specs.Places.{RECORDS, SKIPPED, REFUSALS, PACKETS, BYTES, WINDOWS, end_place, window_adds, windows_from, granted_adds, reading_adds, adds_of}
 use Rattle.census.specs.Counts.{one, is_given, window_in, Count, all, skips, messages, refusals, packets, bytes, windows, place_of, amount_of, Counted}
 
 -- ---- the amount that is added at a place

@@ -1,5 +1,5 @@
 -- "the destination tells the direction": whose message a record is, by the port that its datagram goes to; any other record is skipped. Assumes nothing.
-use mathlib.Core.Path.{◌≡◌, refl, sym, ap, ◌∙◌}
+use mathlib.Core.Path.{◌≡◌, refl, sym, ◌∙◌}
 use mathlib.Core.List.{List}
 use Prim.Native.Nat.{ℕ, suc, ◌*◌}
 use borrow.Author.Tests.{eq-eqb, ne_eqb}
@@ -8,10 +8,10 @@ use Rattle.meaning.specs.declared.message.End.{End}
 use Rattle.ethernet.specs.declared.Kind.{Kind}
 use Rattle.ethernet.specs.declared.Ports.{Ports}
 use Rattle.ethernet.specs.Layers.{packet_of, carried_of, destination_port, datagram_of}
-use Rattle.ethernet.specs.Kinds.{kind_of, port_kind, HoldsUdp}
+use Rattle.ethernet.specs.Kinds.{kind_of, HoldsUdp}
 use Rattle.ethernet.proofs.Exactly.{Tells, kind_tells, udp_is}
 use Rattle.census.specs.Adding.{MOST}
-use Rattle.census.specs.Outcomes.{Outcome, skipped, message, sender_of, by_sender, reading_of, outcome_of}
+use Rattle.census.specs.Outcomes.{skipped, message, sender_of, by_sender, reading_of, outcome_of}
 
 -- "unsigned 64 bits"
 pub most_is : suc MOST ≡ 4294967296 * 4294967296

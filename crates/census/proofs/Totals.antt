@@ -2,7 +2,7 @@
 use mathlib.Core.Path.{◌≡◌, refl, sym, ap, ◌∙◌}
 use mathlib.Core.Bool.{Bool, true, false, cond}
 use mathlib.Core.List.{List, [], ◌∷◌}
-use Prim.Native.Nat.{ℕ, zero, suc, ◌+◌, ◌*◌, ◌≤◌, ◌<◌, min}
+use Prim.Native.Nat.{ℕ, zero, suc, ◌+◌, ◌≤◌, ◌<◌, min}
 use native.Mathlib.Omega.{arith}
 use borrow.Author.Tests.{eq-eqb, ne_eqb, leb-true, leb-false}
 use lib.Dec.{eqb, leb}
@@ -16,7 +16,7 @@ use Rattle.records.specs.Files as files
 use Rattle.records.proofs.Files.{Short, file_short}
 use Rattle.ethernet.specs.declared.Ports.{Ports}
 use Rattle.census.specs.Adding.{MOST, plus, add_all}
-use Rattle.census.specs.Outcomes.{Reading, refused, control, carried, astray, Outcome, skipped, message, outcome_of}
+use Rattle.census.specs.Outcomes.{refused, control, carried, astray, Outcome, skipped, message}
 use Rattle.census.specs.Places.{PLACES, adds_of}
 use Rattle.census.specs.Counts.{one, is_accepted, Count, all, skips, messages, refusals, packets, bytes, windows, place_of, amount_of, Counted, outcomes_of, having, total_of, refused_up_to, count_all}
 use Rattle.census.proofs.Turns.{add_length}

@@ -8,7 +8,7 @@ use Rattle.records.specs.Files.{Report, kept}
 use Rattle.records.specs.Files as files
 use Rattle.ethernet.specs.declared.Ports.{Ports}
 use Rattle.census.specs.Adding.{add_all}
-use Rattle.census.specs.Outcomes.{Reading, refused, control, carried, astray, Outcome, skipped, message, outcome_of}
+use Rattle.census.specs.Outcomes.{refused, control, carried, astray, Outcome, skipped, message, outcome_of}
 use Rattle.census.specs.Places.{RECORDS, SKIPPED, REFUSALS, PACKETS, BYTES, WINDOWS, end_place, adds_of}
 
 -- ---- of a record
