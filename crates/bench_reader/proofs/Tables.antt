@@ -6,7 +6,6 @@ use Rattle.quantity.specs.declared.count.DatalinkId.{DatalinkId}
 use Rattle.quantity.specs.Limits.{CHANNEL-IDS}
 use Rattle.wire.specs.Options.{split}
 use Rattle.meaning.specs.declared.message.End.{End}
-use Rattle.meaning.specs.declared.message.Control.{Control}
 use Rattle.read_rules.specs.Judging.{judge}
 use Rattle.read_rules.specs.Sorts.{rules_of}
 use Rattle.read_control.specs.Message.{blank_control, control_sort}
