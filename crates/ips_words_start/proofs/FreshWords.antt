@@ -14,7 +14,7 @@ use Rattle.ips_channel.specs.Channel.{fresh_channel}
 use Rattle.pacer.specs.Pacing.{fresh_pacer}
 use Rattle.ips_state.specs.State.{ChannelStart, Configuration, no_start, no_channel, fresh_of, fresh_state, blank_configuration}
 use Rattle.ips_state.proofs.Channels.{get_d_mapped}
-use Rattle.ips_words.specs.Words.{SLOT, DATALINK-WORD, COUNT-WORD, INSTANCE-TAG, CONTEXT-TAG, CODES-WORD, word, words_for, slot, channel_in, channel_words, instance_of, context_of, pacer_in, state_of, state_in, spelled, all_spelled, head_spelled, readable, flow_window, Narrow}
+use Rattle.ips_words.specs.Words.{SLOT, DATALINK-WORD, COUNT-WORD, INSTANCE-TAG, CONTEXT-TAG, CODES-WORD, word, words_for, slot, channel_in, channel_words, instance_of, context_of, pacer_in, state_of, state_in, all_spelled, head_spelled, readable, flow_window, Narrow}
 use Rattle.ips_words.proofs.Entries.{tidy_of_lem}
 use Rattle.ips_words.proofs.Slots.{channel_back, words_spelled}
 use Rattle.ips_words_start.specs.Start.{CONFIGURED-COUNT, start_in, starts_of, configuration_of, configuration_readable, configuration_in, head_words, slots_of, fresh_words}
