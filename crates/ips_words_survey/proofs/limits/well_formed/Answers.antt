@@ -1,6 +1,5 @@
 -- `limits::well_formed` meets its contract: the law of each turn is `Summing`'s. Assumes nothing.
 use mathlib.Core.Bool.{and-false}
-use Prim.Native.Nat.{◌-◌}
 use native.Mathlib.Omega.{arith}
 use borrow.Author.Tests.{le-leb, lt-leb}
 use Rattle.quantity.specs.Limits.{SHORTEST-PACKET, LONGEST-PACKET}
