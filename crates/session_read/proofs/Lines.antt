@@ -1,13 +1,13 @@
 -- A line read by the table: its numbers are within their bounds, and ask for what the line does. Assumes nothing.
 use mathlib.Core.Path.{◌≡◌, refl, sym, subst}
 use mathlib.Core.List.{List, []}
-use Prim.Native.Nat.{ℕ, ◌≤◌, ◌<◌}
+use Prim.Native.Nat.{ℕ}
 use native.Mathlib.Decide.{dec_le}
 use native.Mathlib.Omega.{arith}
 use lib.ListN.{length, get_or, replicate, length-replicate, get_or-replicate, get_or-eq_default}
 use Rattle.line_rows.specs.declared.table.Told.{Told}
 use Rattle.line_rows.specs.Rows.{over}
-use Rattle.line_rows.specs.Tables.{items_behind, said_in, key_in, Reads}
+use Rattle.line_rows.specs.Tables.{items_behind, Reads}
 use Rattle.line_rows.specs.Places.{keyed_of, row_of_key, written_out, Within}
 use Rattle.line_rows.proofs.Places.{reads_within, reads_numbers}
 use Rattle.session_read.specs.declared.asked.Asked.{Asked}

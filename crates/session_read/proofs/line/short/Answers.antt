@@ -1,0 +1,14 @@
+-- `line::short` meets its contract. Assumes nothing.
+use native.Mathlib.Omega.{arith}
+use borrow.Author.Tests.{lt-ltb, le-ltb}
+use lib.ListN.{length}
+use Rattle.session_read.specs.Lines.{LONGEST-LINE, shortened}
+use Rattle.session_read.proofs.line.short.Goals as goal
+
+pub returns-then-line-gt-LONGEST_LINE : goal.returns-then-line-gt-LONGEST_LINE
+unfolding shortened
+returns-then-line-gt-LONGEST_LINE c = rw (lt-ltb LONGEST-LINE (length c.args.line.now) (omega arith))
+
+pub returns : goal.returns
+unfolding shortened
+returns c = rw (le-ltb LONGEST-LINE (length c.args.line.now) (omega arith))
