@@ -1,5 +1,5 @@
 -- Records in literal bytes, each computed. Assumes nothing.
-use mathlib.Core.Path.{◌≡◌, refl}
+use mathlib.Core.Path.{refl}
 use Rattle.octets.specs.Bytes.{slice}
 use Rattle.facts.specs.Tables.{tabulate}
 use Rattle.wire.specs.Numbers.{number_from}
