@@ -1,20 +1,17 @@
 -- Each way out of a call. Assumes nothing.
 use Prim.Native.Nat.{ℕ, ◌≤◌, ◌<◌}
 use mathlib.Core.Bool.{Bool, true, false, cond, not}
-use mathlib.Core.List.{List, []}
+use mathlib.Core.List.{List}
 use mathlib.Core.Path.{◌≡◌, refl, sym, ap, ◌∙◌}
 use native.Mathlib.Omega.{arith}
 use borrow.Author.Tests.{ltb-true, lt-ltb, le-ltb}
-use lib.Dec.{ltb}
 use lib.ListN.{length, get_or, replicate, get_or-eq_default}
 use Rattle.quantity.specs.declared.count.ByteCount.{ByteCount}
 use Rattle.quantity.specs.declared.refusal.Refusal.{Refusal}
-use Rattle.quantity.specs.Limits.{CHANNEL-IDS}
 use Rattle.quantity.specs.Refusals.{NO-CHANNEL, NO-ROOM, OUTSIDE-LIMITS}
 use Rattle.wire.specs.Options.{over}
 use Rattle.meaning.specs.declared.message.End.TheVariants as ends
 use Rattle.meaning.specs.declared.message.Context.{Context}
-use Rattle.meaning.specs.declared.message.Control.{Control}
 use Rattle.meaning.specs.Cells.{no_sequence}
 use Rattle.writable.specs.Allowed.{context_allowed}
 use Rattle.writer.specs.declared.answer.WriteAnswer.{WriteAnswer}
@@ -23,16 +20,15 @@ use Rattle.radio_end_state.specs.declared.answer.Answer.{Answer}
 use Rattle.radio_end_state.specs.declared.channel.Channel.{Channel}
 use Rattle.radio_end_state.specs.Channel.{channel_differs}
 use Rattle.radio_end_state.specs.State.{State, no_channel, channel_at, with_channel, with_context}
-use Rattle.radio_end_state.specs.Limits.{ids, index_of, has_id, is_configured, index_in, state_fits}
+use Rattle.radio_end_state.specs.Limits.{ids, has_id, is_configured, index_in, state_fits}
 use Rattle.radio_end_state.specs.Message.{message_bytes, same_context, differs}
-use Rattle.radio_end_state.specs.Calls.{After, refused_at, refused_by, telling, quietly, settling, changing, within, configured, hearing_all}
+use Rattle.radio_end_state.specs.Calls.{After, refused_by, telling, settling, changing, within, configured}
 use Rattle.radio_end_state.proofs.Fit.{ids_length, channel_fit, fit_facts}
 use Rattle.radio_end_words.specs.Words.{state_words, state_in, Placed}
-use Rattle.radio_end_words.proofs.Whole.{fit_words}
-use Rattle.radio_end_message.specs.Changed.{changed, Replaces, Change}
+use Rattle.radio_end_message.specs.Changed.{changed, Change}
 use Rattle.radio_end_telling.specs.declared.locate.Found.{Found}
 use Rattle.radio_end_telling.specs.Left.{is_refused, Left, found_of, Settles}
-use Rattle.radio_end_telling.proofs.Changing.{changed_channel, changed_context, changed_nothing, changed_heard, differs_channel, differs_context}
+use Rattle.radio_end_telling.proofs.Changing.{changed_channel, changed_context, differs_channel, differs_context}
 
 abbrev pub came : Answer → State → List ℕ → After
 came answer s out = record { answer = answer; state = s; output = out }

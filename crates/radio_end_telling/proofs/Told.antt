@@ -1,8 +1,8 @@
 -- The calls of the radio's own side, each way out. Assumes nothing.
 use Prim.Native.Nat.{ℕ, ◌≤◌, ◌<◌}
-use mathlib.Core.Bool.{Bool, true, false, cond}
+use mathlib.Core.Bool.{true, false}
 use mathlib.Core.List.{List, []}
-use mathlib.Core.Path.{◌≡◌, refl, sym, ap, ◌∙◌}
+use mathlib.Core.Path.{◌≡◌, refl, sym, ◌∙◌}
 use borrow.Author.Tests.{le-leb, lt-leb}
 use lib.ListN.{length, replicate}
 use Rattle.quantity.specs.declared.count.ByteCount.{ByteCount}
@@ -19,17 +19,17 @@ use Rattle.writer.specs.Written.{Outcome}
 use Rattle.radio_end_state.specs.declared.answer.Answer.{Answer}
 use Rattle.radio_end_state.specs.declared.channel.Channel.{Channel}
 use Rattle.radio_end_state.specs.Channel.{with_queued, with_status}
-use Rattle.radio_end_state.specs.State.{State, no_channel, channel_at, with_channel, with_context, with_instance}
-use Rattle.radio_end_state.specs.Limits.{index_in, state_fits}
+use Rattle.radio_end_state.specs.State.{no_channel, channel_at, with_channel, with_context, with_instance}
+use Rattle.radio_end_state.specs.Limits.{state_fits}
 use Rattle.radio_end_state.specs.Message.{message_bytes}
-use Rattle.radio_end_state.specs.Calls.{After, refused_by, settling, changing, within, configured, writable, quietly, telling, status_told, queued_told, context_told, link_told, told}
+use Rattle.radio_end_state.specs.Calls.{After, settling, status_told, queued_told, context_told, link_told, told}
 use Rattle.radio_end_words.specs.Words.{state_in, state_words}
 use Rattle.radio_end_words.proofs.Whole.{fit_words}
 use Rattle.radio_end_message.specs.Changed.{changed}
 use Rattle.radio_end_telling.specs.declared.locate.Found.{Found}
 use Rattle.radio_end_telling.specs.Left.{Left, found_of}
 use Rattle.radio_end_telling.proofs.Changing.{changed_nothing}
-use Rattle.radio_end_telling.proofs.Settling.{left_by_lem, left_refused, told_wrote, told_refused, FoundAt, found_at, found_call, found_refused, changing_is}
+use Rattle.radio_end_telling.proofs.Settling.{left_by_lem, left_refused, told_wrote, told_refused, FoundAt, found_call, found_refused, changing_is}
 
 -- one call is another, so it leaves the same
 pub left_as : (after other : After) (words : List ℕ) (answer : Answer) (words' out' : List ℕ) → after ≡ other → Left other words answer words' out' → Left after words answer words' out'

@@ -1,15 +1,12 @@
 -- The one contract of every call on words: the answer, every word and every byte of the output, for refused calls too.
-use Rattle.std.specs.Prelude.{ℕ, ◌≤◌, Bool, true, false, cond, not, ◌||◌, List, map, ◌≡◌, length, get_or}
-use Rattle.quantity.specs.Limits.{CHANNEL-IDS}
+use Rattle.std.specs.Prelude.{ℕ, ◌≤◌, Bool, true, false, cond, List, ◌≡◌}
 use Rattle.quantity.specs.Refusals.{NO-CHANNEL, OUTSIDE-LIMITS}
-use Rattle.meaning.specs.declared.message.SequenceCell.{SequenceCell}
 use Rattle.radio_end_state.specs.declared.answer.Answer.{Answer}
 use Rattle.radio_end_state.specs.declared.channel.Channel.{Channel}
-use Rattle.radio_end_state.specs.State.{State, channel_at, with_channels}
+use Rattle.radio_end_state.specs.State.{State, channel_at}
 use Rattle.radio_end_state.specs.Limits.{state_fits, is_configured, index_in}
 use Rattle.radio_end_state.specs.Calls.{After}
 use Rattle.radio_end_words.specs.Words.{state_words, Placed}
-use Rattle.radio_end_message.specs.Changed.{hears}
 use Rattle.radio_end_telling.specs.declared.locate.Found.{Found}
 
 abbrev pub is_refused : Answer → Bool
