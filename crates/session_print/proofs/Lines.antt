@@ -1,13 +1,13 @@
 -- The answer to a line that isn't about a state, from what was read of it. Assumes nothing.
 use mathlib.Core.Path.{◌≡◌, refl, ap, ◌∙◌}
-use mathlib.Core.List.{List, ◌++◌}
+use mathlib.Core.List.{List}
 use Prim.Native.Nat.{ℕ, ◌≤◌}
 use native.Mathlib.Omega.{arith}
 use lib.ListN.{length, take, drop, length-append}
 use lib.Seq.{take_at}
 use Rattle.message_words.specs.Saying.{Says}
 use Rattle.session_read.specs.declared.line.Line.{Line}
-use Rattle.session_read.specs.Lines.{said_by, asked_of, Asks}
+use Rattle.session_read.specs.Lines.{said_by, Asks}
 use Rattle.session_print.specs.Messages.{message_texts, answer_texts}
 
 module _ {lent line : List ℕ} {r : Line} {words' lent' : List ℕ} (k : Asks lent line r words' lent') where

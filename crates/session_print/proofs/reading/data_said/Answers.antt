@@ -1,0 +1,9 @@
+-- `reading::data_said` meets its contract, by the verdict. Assumes nothing.
+use Rattle.message_words.proofs.Saying.{says_none}
+use Rattle.session_print.proofs.reading.data_said.Goals as goal
+
+pub returns-in-OtherPlane : goal.returns-in-OtherPlane
+returns-in-OtherPlane c = rw c.in-OtherPlane.is (says_none _ _)
+
+pub returns-in-Refused : goal.returns-in-Refused
+returns-in-Refused c = rw c.in-Refused.is c.refused.ensures
