@@ -1,6 +1,6 @@
 -- The message that Tell writes after a start. Assumes nothing.
 use Prim.Native.Nat.{ℕ, zero, suc, ◌≤◌, ◌<◌}
-use mathlib.Core.Bool.{true, false}
+use mathlib.Core.Bool.{true}
 use mathlib.Core.List.{List, [], ◌∷◌, map}
 use mathlib.Core.Logic.{inl, inr}
 use mathlib.Core.Path.{◌≡◌, refl, sym, ap, ◌∙◌}
@@ -20,7 +20,7 @@ use Rattle.radio_end_state.specs.Channel.{fresh_channel}
 use Rattle.radio_end_state.specs.State.{Configuration, no_setting, no_channel, channel_at, fresh_state}
 use Rattle.radio_end_state.specs.Limits.{state_fits}
 use Rattle.radio_end_state.specs.Message.{message_of, message_bytes}
-use Rattle.radio_end_state.specs.Calls.{After, told}
+use Rattle.radio_end_state.specs.Calls.{told}
 use Rattle.radio_end_laws.specs.Plain.{WindowIs, Names, status_of, window_of}
 use Rattle.radio_end_laws.specs.Given.{NoRoom}
 use Rattle.radio_end_laws.specs.Fresh.{TellsFresh, FreshTold}

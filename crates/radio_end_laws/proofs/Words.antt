@@ -8,22 +8,19 @@ use native.Mathlib.Omega.{arith}
 use borrow.Author.Tests.{leb-true, le-leb, eqb-true, eq-eqb}
 use lib.Dec.{eqb, leb}
 use lib.ListN.{length, get_or}
-use Rattle.facts.specs.Tables.{tabulate}
 use Rattle.facts.proofs.Tests.{clash, by_le}
 use Rattle.facts.proofs.Tables.{length_tabulate, get_d_tabulate}
 use Rattle.quantity.specs.declared.count.FlowSequence.{FlowSequence}
-use Rattle.meaning.specs.declared.message.Instance.{Instance}
-use Rattle.meaning.specs.declared.message.Context.{Context}
 use Rattle.lent_messages.specs.Stated.{instance_of, context_of}
 use Rattle.radio_flow.specs.declared.Highest.{Highest}
 use Rattle.radio_end_state.specs.declared.channel.Channel.{Channel}
-use Rattle.radio_end_state.specs.State.{State, no_channel, channel_at}
+use Rattle.radio_end_state.specs.State.{no_channel, channel_at}
 use Rattle.radio_end_state.specs.Limits.{state_fits}
 use Rattle.radio_end_state.proofs.UpTo.{up_to_by}
 use Rattle.radio_end_words.specs.Words.{highest_of, channel_in, slot, state_of, highest_spelled, spelled, name_spelled, head_spelled, all_spelled, readable, state_in}
 use Rattle.radio_end_words.proofs.Placing.{slot_word}
 use Rattle.radio_end_words.proofs.Whole.{readable_facts, says, fit_readable}
-use Rattle.radio_end_laws.specs.Plain.{Stands, Has, Spelled, ContextWritable, InstanceWritable}
+use Rattle.radio_end_laws.specs.Plain.{ContextWritable, InstanceWritable}
 use Rattle.radio_end_laws.specs.Limits.{ChannelWithin, WithinLimits}
 use Rattle.radio_end_laws.specs.Words.{ChannelWordsWithin, NameWordsWithin, WordsWithin, ChannelSaid, StateSaid}
 use Rattle.radio_end_laws.proofs.Limits.{limits_exactly}

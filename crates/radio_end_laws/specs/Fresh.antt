@@ -1,6 +1,6 @@
 -- What the message says after a start, in literal numbers. Source document 000, section 4.5.2: "After initialization, the Airborne Radio endpoint sends a
 -- control-plane CIRI message having a Flow Window option without the Flow Window field for each flow-controlled datalink channel."
-use Rattle.std.specs.Prelude.{ℕ, ◌<◌, true, false, List, ◌≡◌, length, get_or, take}
+use Rattle.std.specs.Prelude.{ℕ, ◌<◌, true, false, ◌≡◌, length, get_or, take}
 use Rattle.quantity.specs.declared.count.ByteCount.{ByteCount}
 use Rattle.meaning.specs.declared.message.End.TheVariants as ends
 use Rattle.meaning.specs.declared.message.Datalink.{Datalink}
