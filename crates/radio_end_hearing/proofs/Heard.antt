@@ -1,6 +1,6 @@
 -- Each way out of hearing. Assumes nothing.
-use Prim.Native.Nat.{ℕ, ◌-◌, ◌≤◌, ◌<◌}
-use mathlib.Core.Bool.{Bool, true, false, cond}
+use Prim.Native.Nat.{ℕ, ◌-◌, ◌≤◌}
+use mathlib.Core.Bool.{true, false}
 use mathlib.Core.List.{List}
 use mathlib.Core.Path.{◌≡◌, refl, sym, ap, ◌∙◌}
 use native.Mathlib.Omega.{arith}
@@ -16,7 +16,7 @@ use Rattle.meaning.specs.declared.message.Data.{Data}
 use Rattle.writer.specs.declared.answer.WriteAnswer.{WriteAnswer}
 use Rattle.writer.specs.Written.{Outcome}
 use Rattle.read_data.specs.Packet.{start_with}
-use Rattle.reader.specs.Readings.{Verdict, ControlReading, DataReading, CarriedReading, Carries, plane_of, read_control, read_data, read_carried, packet_of, carried_reading}
+use Rattle.reader.specs.Readings.{Verdict, ControlReading, CarriedReading, Carries, plane_of, read_control, read_data, read_carried, packet_of, carried_reading}
 use Rattle.reader.specs.declared.answer.PlaneAnswer.{PlaneAnswer}
 use Rattle.radio_end_state.specs.declared.answer.Answer.{Answer}
 use Rattle.radio_end_state.specs.declared.channel.Channel.{Channel}
@@ -24,14 +24,13 @@ use Rattle.radio_end_state.specs.Channel.{hearing_on, with_queued, queueing}
 use Rattle.radio_end_state.specs.State.{State, no_channel, channel_at, with_channel}
 use Rattle.radio_end_state.specs.Limits.{index_in, state_fits}
 use Rattle.radio_end_state.specs.Message.{message_bytes}
-use Rattle.radio_end_state.specs.Calls.{After, refused_at, refused_by, quietly, within, configured, settling, telling, lacks_none, hearing_all, control_heard, channel_named, data_on, data_heard, control_read, data_read, by_verdict, heard}
+use Rattle.radio_end_state.specs.Calls.{After, within, configured, settling, lacks_none, hearing_all, control_heard, channel_named, data_on, data_heard, control_read, data_read, by_verdict, heard}
 use Rattle.radio_end_words.specs.Words.{state_in, state_words}
-use Rattle.radio_end_words.proofs.Whole.{fit_words}
 use Rattle.radio_end_message.specs.Changed.{changed}
 use Rattle.radio_end_telling.specs.declared.locate.Found.{Found}
 use Rattle.radio_end_telling.specs.Left.{Left, found_of, Settles}
 use Rattle.radio_end_telling.proofs.Changing.{changed_heard}
-use Rattle.radio_end_telling.proofs.Settling.{left_by_lem, left_refused, told_wrote, told_refused, FoundAt, found_call, found_refused, found_settles, found_low, changing_is}
+use Rattle.radio_end_telling.proofs.Settling.{left_by_lem, left_refused, told_wrote, told_refused, FoundAt, found_refused, found_settles, found_low, changing_is}
 use Rattle.radio_end_telling.proofs.Told.{left_as}
 
 -- ---- a data message

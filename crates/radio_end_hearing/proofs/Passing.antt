@@ -1,29 +1,27 @@
 -- The two passes over a control message. Assumes nothing.
-use Prim.Native.Nat.{ℕ, zero, suc, ◌+◌, ◌*◌, ◌-◌, ◌≤◌, ◌<◌}
+use Prim.Native.Nat.{ℕ, zero, suc, ◌+◌, ◌-◌, ◌≤◌, ◌<◌}
 use mathlib.Core.Bool.{Bool, true, false, not, ◌||◌}
-use mathlib.Core.List.{List, [], ◌∷◌, ◌++◌, map, append-nil}
+use mathlib.Core.List.{List, [], ◌∷◌, map, append-nil}
 use mathlib.Core.Logic.{⊎_elim}
 use mathlib.Core.Path.{◌≡◌, refl, sym, ap, ◌∙◌}
 use native.Mathlib.Nat.{eq-or-lt_of_le}
 use native.Mathlib.Numerals.{add-one}
 use native.Mathlib.Omega.{arith}
-use borrow.Author.Tests.{lt-ltb, le-ltb}
 use borrow.Rule.Slice.PartMut.{put_mid}
 use lib.Dec.{ltb}
 use lib.ListN.{length, take, drop, get_or, set, drop_of_length-le}
 use lib.Seq.{take_all, drop-drop}
 use Rattle.quantity.specs.Limits.{CHANNEL-IDS}
-use Rattle.meaning.specs.declared.message.Sequence.{Sequence}
 use Rattle.meaning.specs.declared.message.SequenceCell.{SequenceCell}
 use Rattle.meaning.specs.declared.message.Control.{Control}
 use Rattle.meaning.specs.Cells.{no_sequence}
 use Rattle.radio_end_state.specs.declared.channel.Channel.{Channel}
 use Rattle.radio_end_state.specs.Channel.{hearing_on}
 use Rattle.radio_end_state.specs.State.{State, no_channel, channel_at, with_channels, with_channel}
-use Rattle.radio_end_state.specs.Limits.{up_to, ids, has_id, is_configured, index_in, state_fits}
+use Rattle.radio_end_state.specs.Limits.{has_id, is_configured, index_in, state_fits}
 use Rattle.radio_end_state.specs.Calls.{sequence_in, is_stated, names_own, lacks_none, hearing_all}
 use Rattle.radio_end_state.proofs.UpTo.{up_to_by, up_to_out}
-use Rattle.radio_end_state.proofs.Fit.{ChannelFit, channel_fit, Fit, fit_facts, ids_length}
+use Rattle.radio_end_state.proofs.Fit.{ChannelFit, channel_fit, fit_facts, ids_length}
 use Rattle.radio_end_words.specs.Words.{HEAD, SLOT, words_for, slot_start, slot, channel_in, state_in, channel_words, state_words, Loadable}
 use Rattle.radio_end_words.proofs.Slots.{channel_back}
 use Rattle.radio_end_words.proofs.Whole.{state_length, slot_state, put_channel_lem, fit_words}
