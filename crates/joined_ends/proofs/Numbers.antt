@@ -17,7 +17,7 @@ use Rattle.ips_run.proofs.Whole.{sees_append}
 use Rattle.radio_flow.specs.Numbers.{number_of, larger, number_after}
 use Rattle.joined.specs.Net.{Heard, unheard, heard_to, after_hearing, Told, TopIs, Reach, stays, goes_on}
 use Rattle.joined.proofs.Net.{top_more}
-use Rattle.joined_ends.specs.Ends.{written_in, Down, Ends, down_as, heard_now, top_with, telling_of, heard_in, channel_after, after_call, Step, acts, calls, start}
+use Rattle.joined_ends.specs.Ends.{written_in, Down, Ends, down_as, heard_now, top_with, telling_of, heard_in, channel_after, Step, acts, calls, start}
 use Rattle.joined_ends.proofs.Acting.{after_one}
 
 states_one : (cs : List station.Call) (c : station.Call) (s : radio.State) → station.states_after (cs ++ (c ∷ [])) s ≡ station.state_after c (station.states_after cs s)
