@@ -24,11 +24,7 @@ pub fn nespovarda_station_start(words: &mut [u64], configuration: &[u64]) -> Ans
     answer::of_start(radio_end::start(words, configuration))
 }
 
-pub fn nespovarda_station_hear(
-    words: &mut [u64],
-    datagram: &[u8],
-    out: &mut [u8],
-) -> Answer
+pub fn nespovarda_station_hear(words: &mut [u64], datagram: &[u8], out: &mut [u8]) -> Answer
     ensures { Exported (heard (state_in words.old) datagram.now out.old) words.old result words.new out.new }
 {
     answer::of_call(radio_end::hear(words, datagram, out))

@@ -1,0 +1,12 @@
+-- `named::instance` meets its contract. Assumes nothing.
+use mathlib.Core.Path.{sym}
+use Rattle.nespovarda_station.specs.Named.{instance_said}
+use Rattle.nespovarda_station.proofs.named.instance.Goals as goal
+
+pub returns-then-says_none : goal.returns-then-says_none
+unfolding instance_said
+returns-then-says_none c = rw (sym c.says_none.ensures, c.if-says_none.true)
+
+pub returns : goal.returns
+unfolding instance_said
+returns c = rw (sym c.says_none.ensures, c.if-says_none.false, c.narrow.ensures)
