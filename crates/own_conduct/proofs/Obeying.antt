@@ -9,7 +9,7 @@ use Rattle.records.specs.Files.{Report}
 use Rattle.ethernet.specs.declared.Ports.{Ports}
 use Rattle.conduct_rules.specs.declared.Flow.{Flow}
 use Rattle.conduct.specs.Outcomes.{Message, Outcome, nothing, undecides, message, heard_in, sent_in, outcome_by}
-use Rattle.conduct.specs.Account.{Numbered, numbered, messages_from, ObeysUnder, AllObey, Unclear, fragment, shortened, behind}
+use Rattle.conduct.specs.Account.{Numbered, numbered, messages_from, ObeysUnder, AllObey, Unclear, fragment, shortened, stopped, behind}
 use Rattle.conduct.proofs.Lists.{none_stands, ObeysFrom, flow_by, base_by, all_on}
 use Rattle.own_conduct.specs.Captured.{Passed, to_ips, to_radio, Captured, ends, heard, handed, beside}
 
@@ -68,6 +68,7 @@ module _ (ports : Ports) (id : DatalinkId) where
   captured_clear (shortened k) (heard q d c) = let z : ◌≡◌ {A = ℕ} 0 1 = cc in omega arith
   captured_clear (shortened k) (handed q d c) = let z : ◌≡◌ {A = ℕ} 0 1 = cc in omega arith
   captured_clear (shortened k) (beside e c) = let f = rw k at e in let z : ◌≡◌ {A = ℕ} 0 1 = cc in omega arith
+  captured_clear {passed = passed} (stopped {number = number} {reports = reports}) c = elim c [ ]
   captured_clear (behind u) (heard q d c) = captured_clear u c
   captured_clear (behind u) (handed q d c) = captured_clear u c
   captured_clear (behind u) (beside e c) = captured_clear u c
