@@ -1,5 +1,5 @@
 -- docs/STATION.md: what the program answers to a line, what is held behind it, and every word that it leaves.
-use Rattle.std.specs.Prelude.{Bool, true, cond, List, [], ◌∷◌, ◌++◌, ◌≡◌, ℕ, min, length, take, drop, replicate}
+use Rattle.std.specs.Prelude.{true, cond, List, [], ◌∷◌, ◌++◌, ◌≡◌, ℕ, min, length, take, drop, replicate}
 use Rattle.quantity.specs.Refusals.{OUTSIDE-LIMITS, LARGE-ALLOWANCE}
 use Rattle.meaning.specs.declared.message.Instance.{Instance}
 use Rattle.radio_end_state.specs.State.{State, fresh_state}

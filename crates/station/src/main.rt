@@ -6,7 +6,7 @@ ghost use Rattle.message_words.specs.Saying.{Says};
 ghost use Rattle.radio_end_state.specs.Calls.{heard, status_told, queued_told, context_told, link_told, told};
 ghost use Rattle.radio_end_words.specs.Words.{state_in};
 ghost use Rattle.station_read.specs.Lines.{context_said};
-ghost use Rattle.station_print.specs.Answers.{ANSWER, UNASKED, TELL, HEARD, UNCHANGED, KEPT};
+ghost use Rattle.station_print.specs.Answers.{ANSWER as ANSWER-TEXT, UNASKED, TELL, HEARD, UNCHANGED, KEPT};
 ghost use Rattle.station.specs.Turns.{link_said, show_texts, called, commanded, stated, begun, asking, answered, Turns, Calls};
 
 use lines::Found;
@@ -62,7 +62,7 @@ fn least(a: usize, b: usize) -> usize
 
 // `hear ROOM HEX`
 fn hear_line(words: &mut [u64], datagram: &[u8], output: &mut [u8], out: &mut [u8]) -> usize
-    ensures { Calls (called ANSWER HEARD words.old (heard (state_in words.old) datagram.now output.old)) out.old result words.new out.new }
+    ensures { Calls (called ANSWER-TEXT HEARD words.old (heard (state_in words.old) datagram.now output.old)) out.old result words.new out.new }
 {
     let answer = radio_end::hear(words, datagram, output);
     station_print::answered(out, answer, output, b"answer ", b"heard")
