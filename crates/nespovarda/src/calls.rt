@@ -19,11 +19,7 @@ pub fn nespovarda_words(channels: u64) -> u64
     waiting::wide(endpoint::words_for(waiting::narrow(channels)))
 }
 
-pub fn nespovarda_start(
-    words: &mut [u64],
-    memory: &mut [u8],
-    configuration: &[u64],
-) -> Answer
+pub fn nespovarda_start(words: &mut [u64], memory: &mut [u8], configuration: &[u64]) -> Answer
     ensures { StartExported configuration.now words.old memory.old result words.new memory.new }
 {
     answer::of_start(endpoint::start(words, memory, configuration))

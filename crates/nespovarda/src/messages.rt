@@ -15,12 +15,7 @@ pub fn nespovarda_read_control(
     reading::read_control(datagram, end, datalink, meaning)
 }
 
-pub fn nespovarda_read_data(
-    datagram: &[u8],
-    end: u8,
-    datalink: u8,
-    parts: &mut [u64],
-) -> Answer
+pub fn nespovarda_read_data(datagram: &[u8], end: u8, datalink: u8, parts: &mut [u64]) -> Answer
     ensures { ReadsData datagram.now end datalink parts.old result parts.new }
 {
     reading::read_data(datagram, end, datalink, parts)
@@ -32,12 +27,7 @@ pub fn nespovarda_write_control(end: u8, meaning: &[u64], out: &mut [u8]) -> Ans
     writing::write_control(end, meaning, out)
 }
 
-pub fn nespovarda_write_data(
-    end: u8,
-    parts: &[u64],
-    packet: &[u8],
-    out: &mut [u8],
-) -> Answer
+pub fn nespovarda_write_data(end: u8, parts: &[u64], packet: &[u8], out: &mut [u8]) -> Answer
     ensures { WritesData end parts.now packet.now out.old result out.new }
 {
     writing::write_data(end, parts, packet, out)

@@ -41,11 +41,7 @@ fn show(channel: Channel, start: usize, shown: &mut [u64; CHANNEL_NUMBERS])
 }
 
 // `SHOWN` and the channel's numbers; or 19, 12.
-pub fn nespovarda_show(
-    words: &[u64],
-    channel: u8,
-    shown: &mut [u64; CHANNEL_NUMBERS],
-) -> Answer
+pub fn nespovarda_show(words: &[u64], channel: u8, shown: &mut [u64; CHANNEL_NUMBERS]) -> Answer
     ensures { ShowsChannel (state_in words.now) channel shown.old result shown.new }
 {
     let found = endpoint::find_channel(words, channel);

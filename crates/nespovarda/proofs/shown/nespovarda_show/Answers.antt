@@ -1,0 +1,9 @@
+-- `shown::nespovarda_show` meets its contract. Assumes nothing.
+use Rattle.nespovarda.proofs.Showing.{is_there, shows_channel, shows_refused}
+use Rattle.nespovarda.proofs.shown.nespovarda_show.Goals as goal
+
+pub returns-in-At : goal.returns-in-At
+returns-in-At c = shows_channel _ _ _ _ (is_there _ _ _ c.find_channel-found.ensures _ c.in-At.is) _ _ c.plain.ensures _ c.show.ensures
+
+pub returns-in-Refused : goal.returns-in-Refused
+returns-in-Refused c = shows_refused _ _ _ c.find_channel-found.ensures _ c.in-Refused.is _ _ _ _ c.refused.ensures
