@@ -36,7 +36,8 @@ def declared():
     for f in own_files():
         with open(f, encoding="utf-8") as text:
             names = {m.group(3) for m in DECLARED.finditer(text.read())}
-        (walks if os.path.basename(f) in ("Proof.antt", "Answers.antt", "Invariants.antt") else own).update(names)
+        walk = "/proofs/" in f and f.count("/") > 3 and os.path.basename(f) in ("Proof.antt", "Answers.antt", "Invariants.antt")
+        (walks if walk else own).update(names)
     return own, walks
 
 

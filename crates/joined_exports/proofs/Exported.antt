@@ -59,12 +59,27 @@ AllOffers (c ∷ cs) = Offers c × AllOffers cs
 
 offer_nothing : (c : Call) → Offers c → (w : World) → handed_out (reply_of c w) ≡ []
 offer_nothing (on id (offer packet time)) o w = refl
+offer_nothing (on id (next time out)) o w = elim o [ ]
+offer_nothing (on id rules.withdraw) o w = elim o [ ]
+offer_nothing (run.radio time datagram) o w = elim o [ ]
+offer_nothing (pace time) o w = elim o [ ]
+offer_nothing (query out) o w = elim o [ ]
 
 offer_may : (c : Call) → Offers c → (x : Watched) → MayAct c x
 offer_may (on id (offer packet time)) o x = tt
+offer_may (on id (next time out)) o x = elim o [ ]
+offer_may (on id rules.withdraw) o x = elim o [ ]
+offer_may (run.radio time datagram) o x = elim o [ ]
+offer_may (pace time) o x = elim o [ ]
+offer_may (query out) o x = elim o [ ]
 
 offer_bytes : (c : Call) → Offers c → bytes_in c
 offer_bytes (on id (offer packet time)) o = tt
+offer_bytes (on id (next time out)) o = elim o [ ]
+offer_bytes (on id rules.withdraw) o = elim o [ ]
+offer_bytes (run.radio time datagram) o = elim o [ ]
+offer_bytes (pace time) o = elim o [ ]
+offer_bytes (query out) o = elim o [ ]
 
 tabulated : (n : ℕ) (f : ℕ → Call) → ((i : ℕ) → Offers (f i)) → AllOffers (tabulate n f)
 unfolding tabulate

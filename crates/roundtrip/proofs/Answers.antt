@@ -18,16 +18,16 @@ use Rattle.writer.specs.Written.{Outcome}
 use Rattle.roundtrip.specs.Answers.{Room, refused_by, Exact}
 
 -- any two outcomes of a writer coincide
-pub outcome-one : {allowed : Bool} {message out : List ℕ} {answer answer' : WriteAnswer} {out' out'' : List ℕ} → Outcome allowed message out answer out' → Outcome allowed message out answer' out''
+pub outcome_one : {allowed : Bool} {message out : List ℕ} {answer answer' : WriteAnswer} {out' out'' : List ℕ} → Outcome allowed message out answer out' → Outcome allowed message out answer' out''
     → (answer ≡ answer') × (out' ≡ out'')
-outcome-one o p = (o.answers ∙ sym p.answers, o.bytes_are ∙ sym p.bytes_are)
+outcome_one o p = (o.answers ∙ sym p.answers, o.bytes_are ∙ sym p.bytes_are)
 
 -- no answer is two
 apart : {count : ByteCount} {refusal : Refusal} → WriteAnswer.Wrote count ≡ WriteAnswer.Refused refusal → ⊥
 apart e = clash (cc)
 
-two-numbers : refused_by NO-ROOM ≡ refused_by NOT-WRITABLE → ⊥
-two-numbers e =
+two_numbers_lem : refused_by NO-ROOM ≡ refused_by NOT-WRITABLE → ⊥
+two_numbers_lem e =
     let same : ◌≡◌ {A = Refusal} (record { number = NO-ROOM; place = 0 }) (record { number = NOT-WRITABLE; place = 0 }) = cc in
     omega (arith, ap (λ (r : Refusal). r.number) same)
 
@@ -36,7 +36,7 @@ module _ (message out : List ℕ) (answer : WriteAnswer) (out' : List ℕ) where
   wrote : Room message out → answer ≡ WriteAnswer.Wrote (record { 0 = length message }) → out' ≡ over message out → Exact true message out answer out'
   wrote r a b = record {
     written = λ p q. (a, b);
-    sent = λ count e. record { is-allowed = refl; room = r; count_is = cc; bytes_are = b };
+    sent = λ count e. record { is_allowed = refl; room = r; count_is = cc; bytes_are = b };
     disallowed = (λ e. absurd (apart (sym a ∙ e)), λ p. absurd (true≢false p));
     no_room = (λ e. absurd (apart (sym a ∙ e)), λ p. absurd (p.1 r));
     stays = λ refusal e. absurd (apart (sym a ∙ e));
@@ -46,7 +46,7 @@ module _ (message out : List ℕ) (answer : WriteAnswer) (out' : List ℕ) where
   narrow n a b = record {
     written = λ p q. absurd (n q);
     sent = λ count e. absurd (apart (sym e ∙ a));
-    disallowed = (λ e. absurd (two-numbers (sym a ∙ e)), λ p. absurd (true≢false p));
+    disallowed = (λ e. absurd (two_numbers_lem (sym a ∙ e)), λ p. absurd (true≢false p));
     no_room = (λ e. (refl, n), λ p. a);
     stays = λ refusal e. b;
   }
@@ -56,19 +56,19 @@ module _ (message out : List ℕ) (answer : WriteAnswer) (out' : List ℕ) where
     written = λ p q. absurd (false≢true p);
     sent = λ count e. absurd (apart (sym e ∙ a));
     disallowed = (λ e. refl, λ p. a);
-    no_room = (λ e. absurd (two-numbers (sym e ∙ a)), λ p. absurd (false≢true p.0));
+    no_room = (λ e. absurd (two_numbers_lem (sym e ∙ a)), λ p. absurd (false≢true p.0));
     stays = λ refusal e. b;
   }
 
-  by-room : Outcome true message out answer out' → (a : Bool) → ltb (length out) (length message) ≡ a → (b : Bool) → ltb LONGEST-DATAGRAM (length message) ≡ b
+  by_room : Outcome true message out answer out' → (a : Bool) → ltb (length out) (length message) ≡ a → (b : Bool) → ltb LONGEST-DATAGRAM (length message) ≡ b
       → Exact true message out answer out'
-  by-room o true e b f = narrow (λ r. omega (arith, ltb-true (length out) (length message) e, r.in-output)) (o.answers ∙ rw e) (o.bytes_are ∙ rw e)
-  by-room o false e true f =
-      narrow (λ r. omega (arith, ltb-true LONGEST-DATAGRAM (length message) f, r.in-datagram)) (o.answers ∙ rw (e, f)) (o.bytes_are ∙ rw (e, f))
-  by-room o false e false f =
-      wrote (record { in-output = ltb-false (length out) (length message) e; in-datagram = ltb-false LONGEST-DATAGRAM (length message) f })
+  by_room o true e b f = narrow (λ r. omega (arith, ltb-true (length out) (length message) e, r.in_output)) (o.answers ∙ rw e) (o.bytes_are ∙ rw e)
+  by_room o false e true f =
+      narrow (λ r. omega (arith, ltb-true LONGEST-DATAGRAM (length message) f, r.in_datagram)) (o.answers ∙ rw (e, f)) (o.bytes_are ∙ rw (e, f))
+  by_room o false e false f =
+      wrote (record { in_output = ltb-false (length out) (length message) e; in_datagram = ltb-false LONGEST-DATAGRAM (length message) f })
       (o.answers ∙ rw (e, f)) (o.bytes_are ∙ rw (e, f))
 
   pub exact : (allowed : Bool) → Outcome allowed message out answer out' → Exact allowed message out answer out'
   exact false o = meaningless o.answers o.bytes_are
-  exact true o = by-room o (ltb (length out) (length message)) refl (ltb LONGEST-DATAGRAM (length message)) refl
+  exact true o = by_room o (ltb (length out) (length message)) refl (ltb LONGEST-DATAGRAM (length message)) refl

@@ -160,11 +160,11 @@ pub control_wrote : (end : End) (m : Control) → ControlValue m → (out : List
     → Outcome (control_allowed end m) (control_written m) out answer out' → (count : ByteCount) → answer ≡ WriteAnswer.Wrote count → Canonical 16 (take count.0 out')
 control_wrote end m value out answer out' o count e =
     let s = (exact (control_written m) out answer out' (control_allowed end m) o).sent count e in
-    subst (Canonical 16) (sym (counted s)) (control_canonical end m value s.is-allowed)
+    subst (Canonical 16) (sym (counted s)) (control_canonical end m value s.is_allowed)
 
 pub data_wrote : (end : End) (m : Data) (packet : List ℕ) → DataValue m → (out : List ℕ) (answer : WriteAnswer) (out' : List ℕ)
     → Outcome (data_allowed end m (length packet)) (data_written m packet) out answer out' → (count : ByteCount) → answer ≡ WriteAnswer.Wrote count
     → Canonical 24 (take count.0 out')
 data_wrote end m packet value out answer out' o count e =
     let s = (exact (data_written m packet) out answer out' (data_allowed end m (length packet)) o).sent count e in
-    subst (Canonical 24) (sym (counted s)) (data_canonical end m packet value s.is-allowed)
+    subst (Canonical 24) (sym (counted s)) (data_canonical end m packet value s.is_allowed)

@@ -40,7 +40,7 @@ module _ (end : End) (m : Control) (value : ControlValue m) (out : List ℕ) (an
   control_outcome = exact (control_written m) out answer out' (control_allowed end m) o
 
   control_room : control_allowed end m ≡ true → length (control_written m) ≤ length out → Room (control_written m) out
-  control_room e h = record { in-output = h; in-datagram = control_short end m value e }
+  control_room e h = record { in_output = h; in_datagram = control_short end m value e }
 
   pub control_written_lem : control_allowed end m ≡ true → length (control_written m) ≤ length out
       → (answer ≡ WriteAnswer.Wrote (record { 0 = length (control_written m) })) × (out' ≡ over (control_written m) out)
@@ -50,7 +50,7 @@ module _ (end : End) (m : Control) (value : ControlValue m) (out : List ℕ) (an
   pub control_no_room : (answer ≡ refused_by NO-ROOM) ↔ ((control_allowed end m ≡ true) × (length out < length (control_written m)))
   control_no_room = (
     λ e. there (control_outcome.no_room.0 e).0 (control_outcome.no_room.0 e).1 (ltb (length out) (length (control_written m))) refl,
-    λ e. control_outcome.no_room.1 (e.0, λ r. omega (arith, e.1, r.in-output)),
+    λ e. control_outcome.no_room.1 (e.0, λ r. omega (arith, e.1, r.in_output)),
   )
     where
       there : control_allowed end m ≡ true → (Room (control_written m) out → ⊥) → (b : Bool) → ltb (length out) (length (control_written m)) ≡ b
@@ -60,7 +60,7 @@ module _ (end : End) (m : Control) (value : ControlValue m) (out : List ℕ) (an
 
   pub control_returned : (id : DatalinkId) (count : ByteCount) → m.datalink ≡ Datalink.Given id → answer ≡ WriteAnswer.Wrote count
       → read_control end id (take count.0 out') ≡ control_accepted m
-  control_returned id count d e = let s = control_outcome.sent count e in ap (read_control end id) (counted s) ∙ control_round end id m value s.is-allowed d
+  control_returned id count d e = let s = control_outcome.sent count e in ap (read_control end id) (counted s) ∙ control_round end id m value s.is_allowed d
 
 module _ (end : End) (m : Data) (packet : List ℕ) (out : List ℕ) (answer : WriteAnswer) (out' : List ℕ)
     (o : Outcome (data_allowed end m (length packet)) (data_written m packet) out answer out') where
@@ -75,6 +75,6 @@ module _ (end : End) (m : Data) (packet : List ℕ) (out : List ℕ) (answer : W
       → (read_data end id (take count.0 out') ≡ record { verdict = Verdict.Accepted; message = m }) × (packet_of (take count.0 out') ≡ packet)
   data_returned id count value d e =
       let s = data_outcome.sent count e in (
-        ap (read_data end id) (counted s) ∙ data_round end id m packet value s.is-allowed d s.room.in-datagram,
-        ap packet_of (counted s) ∙ packet_round end m packet value s.is-allowed,
+        ap (read_data end id) (counted s) ∙ data_round end id m packet value s.is_allowed d s.room.in_datagram,
+        ap packet_of (counted s) ∙ packet_round end m packet value s.is_allowed,
       )

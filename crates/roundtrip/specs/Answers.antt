@@ -8,8 +8,8 @@ use Rattle.writer.specs.declared.answer.WriteAnswer.{WriteAnswer}
 
 -- number 18, the other way round: neither is "the output .. shorter than it" nor is it "over 65,507 bytes"
 pub record Room (message out : List ℕ) : Type 0 where
-  pub in-output : length message ≤ length out
-  pub in-datagram : length message ≤ LONGEST-DATAGRAM
+  pub in_output : length message ≤ length out
+  pub in_datagram : length message ≤ LONGEST-DATAGRAM
 
 -- a writer's refusal is at place 0
 abbrev pub refused_by : ℕ → WriteAnswer
@@ -17,7 +17,7 @@ refused_by number = WriteAnswer.Refused (record { number = number; place = 0 })
 
 -- a message that was written: it was allowed, had room, was counted, and stands over the first bytes of the output
 pub record Sent (allowed : Bool) (message out : List ℕ) (count : ByteCount) (out' : List ℕ) : Type 0 where
-  pub is-allowed : allowed ≡ true
+  pub is_allowed : allowed ≡ true
   pub room : Room message out
   pub count_is : count ≡ record { 0 = length message }
   pub bytes_are : out' ≡ over message out
