@@ -1,9 +1,9 @@
 -- The account, option by option: which options may follow what a table of contents holds already. Assumes nothing.
+use Rattle.std.specs.Prelude.{Option, Some, None}
 use Prim.Native.Nat.{ℕ, ◌+◌, ◌≤◌}
 use mathlib.Core.Path.{◌≡◌, refl}
 use mathlib.Core.Logic.{◌↔◌}
 use mathlib.Core.List.{List}
-use mathlib.Core.Option.{Option, none, some}
 use mathlib.Core.Bool.{Bool, true, false, cond}
 use native.Mathlib.Omega.{arith}
 use borrow.Author.Tests.{eq-eqb, eqb-true}
@@ -22,37 +22,37 @@ use Rattle.acceptance.proofs.Seats.{taken_free, Free, adding}
 -- ---- one place of a table
 
 abbrev pub taken : Option (List ℕ) → ℕ
-taken none = 0
-taken (some content) = 1
+taken None = 0
+taken (Some content) = 1
 
 abbrev pub or : Option (List ℕ) → Option (List ℕ) → Option (List ℕ)
-or none y = y
-or (some content) y = some content
+or None y = y
+or (Some content) y = Some content
 
-or_none : (x : Option (List ℕ)) → or x none ≡ x
-or_none none = refl
-or_none (some content) = refl
+or_none : (x : Option (List ℕ)) → or x None ≡ x
+or_none None = refl
+or_none (Some content) = refl
 
 pub at_most : (x : Option (List ℕ)) → taken x + 0 ≤ 1
-at_most none = omega arith
-at_most (some content) = omega arith
+at_most None = omega arith
+at_most (Some content) = omega arith
 
 -- there is room for an option that speaks for the place (b) and for n more where the place is free, and there is room for them behind it
-sits : (b : Bool) (x : Option (List ℕ)) (content : List ℕ) (n : ℕ) → taken x + (one b + n) ≤ 1 ↔ (b ≡ true → x ≡ none) × (taken (cond b (some content) x) + n ≤ 1)
+sits : (b : Bool) (x : Option (List ℕ)) (content : List ℕ) (n : ℕ) → taken x + (one b + n) ≤ 1 ↔ (b ≡ true → x ≡ None) × (taken (cond b (Some content) x) + n ≤ 1)
 sits false x content n = ((λ h. ((λ e. clash e), omega arith)), λ h. omega arith)
-sits true none content n = ((λ h. ((λ e. refl), omega arith)), λ h. omega arith)
-sits true (some other) content n = ((λ h. absurd (omega arith)), λ h. taken_free (h.0 refl))
+sits true None content n = ((λ h. ((λ e. refl), omega arith)), λ h. omega arith)
+sits true (Some other) content n = ((λ h. absurd (omega arith)), λ h. taken_free (h.0 refl))
 
-same : (b : Bool) (x y : Option (List ℕ)) (content : List ℕ) (n : ℕ) → taken x + (one b + n) ≤ 1 → or (cond b (some content) x) y ≡ or x (cond b (some content) y)
+same : (b : Bool) (x y : Option (List ℕ)) (content : List ℕ) (n : ℕ) → taken x + (one b + n) ≤ 1 → or (cond b (Some content) x) y ≡ or x (cond b (Some content) y)
 same false x y content n h = refl
-same true none y content n h = refl
-same true (some other) y content n h = absurd (omega arith)
+same true None y content n h = refl
+same true (Some other) y content n h = absurd (omega arith)
 
 -- ---- a table, and the options that follow
 
 -- nothing that stands last is stated yet
 abbrev pub Open : Plane → Table → Type 0
-Open plane τ = (kind : ℕ) → among kind (stands_last plane) ≡ true → τ kind 0 ≡ none
+Open plane τ = (kind : ℕ) → among kind (stands_last plane) ≡ true → τ kind 0 ≡ None
 
 module _ (plane : Plane) (end : End) where
   -- the two together have at most one for each type and channel
@@ -83,7 +83,7 @@ module _ (plane : Plane) (end : End) where
     room_option f = ((λ room. ((λ k n. ((seat k n).0 (room k n)).0), λ k n. ((seat k n).0 (room k n)).1)), λ h k n. (seat k n).1 (h.0 k n, h.1 k n))
       where
         seat : (k n : ℕ) → taken (τ k n) + (one (speaks plane end k n kind content) + count plane end k n f) ≤ 1
-            ↔ (speaks plane end k n kind content ≡ true → τ k n ≡ none) × (taken (adding plane end kind content τ k n) + count plane end k n f ≤ 1)
+            ↔ (speaks plane end k n kind content ≡ true → τ k n ≡ None) × (taken (adding plane end kind content τ k n) + count plane end k n f ≤ 1)
         seat k n = sits (speaks plane end k n kind content) (τ k n) content (count plane end k n f)
 
     -- no option stands behind one that stands last
@@ -93,7 +93,7 @@ module _ (plane : Plane) (end : End) where
     still_open (option u d f) o h = λ k q. go k q (eqb k kind) refl
       where
         go : (k : ℕ) → among k (stands_last plane) ≡ true → (b : Bool) → eqb k kind ≡ b
-            → cond (cond b (is_at 0 (speaks_for plane end kind content)) false) (some content) (τ k 0) ≡ none
+            → cond (cond b (is_at 0 (speaks_for plane end kind content)) false) (Some content) (τ k 0) ≡ None
         go k q false e = o k q
         go k q true e = let x : option u d f ≡ done = h (rw (eqb-true k kind e) at q) in clash (cc)
 

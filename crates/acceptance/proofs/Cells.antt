@@ -1,9 +1,9 @@
 -- Reading, option by option, is what the account says, for any sort of message whose cells do what they must. Assumes nothing.
+use Rattle.std.specs.Prelude.{Option, Some, None}
 use Prim.Native.Nat.{ℕ, ◌<◌}
 use mathlib.Core.Path.{◌≡◌, refl, sym, ap}
 use mathlib.Core.Logic.{◌↔◌}
 use mathlib.Core.List.{List, [], ◌∷◌}
-use mathlib.Core.Option.{Option, none, some}
 use mathlib.Core.Bool.{Bool, true, false, cond}
 use native.Mathlib.Omega.{arith}
 use borrow.Author.Tests.{ltb-true}
@@ -99,7 +99,7 @@ module _ {A B : Type 0} (S : Sort A B) (id : DatalinkId) (stated : Table → A) 
         go false p = ap (λ (σ : Table). next (stated σ)) (sym (adding_silent S.plane S.end kind content p τ))
         go true p =
             let a : among kind (may_hold S.plane S.end) ≡ true = k.listed.kind_listed p in
-            let v : τ kind channel ≡ none = of_free S.plane S.end kind content p a τ k.free in
+            let v : τ kind channel ≡ None = of_free S.plane S.end kind content p a τ k.free in
             rw (C.unstated τ kind a content (in_range S.plane S.end kind content k.listed p), v, C.state τ kind a content, adding_puts S.plane S.end kind content p a τ)
 
   -- ---- 9, 10, 11
@@ -120,9 +120,9 @@ module _ {A B : Type 0} (S : Sort A B) (id : DatalinkId) (stated : Table → A) 
     full (kind ∷ kinds) may = rw (unstated_zero kind may.0) (go (full kinds may.1) (τ kind 0))
       where
         go : Filled kinds τ ↔ missing S kinds (stated τ) ≡ false
-            → (x : Option (List ℕ)) → (x ≡ none → ⊥) × Filled kinds τ ↔ cond (vacant x) true (missing S kinds (stated τ)) ≡ false
-        go later none = ((λ f. absurd (f.0 refl)), λ q. clash (sym q))
-        go later (some content) = ((λ f. later.0 f.1), λ q. ((λ r. taken_free r), later.1 q))
+            → (x : Option (List ℕ)) → (x ≡ None → ⊥) × Filled kinds τ ↔ cond (vacant x) true (missing S kinds (stated τ)) ≡ false
+        go later None = ((λ f. absurd (f.0 refl)), λ q. clash (sym q))
+        go later (Some content) = ((λ f. later.0 f.1), λ q. ((λ r. taken_free r), later.1 q))
 
     pub must : Filled (must_hold S.plane S.end) τ ↔ missing S (must_hold S.plane S.end) (stated τ) ≡ false
     must = full (must_hold S.plane S.end) (must_may S.plane S.end)

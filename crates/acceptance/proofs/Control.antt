@@ -1,9 +1,10 @@
 -- A control message of either end: what its cells do, and its account. Assumes nothing.
+use Rattle.quantity.specs.declared.count.FlowSequence.{FlowSequence}
+use Rattle.std.specs.Prelude.{Some, Option, None}
 use Prim.Native.Nat.{ℕ, ◌≤◌, ◌<◌}
 use mathlib.Core.Path.{◌≡◌, refl}
 use mathlib.Core.Logic.{◌↔◌}
 use mathlib.Core.List.{List, ◌∷◌}
-use mathlib.Core.Option.{some}
 use mathlib.Core.Bool.{Bool, true, false, cond}
 use lib.Dec.{eqb}
 use lib.ListN.{length, get_or, drop}
@@ -17,11 +18,7 @@ use Rattle.meaning.specs.declared.message.End.{End}
 use Rattle.meaning.specs.declared.message.End.TheVariants.{Ips, Radio}
 use Rattle.meaning.specs.declared.message.Plane.TheVariants as planes
 use Rattle.meaning.specs.declared.message.Window.{Window}
-use Rattle.meaning.specs.declared.message.StatusCell.{StatusCell}
-use Rattle.meaning.specs.declared.message.SequenceCell.{SequenceCell}
-use Rattle.meaning.specs.declared.message.WindowCell.{WindowCell}
 use Rattle.meaning.specs.Kinds.{among, may_hold, DATALINK-IDENTIFIER, LINK-INSTANCE, DATALINK-CONTEXT, CHANNEL-STATUS, FLOW-WINDOW, FLOW-SEQUENCE}
-use Rattle.meaning.specs.Cells.{no_status, no_sequence, no_window}
 use Rattle.meaning.proofs.Amongst.{Each, amongst}
 use Rattle.read_option.specs.Stated.{Table, datalink_from, instance_from, context_from, status_from, sequence_from, window_from, control_stated}
 use Rattle.read_rules.specs.declared.answer.Verdict.{Verdict}
@@ -43,10 +40,10 @@ each_of : (end : End) (P : ℕ → Type 0) → P DATALINK-IDENTIFIER → P LINK-
 each_of Ips P d i c s q w = (d, (q, tt))
 each_of Radio P d i c s q w = (d, (s, (i, (c, (w, tt)))))
 
-window_stated_lem : (content : List ℕ) → unstated_window (window_from (some content)) ≡ false
+window_stated_lem : (content : List ℕ) → unstated_window (window_from (Some content)) ≡ false
 window_stated_lem content = go (eqb (length content) 1)
   where
-    go : (b : Bool) → unstated_window (cond b Window.Empty (Window.Given (record { 0 = big_endian (drop 1 content) }))) ≡ false
+    go : (b : Bool) → unstated_window (cond b (Some Window.Empty) (Some (Window.Given (record { 0 = big_endian (drop 1 content) })))) ≡ false
     go true = refl
     go false = refl
 
@@ -60,9 +57,9 @@ module _ (end : End) (τ : Table) where
       (λ c h. vacant_is (λ x. unstated_datalink (datalink_from x)) refl (λ d. refl) (τ DATALINK-IDENTIFIER 0))
       (λ c h. vacant_is (λ x. unstated_instance (instance_from x)) refl (λ d. refl) (τ LINK-INSTANCE 0))
       (λ c h. vacant_is (λ x. unstated_context (context_from x)) refl (λ d. refl) (τ DATALINK-CONTEXT 0))
-      (λ c h. row_is (λ cell. unstated_status cell.status) (λ x. record { status = status_from x }) refl (λ d. refl) CHANNEL-IDS (τ CHANNEL-STATUS) (get_or c 0 0) no_status h)
-      (λ c h. row_is (λ cell. unstated_sequence cell.sequence) (λ x. record { sequence = sequence_from x }) refl (λ d. refl) CHANNEL-IDS (τ FLOW-SEQUENCE) (get_or c 0 0) no_sequence h)
-      (λ c h. row_is (λ cell. unstated_window cell.window) (λ x. record { window = window_from x }) refl window_stated_lem CHANNEL-IDS (τ FLOW-WINDOW) (get_or c 0 0) no_window h))
+      (λ c h. row_is (λ cell. unstated_status cell) (λ x. status_from x) refl (λ d. refl) CHANNEL-IDS (τ CHANNEL-STATUS) (get_or c 0 0) None h)
+      (λ c h. row_is (λ cell. unstated_sequence cell) (λ x. sequence_from x) refl (λ d. refl) CHANNEL-IDS (τ FLOW-SEQUENCE) (get_or c 0 0) None h)
+      (λ c h. row_is (λ cell. unstated_window cell) (λ x. window_from x) refl window_stated_lem CHANNEL-IDS (τ FLOW-WINDOW) (get_or c 0 0) None h))
 
   pub state : (kind : ℕ) → among kind (may_hold planes.Control end) ≡ true → (content : List ℕ)
       → control_state kind (channel_of planes.Control kind content) content (control_stated τ) ≡ control_stated (put kind (channel_of planes.Control kind content) content τ)
@@ -73,9 +70,9 @@ module _ (end : End) (τ : Table) where
       (λ c. refl)
       (λ c. refl)
       (λ c. refl)
-      (λ c. rw (set_row {A = StatusCell} CHANNEL-IDS (λ x. record { status = status_from x }) (τ CHANNEL-STATUS) (get_or c 0 0) c))
-      (λ c. rw (set_row {A = SequenceCell} CHANNEL-IDS (λ x. record { sequence = sequence_from x }) (τ FLOW-SEQUENCE) (get_or c 0 0) c))
-      (λ c. rw (set_row {A = WindowCell} CHANNEL-IDS (λ x. record { window = window_from x }) (τ FLOW-WINDOW) (get_or c 0 0) c)))
+      (λ c. rw (set_row {A = Option ℕ} CHANNEL-IDS (λ x. status_from x) (τ CHANNEL-STATUS) (get_or c 0 0) c))
+      (λ c. rw (set_row {A = Option FlowSequence} CHANNEL-IDS (λ x. sequence_from x) (τ FLOW-SEQUENCE) (get_or c 0 0) c))
+      (λ c. rw (set_row {A = Option Window} CHANNEL-IDS (λ x. window_from x) (τ FLOW-WINDOW) (get_or c 0 0) c)))
 
 -- tables that differ in unused bits alone state the same
 control_alike : (τ σ : Table) → Alike τ σ → control_stated τ ≡ control_stated σ
@@ -84,9 +81,9 @@ control_alike τ σ alike = λ i. record {
   datalink = datalink_from (others τ σ alike DATALINK-IDENTIFIER 0 refl i);
   instance = instance_from (others τ σ alike LINK-INSTANCE 0 refl i);
   context = context_from (others τ σ alike DATALINK-CONTEXT 0 refl i);
-  statuses = tabulate CHANNEL-IDS (λ n. record { status = status_same τ σ alike n i });
-  sequences = tabulate CHANNEL-IDS (λ n. record { sequence = sequence_from (others τ σ alike FLOW-SEQUENCE n refl i) });
-  windows = tabulate CHANNEL-IDS (λ n. record { window = window_from (others τ σ alike FLOW-WINDOW n refl i) });
+  statuses = tabulate CHANNEL-IDS (λ n. status_same τ σ alike n i);
+  sequences = tabulate CHANNEL-IDS (λ n. sequence_from (others τ σ alike FLOW-SEQUENCE n refl i));
+  windows = tabulate CHANNEL-IDS (λ n. window_from (others τ σ alike FLOW-WINDOW n refl i));
 }
 
 module _ (end : End) (id : DatalinkId) where

@@ -1,9 +1,9 @@
 -- A data message of either end: what its cells do, its account, and its packet. Assumes nothing.
+use Rattle.std.specs.Prelude.{Option, Some, None}
 use Prim.Native.Nat.{ℕ, ◌≤◌}
 use mathlib.Core.Path.{◌≡◌, refl, sym, ◌∙◌}
 use mathlib.Core.Logic.{◌↔◌}
 use mathlib.Core.List.{List, ◌∷◌}
-use mathlib.Core.Option.{Option, none, some}
 use mathlib.Core.Bool.{Bool, true, false, cond, not}
 use borrow.Author.Tests.{eq-eqb, eqb-true, eqb-false, ne_eqb}
 use lib.Dec.{eqb}
@@ -62,15 +62,15 @@ module _ (end : End) (τ : Table) where
   unfolding data_state data_stated
   state = amongst _ (may_hold planes.Data end) (each_of end _ (λ c. refl) (λ c. refl) (λ c. refl) (λ c. refl) (λ c. refl))
 
-pub not_given : (x : Option (List ℕ)) → given x ≡ false → x ≡ none
-not_given none e = refl
-not_given (some content) e = clash (sym e)
+pub not_given : (x : Option (List ℕ)) → given x ≡ false → x ≡ None
+not_given None e = refl
+not_given (Some content) e = clash (sym e)
 
 -- 10, as it is tested and as the account says it
 pub same_channel : (sequence identifier : Option (List ℕ)) → SameChannel sequence identifier ↔ pairs (counted_from sequence) (channel_from identifier) ≡ true
-same_channel none identifier = ((λ p. refl), λ e. tt)
-same_channel (some sequence) none = ((λ p. absurd p), λ e. clash e)
-same_channel (some sequence) (some identifier) = (eq-eqb (get_or sequence 0 0) (get_or identifier 0 0), eqb-true (get_or sequence 0 0) (get_or identifier 0 0))
+same_channel None identifier = ((λ p. refl), λ e. tt)
+same_channel (Some sequence) None = ((λ p. absurd p), λ e. clash e)
+same_channel (Some sequence) (Some identifier) = (eq-eqb (get_or sequence 0 0) (get_or identifier 0 0), eqb-true (get_or sequence 0 0) (get_or identifier 0 0))
 
 -- tables that differ in unused bits alone state the same
 data_alike : (τ σ : Table) → Alike τ σ → gathered τ ≡ gathered σ
@@ -116,20 +116,20 @@ module _ (end : End) (id : DatalinkId) where
       go true e = rw (eqb-true kind PACKET-DATA e, last_speaks planes.Data end content PACKET-DATA refl)
       go false e = rw (ne_eqb PACKET-DATA kind (λ q. eqb-false kind PACKET-DATA e (sym q)))
 
-  packet_in_lem : (f : Options) → (the planes.Data end PACKET-DATA 0 f ≡ none → ⊥) → the planes.Data end PACKET-DATA 0 f ≡ some (packet_in f)
+  packet_in_lem : (f : Options) → (the planes.Data end PACKET-DATA 0 f ≡ None → ⊥) → the planes.Data end PACKET-DATA 0 f ≡ Some (packet_in f)
   unfolding the packet_in
   packet_in_lem done h = absurd (h refl)
   packet_in_lem (cut rest) h = absurd (h refl)
   packet_in_lem (option kind content f) h = rw packet_speaks (go (eqb kind PACKET-DATA) (packet_in_lem f) (rw packet_speaks at h))
     where
-      go : (b : Bool) → ((the planes.Data end PACKET-DATA 0 f ≡ none → ⊥) → the planes.Data end PACKET-DATA 0 f ≡ some (packet_in f))
-          → (cond b (some content) (the planes.Data end PACKET-DATA 0 f) ≡ none → ⊥)
-          → cond b (some content) (the planes.Data end PACKET-DATA 0 f) ≡ some (cond b content (packet_in f))
+      go : (b : Bool) → ((the planes.Data end PACKET-DATA 0 f ≡ None → ⊥) → the planes.Data end PACKET-DATA 0 f ≡ Some (packet_in f))
+          → (cond b (Some content) (the planes.Data end PACKET-DATA 0 f) ≡ None → ⊥)
+          → cond b (Some content) (the planes.Data end PACKET-DATA 0 f) ≡ Some (cond b content (packet_in f))
       go true later q = refl
       go false later q = later q
 
   -- The packet handed back is the content of the one Packet Data.
-  pub data_packet : (s : List ℕ) (f : Options) → Accepts planes.Data end id s f → the planes.Data end PACKET-DATA 0 f ≡ some (packet_of s)
+  pub data_packet : (s : List ℕ) (f : Options) → Accepts planes.Data end id s f → the planes.Data end PACKET-DATA 0 f ≡ Some (packet_of s)
   unfolding packet_of
   data_packet s f a = packet_in_lem f a.filled.1.0 ∙ rw (own planes.Data end id s f a)
 

@@ -1,8 +1,8 @@
 -- What the lists of document 01 have in common. Assumes nothing.
+use Rattle.std.specs.Prelude.{Some}
 use Prim.Native.Nat.{ℕ}
 use mathlib.Core.Path.{◌≡◌, refl, sym, ◌∙◌}
 use mathlib.Core.List.{List}
-use mathlib.Core.Option.{some}
 use mathlib.Core.Bool.{true, false}
 use Rattle.facts.proofs.Tests.{clash}
 use Rattle.meaning.specs.declared.message.End.{End}
@@ -26,7 +26,7 @@ must_may Data Ips = (refl, (refl, tt))
 must_may Data Radio = (refl, (refl, tt))
 
 -- what stands last speaks for no channel
-pub last_speaks : (plane : Plane) (end : End) (content : List ℕ) (kind : ℕ) → among kind (stands_last plane) ≡ true → speaks_for plane end kind content ≡ some 0
+pub last_speaks : (plane : Plane) (end : End) (content : List ℕ) (kind : ℕ) → among kind (stands_last plane) ≡ true → speaks_for plane end kind content ≡ Some 0
 last_speaks Control end content = amongst _ (stands_last Control) tt
 last_speaks Data Ips content = amongst _ (stands_last Data) (refl, tt)
 last_speaks Data Radio content = amongst _ (stands_last Data) (refl, tt)

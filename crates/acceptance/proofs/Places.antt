@@ -1,5 +1,6 @@
 -- By which number a reader refuses, and where it says that the fault stands. Proved once for every sort of message whose cells do what they must.
 -- Assumes nothing.
+use Rattle.std.specs.Prelude.{Ok, Err, Result}
 use Prim.Native.Nat.{ℕ, suc, ◌+◌, ◌≤◌}
 use mathlib.Core.Path.{◌≡◌, refl, sym, ap, ◌∙◌, subst}
 use mathlib.Core.List.{List, ◌∷◌, ◌++◌}
@@ -23,7 +24,6 @@ use Rattle.read_rules.specs.declared.answer.Verdict.{Verdict}
 use Rattle.read_rules.specs.Sorts.{Sort, rules_of}
 use Rattle.read_control.specs.Message.{control_sort}
 use Rattle.read_data.specs.Message.{data_sort}
-use Rattle.reader.specs.declared.answer.PlaneAnswer.{PlaneAnswer}
 use Rattle.reader.specs.Header.{CURRENT-VERSION, version_of, flag_of, read_with}
 use Rattle.reader.specs.Readings.{read_control, read_data, plane_of}
 use Rattle.acceptance.specs.Numbers.{OfReading}
@@ -151,23 +151,23 @@ module _ (end : End) (id : DatalinkId) (datagram : List ℕ) (o : Octets datagra
   data_place e = (data_said_lem end id datagram refusal e).1 o
 
 -- the plane alone: 1 or 2, "0 for all others"
-pub plane_said : (datagram : List ℕ) (refusal : Refusal) → plane_of datagram ≡ PlaneAnswer.Refused refusal → OfReading refusal.number × (refusal.place ≡ 0)
+pub plane_said : (datagram : List ℕ) (refusal : Refusal) → plane_of datagram ≡ Err refusal → OfReading refusal.number × (refusal.place ≡ 0)
 unfolding plane_of
 plane_said datagram refusal e =
     go (ltb LONGEST-DATAGRAM (length datagram)) (eqb (length datagram) 0) (eqb (version_of (get_or datagram 0 0)) CURRENT-VERSION) (eqb (flag_of (get_or datagram 0 0)) 0) e
   where
-    at : (number : ℕ) → LONG-DATAGRAM ≤ number → number ≤ OTHER-DATALINK → PlaneAnswer.Refused (record { number = number; place = 0 }) ≡ PlaneAnswer.Refused refusal
+    at : (number : ℕ) → LONG-DATAGRAM ≤ number → number ≤ OTHER-DATALINK → ◌≡◌ {A = Result Plane Refusal} (Err (record { number = number; place = 0 })) (Err refusal)
         → OfReading refusal.number × (refusal.place ≡ 0)
     at number h k q = let same : number ≡ refusal.number = cc in let front : 0 ≡ refusal.place = cc in ((omega arith, omega arith), sym front)
 
     go : (long empty version clear : Bool)
-        → cond long (PlaneAnswer.Refused (record { number = LONG-DATAGRAM; place = 0 })) (cond empty (PlaneAnswer.Refused (record { number = HEADER; place = 0 })) (cond version (cond clear PlaneAnswer.Control PlaneAnswer.Data) (PlaneAnswer.Refused (record { number = HEADER; place = 0 }))))
-        ≡ PlaneAnswer.Refused refusal → OfReading refusal.number × (refusal.place ≡ 0)
+        → cond {A = Result Plane Refusal} long (Err (record { number = LONG-DATAGRAM; place = 0 })) (cond empty (Err (record { number = HEADER; place = 0 })) (cond version (cond clear (Ok Plane.Control) (Ok Plane.Data)) (Err (record { number = HEADER; place = 0 }))))
+        ≡ Err refusal → OfReading refusal.number × (refusal.place ≡ 0)
     go true empty version clear h = at LONG-DATAGRAM (omega arith) (omega arith) h
     go false true version clear h = at HEADER (omega arith) (omega arith) h
     go false false false clear h = at HEADER (omega arith) (omega arith) h
     go false false true true h = clash (cc)
     go false false true false h = clash (cc)
 
-pub plane_place : (datagram : List ℕ) (refusal : Refusal) → plane_of datagram ≡ PlaneAnswer.Refused refusal → refusal.place ≡ 0
+pub plane_place : (datagram : List ℕ) (refusal : Refusal) → plane_of datagram ≡ Err refusal → refusal.place ≡ 0
 plane_place datagram refusal e = (plane_said datagram refusal e).1

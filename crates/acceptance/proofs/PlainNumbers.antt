@@ -9,10 +9,9 @@ use borrow.Author.Tests.{leb-true, le-leb, ltb-true, lt-ltb, eqb-true, ne_eqb}
 use lib.Dec.{eqb, leb, ltb}
 use lib.ListN.{length, get_or, take, drop}
 use Rattle.facts.proofs.Tests.{clash}
-use Rattle.wire.specs.declared.option.Frame.TheVariants.{Whole}
 use Rattle.wire.specs.Numbers.{big_endian}
 use Rattle.wire.specs.Options.{cut, option, length_at, split}
-use Rattle.wire.proofs.Options.{length_at_lem, frame_short, frame_past, frame_whole, split_cut, split_whole}
+use Rattle.wire.proofs.Options.{whole, length_at_lem, frame_short, frame_past, frame_whole, split_cut, split_whole}
 use Rattle.meaning.specs.declared.message.End.TheVariants.{Ips, Radio}
 use Rattle.meaning.specs.declared.message.Plane.TheVariants.{Control, Data}
 use Rattle.meaning.specs.Kinds.{among, known, length_listed, value_listed, may_hold, one_for_each, stands_last, must_hold}
@@ -141,4 +140,4 @@ pub option_plainly : (rest : List ℕ) (n : ℕ) → 3 ≤ length rest → n ≡
 option_plainly rest n h e k =
     let size : n ≡ length_at rest = e ∙ length_at_lem rest h in
     let fits : 3 + length_at rest ≤ length rest = omega arith in
-    split_whole rest (get_or rest 0 0) n (sym (frame_whole rest fits) ∙ ap (Whole (get_or rest 0 0)) (sym size))
+    split_whole rest (get_or rest 0 0) n (sym (frame_whole rest fits) ∙ ap (whole (get_or rest 0 0)) (sym size))

@@ -1,10 +1,10 @@
 -- Each number of reading is given exactly when its line says, at its place, and no other number or place would do. Proved once for every sort of
 -- message whose cells do what they must. Assumes nothing.
+use Rattle.std.specs.Prelude.{Option, Some, None, Result, Ok, Err}
 use Prim.Native.Nat.{ℕ, suc, ◌+◌, ◌≤◌}
 use mathlib.Core.Path.{◌≡◌, refl, sym, ap, ◌∙◌, subst}
 use mathlib.Core.Logic.{◌↔◌}
 use mathlib.Core.List.{List, [], ◌∷◌, ◌++◌, append-nil}
-use mathlib.Core.Option.{Option, none, some}
 use mathlib.Core.Bool.{Bool, true, false, cond}
 use native.Mathlib.Omega.{arith}
 use borrow.Author.Tests.{lt-ltb, le-ltb, eq-eqb, ne_eqb}
@@ -28,7 +28,6 @@ use Rattle.read_rules.specs.Sorts.{Sort, fault_of, channel_of, step_of, missing,
 use Rattle.read_control.specs.Message.{control_other, control_sort}
 use Rattle.read_data.specs.Message.{data_other, data_sort}
 use Rattle.reader.specs.Header.{CURRENT-VERSION, version_of, flag_of, flag, read_with}
-use Rattle.reader.specs.declared.answer.PlaneAnswer.{PlaneAnswer}
 use Rattle.reader.specs.Readings.{ControlReading, DataReading, read_control, read_data, plane_of}
 use Rattle.reader.proofs.Planes.{by_plane_lem}
 use Rattle.acceptance.specs.Account.{table_of}
@@ -58,9 +57,9 @@ still_open : (plane : Plane) (τ : Table) → (Behind plane τ → ⊥) → Open
 still_open planes.Control τ o = λ k q. clash q
 still_open planes.Data τ o = amongst _ (stands_last planes.Data) (unheld (τ PACKET-DATA 0) o, tt)
   where
-    unheld : (x : Option (List ℕ)) → ((x ≡ none → ⊥) → ⊥) → x ≡ none
-    unheld none h = refl
-    unheld (some content) h = absurd (h (λ e. clash (cc)))
+    unheld : (x : Option (List ℕ)) → ((x ≡ None → ⊥) → ⊥) → x ≡ None
+    unheld None h = refl
+    unheld (Some content) h = absurd (h (λ e. clash (cc)))
 
 -- the flag, as the header's test takes it
 flag_is : (plane : Plane) → plane_bit plane ≡ flag plane
@@ -220,12 +219,12 @@ module _ (end : End) (id : DatalinkId) (datagram : List ℕ) (o : Octets datagra
   unfolding read_data data_cells
   data_refused_lem = exactly (data_sort end id) id gathered (data_cells end id) datagram o refusal
 
-abbrev plane_answer : Plane → PlaneAnswer
-plane_answer planes.Control = PlaneAnswer.Control
-plane_answer planes.Data = PlaneAnswer.Data
+abbrev plane_answer : Plane → Result Plane Refusal
+plane_answer planes.Control = Ok Plane.Control
+plane_answer planes.Data = Ok Plane.Data
 
 -- the plane alone: 1 or 2, else the plane of its flag
-pub plane_refused : (datagram : List ℕ) (number : ℕ) → InHeader datagram number → plane_of datagram ≡ PlaneAnswer.Refused (record { number = number; place = 0 })
+pub plane_refused : (datagram : List ℕ) (number : ℕ) → InHeader datagram number → plane_of datagram ≡ Err (record { number = number; place = 0 })
 unfolding plane_of
 plane_refused datagram _ (too_long h) = rw (lt-ltb 65507 (length datagram) h)
 plane_refused datagram _ (no_header e) = rw e
@@ -240,7 +239,7 @@ plane_opened plane header body o =
     let n : suc (length body) ≡ 0 → ⊥ = λ x. omega arith in
     rw (le-ltb 65507 (length (header ∷ body)) o.short, ne_eqb (suc (length body)) 0 n, eq-eqb (version_of header) CURRENT-VERSION o.version) (go plane o.of_plane)
   where
-    go : (plane : Plane) → flag_of header ≡ plane_bit plane → cond (eqb (flag_of header) 0) PlaneAnswer.Control PlaneAnswer.Data ≡ plane_answer plane
+    go : (plane : Plane) → flag_of header ≡ plane_bit plane → cond (eqb (flag_of header) 0) (Ok Plane.Control) (Ok Plane.Data) ≡ plane_answer plane
     go planes.Control e = rw e
     go planes.Data e = rw e
 

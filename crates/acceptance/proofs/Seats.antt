@@ -1,8 +1,8 @@
 -- What one option adds to a table of contents. Assumes nothing.
+use Rattle.std.specs.Prelude.{Option, Some, None}
 use Prim.Native.Nat.{ℕ}
 use mathlib.Core.Path.{◌≡◌, refl, sym, ◌∙◌}
 use mathlib.Core.List.{List}
-use mathlib.Core.Option.{Option, none, some}
 use mathlib.Core.Bool.{Bool, true, false, cond}
 use borrow.Author.Tests.{eq-eqb, eqb-true}
 use lib.Dec.{eqb}
@@ -16,30 +16,30 @@ use Rattle.acceptance.specs.Account.{speaks}
 
 -- ---- a place of a table
 
-pub taken_free : {A : Type 0} {content : List ℕ} → some content ≡ none → A
+pub taken_free : {A : Type 0} {content : List ℕ} → Some content ≡ None → A
 taken_free e = clash (cc)
 
 abbrev pub vacant : Option (List ℕ) → Bool
-vacant none = true
-vacant (some content) = false
+vacant None = true
+vacant (Some content) = false
 
-pub of_vacant : (x : Option (List ℕ)) → vacant x ≡ true → x ≡ none
-of_vacant none e = refl
-of_vacant (some content) e = clash e
+pub of_vacant : (x : Option (List ℕ)) → vacant x ≡ true → x ≡ None
+of_vacant None e = refl
+of_vacant (Some content) e = clash e
 
 -- a content more, at a type and a channel
 abbrev pub put : ℕ → ℕ → List ℕ → Table → Table
-put kind channel content τ = λ k n. cond (cond (eqb k kind) (eqb n channel) false) (some content) (τ k n)
+put kind channel content τ = λ k n. cond (cond (eqb k kind) (eqb n channel) false) (Some content) (τ k n)
 
 -- ---- one option more
 
 module _ (plane : Plane) (end : End) (kind : ℕ) (content : List ℕ) where
   -- nothing is stated yet where it speaks
   abbrev pub Free : Table → Type 0
-  Free τ = (k n : ℕ) → speaks plane end k n kind content ≡ true → τ k n ≡ none
+  Free τ = (k n : ℕ) → speaks plane end k n kind content ≡ true → τ k n ≡ None
 
   abbrev pub adding : Table → Table
-  adding τ = λ k n. cond (speaks plane end k n kind content) (some content) (τ k n)
+  adding τ = λ k n. cond (speaks plane end k n kind content) (Some content) (τ k n)
 
   -- an unknown option speaks for nothing
   pub silent : among kind known ≡ false → (k n : ℕ) → speaks plane end k n kind content ≡ false
@@ -50,7 +50,7 @@ module _ (plane : Plane) (end : End) (kind : ℕ) (content : List ℕ) where
       go false = refl
 
   pub adding_silent : among kind known ≡ false → (τ : Table) → adding τ ≡ τ
-  adding_silent u τ = λ i k n. cond (silent u k n i) (some content) (τ k n)
+  adding_silent u τ = λ i k n. cond (silent u k n i) (Some content) (τ k n)
 
   -- a known one that the message may hold speaks for its channel
   module _ (u : among kind known ≡ true) (a : among kind (may_hold plane end) ≡ true) (τ : Table) where
@@ -61,14 +61,14 @@ module _ (plane : Plane) (end : End) (kind : ℕ) (content : List ℕ) where
     speaking k n = rw (u, a)
 
     pub adding_puts : adding τ ≡ put kind (channel_of plane kind content) content τ
-    adding_puts = λ i k n. cond (speaking k n i) (some content) (τ k n)
+    adding_puts = λ i k n. cond (speaking k n i) (Some content) (τ k n)
 
-    pub of_free : Free τ → τ kind (channel_of plane kind content) ≡ none
+    pub of_free : Free τ → τ kind (channel_of plane kind content) ≡ None
     of_free f = f kind channel (speaking kind channel ∙ rw (eq-eqb kind kind refl, eq-eqb channel channel refl))
 
-    pub free_of : τ kind (channel_of plane kind content) ≡ none → Free τ
+    pub free_of : τ kind (channel_of plane kind content) ≡ None → Free τ
     free_of e k n s = go (eqb k kind) refl (sym (speaking k n) ∙ s)
       where
-        go : (b : Bool) → eqb k kind ≡ b → cond b (eqb n channel) false ≡ true → τ k n ≡ none
+        go : (b : Bool) → eqb k kind ≡ b → cond b (eqb n channel) false ≡ true → τ k n ≡ None
         go true p q = rw (eqb-true k kind p, eqb-true n channel q) e
         go false p q = clash q

@@ -1,9 +1,9 @@
 -- Order, unused bits and skipped options change neither what is allowed nor what is stated. Assumes nothing.
+use Rattle.std.specs.Prelude.{Option, Some, None}
 use Prim.Native.Nat.{ℕ, ◌+◌, ◌%◌, ◌≤◌}
 use mathlib.Core.Path.{◌≡◌, refl, sym, ap, ◌∙◌}
 use mathlib.Core.Logic.{◌↔◌}
 use mathlib.Core.List.{List, [], ◌∷◌}
-use mathlib.Core.Option.{Option, none, some}
 use mathlib.Core.Bool.{Bool, true, false, cond}
 use native.Mathlib.Omega.{arith}
 use lib.Dec.{eqb}
@@ -14,7 +14,6 @@ use Rattle.wire.specs.Options.{Options, bytes}
 use Rattle.meaning.specs.declared.message.End.{End}
 use Rattle.meaning.specs.declared.message.Plane.{Plane}
 use Rattle.meaning.specs.declared.message.Plane.TheVariants as planes
-use Rattle.meaning.specs.declared.message.Status.{Status}
 use Rattle.meaning.specs.Kinds.{value_listed, must_hold, DATALINK-IDENTIFIER, CHANNEL-STATUS, CHANNEL-IDENTIFIER, FLOW-SEQUENCE}
 use Rattle.read_option.specs.Stated.{Table, status_from}
 use Rattle.read_rules.specs.Sorts.{Sort, rules_of}
@@ -27,8 +26,8 @@ use Rattle.acceptance.proofs.Account.{⇒accepted}
 
 -- a content without unused bits
 abbrev pub bare : ℕ → Option (List ℕ) → Option (List ℕ)
-bare kind none = none
-bare kind (some content) = some (cond (eqb kind CHANNEL-STATUS) (get_or content 0 0 ∷ (get_or content 1 0 % 16 ∷ [])) content)
+bare kind None = None
+bare kind (Some content) = Some (cond (eqb kind CHANNEL-STATUS) (get_or content 0 0 ∷ (get_or content 1 0 % 16 ∷ [])) content)
 
 module _ (plane : Plane) (end : End) where
   unused_listed : {n a b : ℕ} → Listed plane end CHANNEL-STATUS (n ∷ (a ∷ [])) → Listed plane end CHANNEL-STATUS (n ∷ (b ∷ []))
@@ -63,20 +62,20 @@ module _ (plane : Plane) (end : End) where
     thes (Shuffled.under {t} {c} {f} {g} s) h = go (speaks plane end k n t c) (thes s (omega arith))
       where
         go : (b : Bool) → bare k (the plane end k n f) ≡ bare k (the plane end k n g)
-            → bare k (cond b (some c) (the plane end k n f)) ≡ bare k (cond b (some c) (the plane end k n g))
+            → bare k (cond b (Some c) (the plane end k n f)) ≡ bare k (cond b (Some c) (the plane end k n g))
         go true e = refl
         go false e = e
     thes (Shuffled.swap {t} {u} {c} {d} {f}) h = ap (bare k) (go (speaks plane end k n t c) (speaks plane end k n u d) h)
       where
         go : (a b : Bool) → one a + (one b + count plane end k n f) ≤ 1
-            → cond a (some c) (cond b (some d) (the plane end k n f)) ≡ cond b (some d) (cond a (some c) (the plane end k n f))
+            → cond a (Some c) (cond b (Some d) (the plane end k n f)) ≡ cond b (Some d) (cond a (Some c) (the plane end k n f))
         go true true q = absurd (omega arith)
         go true false q = refl
         go false b q = refl
     thes (Shuffled.unused {n = m} {a} {b} {f} e) h = go (eqb k CHANNEL-STATUS) (is_at n (speaks_for plane end CHANNEL-STATUS (m ∷ (a ∷ [])))) refl
       where
         go : (same speaking : Bool) → eqb k CHANNEL-STATUS ≡ same
-            → bare k (cond (cond same speaking false) (some (m ∷ (a ∷ []))) (the plane end k n f)) ≡ bare k (cond (cond same speaking false) (some (m ∷ (b ∷ []))) (the plane end k n f))
+            → bare k (cond (cond same speaking false) (Some (m ∷ (a ∷ []))) (the plane end k n f)) ≡ bare k (cond (cond same speaking false) (Some (m ∷ (b ∷ []))) (the plane end k n f))
         go true true q = rw (q, e)
         go true false q = refl
         go false speaking q = refl
@@ -85,20 +84,20 @@ module _ (plane : Plane) (end : End) where
 -- ---- two tables that differ in unused bits alone
 
 -- The unused bits of a Channel Status carry no meaning.
-pub status_unused : (n a b : ℕ) → a % 16 ≡ b % 16 → status_from (some (n ∷ (a ∷ []))) ≡ status_from (some (n ∷ (b ∷ [])))
-status_unused n a b e = ap Status.Given e
+pub status_unused : (n a b : ℕ) → a % 16 ≡ b % 16 → status_from (Some (n ∷ (a ∷ []))) ≡ status_from (Some (n ∷ (b ∷ [])))
+status_unused n a b e = ap Some e
 
 bare_status : (x : Option (List ℕ)) → status_from (bare CHANNEL-STATUS x) ≡ status_from x
-bare_status none = refl
-bare_status (some content) = ap Status.Given (omega arith)
+bare_status None = refl
+bare_status (Some content) = ap Some (omega arith)
 
 bare_other : (kind : ℕ) → eqb kind CHANNEL-STATUS ≡ false → (x : Option (List ℕ)) → bare kind x ≡ x
-bare_other kind e none = refl
-bare_other kind e (some content) = rw e
+bare_other kind e None = refl
+bare_other kind e (Some content) = rw e
 
-bare_none : (kind : ℕ) (x : Option (List ℕ)) → bare kind x ≡ none → x ≡ none
-bare_none kind none e = refl
-bare_none kind (some content) e = taken_free e
+bare_none : (kind : ℕ) (x : Option (List ℕ)) → bare kind x ≡ None → x ≡ None
+bare_none kind None e = refl
+bare_none kind (Some content) e = taken_free e
 
 abbrev pub Alike : Table → Table → Type 0
 Alike τ σ = (kind channel : ℕ) → bare kind (τ kind channel) ≡ bare kind (σ kind channel)

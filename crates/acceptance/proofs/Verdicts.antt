@@ -1,4 +1,6 @@
 -- Which verdicts a reader gives: it refuses by no number but 1 to 11, and a message of its own plane is never another's. Assumes nothing.
+use Rattle.meaning.specs.declared.message.Plane.{Plane}
+use Rattle.std.specs.Prelude.{Ok, Err}
 use Prim.Native.Nat.{ℕ}
 use mathlib.Core.Path.{◌≡◌}
 use mathlib.Core.List.{List}
@@ -14,7 +16,6 @@ use Rattle.read_rules.specs.Judging.{judge}
 use Rattle.read_rules.specs.Sorts.{Sort, rules_of}
 use Rattle.read_control.specs.Message.{control_sort}
 use Rattle.read_data.specs.Message.{data_sort}
-use Rattle.reader.specs.declared.answer.PlaneAnswer.{PlaneAnswer}
 use Rattle.reader.specs.Readings.{read_control, read_data, plane_of}
 use Rattle.reader.proofs.Planes.{by_plane_lem}
 use Rattle.acceptance.specs.Numbers.{OfReading}
@@ -33,7 +34,7 @@ module _ (end : End) (id : DatalinkId) (datagram : List ℕ) (refusal : Refusal)
   data_numbers e = (data_said_lem end id datagram refusal e).0
 
 -- the plane alone
-pub plane_numbers : (datagram : List ℕ) (refusal : Refusal) → plane_of datagram ≡ PlaneAnswer.Refused refusal → OfReading refusal.number
+pub plane_numbers : (datagram : List ℕ) (refusal : Refusal) → plane_of datagram ≡ Err refusal → OfReading refusal.number
 plane_numbers datagram refusal e = (plane_said datagram refusal e).0
 
 -- ---- a reader that is asked for a message of its own plane
@@ -44,13 +45,13 @@ own S id stated C f =
     (record { accepted = λ w e. clash (cc); at_option = λ number place w e. clash (cc); at_end = λ number place w l p e. clash (cc) })
 
 module _ (end : End) (id : DatalinkId) (datagram : List ℕ) where
-  pub control_own : plane_of datagram ≡ PlaneAnswer.Control → (read_control end id datagram).verdict ≡ Verdict.OtherPlane → ⊥
+  pub control_own : plane_of datagram ≡ Ok Plane.Control → (read_control end id datagram).verdict ≡ Verdict.OtherPlane → ⊥
   unfolding read_control control_cells
   control_own p =
       let S = control_sort end id in
       rw (← (by_plane_lem (rules_of S) datagram p)) (own S id control_stated (control_cells end id) (split (drop 1 datagram)))
 
-  pub data_own : plane_of datagram ≡ PlaneAnswer.Data → (read_data end id datagram).verdict ≡ Verdict.OtherPlane → ⊥
+  pub data_own : plane_of datagram ≡ Ok Plane.Data → (read_data end id datagram).verdict ≡ Verdict.OtherPlane → ⊥
   unfolding read_data data_cells
   data_own p =
       let S = data_sort end id in

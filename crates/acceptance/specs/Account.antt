@@ -1,13 +1,11 @@
 -- What an accepted message is, and what it means: no order of tests, no place, nothing gathered on the way.
-use Rattle.std.specs.Prelude.{ℕ, ◌+◌, ◌%◌, ◌≤◌, ◌≡◌, ◌⊎◌, List, [], ◌∷◌, Bool, true, false, cond, length, get_or, eqb}
-use Rattle.std.proofs.Math.Option.{Option, none, some}
+use Rattle.std.specs.Prelude.{ℕ, ◌+◌, ◌%◌, ◌≤◌, ◌≡◌, ◌⊎◌, List, [], ◌∷◌, Bool, true, false, cond, length, get_or, eqb, Option, Some, None}
 use Rattle.quantity.specs.declared.count.DatalinkId.{DatalinkId}
 use Rattle.quantity.specs.Limits.{LONGEST-DATAGRAM}
 use Rattle.wire.specs.Options.{Options, done, cut, option, bytes}
 use Rattle.meaning.specs.declared.message.End.{End}
 use Rattle.meaning.specs.declared.message.Plane.{Plane}
 use Rattle.meaning.specs.declared.message.Plane.TheVariants as planes
-use Rattle.meaning.specs.declared.message.Datalink.{Datalink}
 use Rattle.meaning.specs.declared.message.Control.{Control}
 use Rattle.meaning.specs.declared.message.Data.{Data}
 use Rattle.meaning.specs.Kinds.{among, known, length_listed, value_listed, may_hold, must_hold, stands_last, DATALINK-IDENTIFIER, CHANNEL-STATUS, CHANNEL-IDENTIFIER, FLOW-SEQUENCE}
@@ -29,11 +27,11 @@ pub record Listed (plane : Plane) (end : End) (kind : ℕ) (content : List ℕ) 
 
 -- the channel for which an option speaks: `none` if it says nothing, 0 if it speaks for no channel
 abbrev pub speaks_for : Plane → End → ℕ → List ℕ → Option ℕ
-speaks_for plane end kind content = cond (among kind known) (cond (among kind (may_hold plane end)) (some (channel_of plane kind content)) none) none
+speaks_for plane end kind content = cond (among kind known) (cond (among kind (may_hold plane end)) (Some (channel_of plane kind content)) None) None
 
 abbrev pub is_at : ℕ → Option ℕ → Bool
-is_at n none = false
-is_at n (some m) = eqb n m
+is_at n None = false
+is_at n (Some m) = eqb n m
 
 -- whether an option is one of type k for channel n
 abbrev pub speaks : Plane → End → ℕ → ℕ → ℕ → List ℕ → Bool
@@ -51,9 +49,9 @@ count plane e k n (option kind content more) = one (speaks plane e k n kind cont
 
 -- the content of the option of type k for channel n
 unfoldable pub the : Plane → End → ℕ → ℕ → Options → Option (List ℕ)
-the plane e k n done = none
-the plane e k n (cut rest) = none
-the plane e k n (option kind content more) = cond (speaks plane e k n kind content) (some content) (the plane e k n more)
+the plane e k n done = None
+the plane e k n (cut rest) = None
+the plane e k n (option kind content more) = cond (speaks plane e k n kind content) (Some content) (the plane e k n more)
 
 -- an option of type k for channel n with this content stands somewhere
 unfoldable pub Stands : Plane → End → ℕ → ℕ → List ℕ → Options → Type 0
@@ -74,13 +72,13 @@ Ending plane (option kind content more) = (among kind (stands_last plane) ≡ tr
 -- what must stand stands
 abbrev pub Filled : List ℕ → Table → Type 0
 Filled [] τ = Unit {0}
-Filled (kind ∷ kinds) τ = (τ kind 0 ≡ none → ⊥) × Filled kinds τ
+Filled (kind ∷ kinds) τ = (τ kind 0 ≡ None → ⊥) × Filled kinds τ
 
 -- "Flow Sequence needs a Channel Identifier of the same channel", in a data message
 abbrev pub SameChannel : Option (List ℕ) → Option (List ℕ) → Type 0
-SameChannel none identifier = Unit {0}
-SameChannel (some sequence) none = ⊥
-SameChannel (some sequence) (some identifier) = get_or sequence 0 0 ≡ get_or identifier 0 0
+SameChannel None identifier = Unit {0}
+SameChannel (Some sequence) None = ⊥
+SameChannel (Some sequence) (Some identifier) = get_or sequence 0 0 ≡ get_or identifier 0 0
 
 abbrev pub Paired : Plane → Table → Type 0
 Paired planes.Control τ = Unit {0}
@@ -88,7 +86,7 @@ Paired planes.Data τ = SameChannel (τ FLOW-SEQUENCE 0) (τ CHANNEL-IDENTIFIER 
 
 -- the Datalink ID is the configured one
 abbrev pub Ours : DatalinkId → Table → Type 0
-Ours id τ = datalink_from (τ DATALINK-IDENTIFIER 0) ≡ Datalink.Given id
+Ours id τ = datalink_from (τ DATALINK-IDENTIFIER 0) ≡ Some id
 
 -- A datagram is accepted by a reader of a plane and an end that is configured with an ID, and these are its options:
 -- it is a header that section 3.1 allows, of this plane, followed by whole options, each unknown or listed, none repeated where at most one

@@ -1,6 +1,5 @@
 -- Where the fault of a refused message stands. Document 01: "Place: the option's first byte for 3 to 8, the datagram's length for 9 to 11, 0 for all others."
-use Rattle.std.specs.Prelude.{ℕ, ◌+◌, ◌≤◌, ◌<◌, ◌≡◌, List, ◌∷◌, ◌++◌, true, false, length}
-use Rattle.std.proofs.Math.Option.{none}
+use Rattle.std.specs.Prelude.{ℕ, ◌+◌, ◌≤◌, ◌<◌, ◌≡◌, List, ◌∷◌, ◌++◌, true, false, length, None}
 use Rattle.quantity.specs.declared.refusal.Refusal.{Refusal}
 use Rattle.quantity.specs.Refusals.{HEADER, CUT, BEHIND-PACKET, MISSING, OTHER-DATALINK}
 use Rattle.wire.specs.Options.{Options, cut, option, bytes, split, WholeOptions}
@@ -15,7 +14,7 @@ use Rattle.acceptance.specs.Account.{All, Listed, count, table_of, Ending}
 -- number 8: Packet Data (128) stands already; a control message has none
 abbrev pub Behind : Plane → Table → Type 0
 Behind planes.Control τ = ⊥
-Behind planes.Data τ = τ 128 0 ≡ none → ⊥
+Behind planes.Data τ = τ 128 0 ≡ None → ⊥
 
 -- The first fault of the first option of a rest, `τ` being what the options before it say: "each tested in the order 3, 8, 6, 4, 5, 7".
 -- Each number stands with what its line of "Numbers of refusal" says, and with no number before it in this order.
@@ -29,7 +28,7 @@ pub data Fault (plane : Plane) (e : End) (τ : Table) : ℕ → Options → Type
   meaningless : {kind : ℕ} {content : List ℕ} {more : Options} → (Behind plane τ → ⊥) → among kind known ≡ true → among kind (may_hold plane e) ≡ true
       → length_listed kind (length content) ≡ true → value_listed kind content ≡ false → Fault plane e τ 5 (option kind content more)
   repeated : {kind : ℕ} {content : List ℕ} {more : Options} → (Behind plane τ → ⊥) → among kind known ≡ true → Listed plane e kind content
-      → (τ kind (channel_of plane kind content) ≡ none → ⊥) → Fault plane e τ 7 (option kind content more)
+      → (τ kind (channel_of plane kind content) ≡ None → ⊥) → Fault plane e τ 7 (option kind content more)
 
 -- "the first found is reported": the options before it have no fault, and the place is its first byte, a byte of the datagram
 pub record AtOption (plane : Plane) (e : End) (datagram : List ℕ) (refusal : Refusal) : Type 0 where

@@ -1,7 +1,7 @@
 -- The outcome of a call, and the two numbers that stand for it: the constants of src/lib.rt under their names, with `-` for `_`.
-use Rattle.std.specs.Prelude.{ℕ, ◌+◌}
+use Rattle.quantity.specs.declared.count.ByteCount.{ByteCount}
+use Rattle.std.specs.Prelude.{ℕ, ◌+◌, Result, Ok, Err}
 use Rattle.quantity.specs.declared.refusal.Refusal.{Refusal}
-use Rattle.writer.specs.declared.answer.WriteAnswer.{WriteAnswer}
 use Rattle.answer_codes.specs.declared.Answer.{Answer}
 
 -- what a call answers. Document 01, of a refusal: "Each gives its number and a place, changes no state and no lent byte." `other_plane`, `shown`, `kept`,
@@ -148,6 +148,6 @@ code_of offered = plainly OFFERED
 abbrev pub refused_as : Refusal → Outcome
 refused_as refusal = refused refusal.number refusal.place
 
-abbrev pub written_as : WriteAnswer → Outcome
-written_as (WriteAnswer.Wrote bytes) = wrote bytes.0
-written_as (WriteAnswer.Refused refusal) = refused_as refusal
+abbrev pub written_as : Result ByteCount Refusal → Outcome
+written_as (Ok bytes) = wrote bytes.0
+written_as (Err refusal) = refused_as refusal

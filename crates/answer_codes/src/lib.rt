@@ -4,8 +4,8 @@
 ghost use Rattle.std.specs.Prelude.{◌≡◌};
 ghost use Rattle.answer_codes.specs.Codes.{code_of, plainly, counting, refused_as, written_as};
 
+use quantity::count::ByteCount;
 use quantity::refusal::Refusal;
-use writer::answer::WriteAnswer;
 
 pub const STARTED: u64 = 1;
 
@@ -90,11 +90,11 @@ pub fn refused(refusal: Refusal) -> Answer
     }
 }
 
-pub fn of_write(answer: WriteAnswer) -> Answer
+pub fn of_write(answer: Result<ByteCount, Refusal>) -> Answer
     ensures { result ≡ code_of (written_as answer) }
 {
     match answer {
-        WriteAnswer::Wrote(length) => counted(WROTE, length.0),
-        WriteAnswer::Refused(refusal) => refused(refusal),
+        Ok(length) => counted(WROTE, length.0),
+        Err(refusal) => refused(refusal),
     }
 }

@@ -1,5 +1,6 @@
 -- What is noted of a control message, as one number. Assumes nothing.
-use Rattle.std.proofs.Common.{◌≡◌, ℕ, zero, suc, ◌-◌, ◌≤◌, true, false, List, length, get_or, drop, sym, refl, ap, ◌∙◌, subst, arith}
+use Rattle.meaning.specs.declared.message.Plane.{Plane}
+use Rattle.std.proofs.Common.{◌≡◌, ℕ, zero, suc, ◌-◌, ◌≤◌, true, false, List, length, get_or, drop, sym, refl, ap, ◌∙◌, subst, arith, Ok}
 use mathlib.Core.Bool.{false≢true}
 use lib.ListN.{get_or-eq_default}
 use Rattle.quantity.specs.declared.count.DatalinkId.{DatalinkId}
@@ -12,7 +13,6 @@ use Rattle.read_control.specs.Message.{blank_control, control_sort}
 use Rattle.note_control.specs.declared.Noted.{Noted}
 use Rattle.note_control.specs.Codes.{code_status, code_window}
 use Rattle.note_control.specs.Noted.{MeantIf, NotedBy}
-use Rattle.reader.specs.declared.answer.PlaneAnswer.{PlaneAnswer}
 use Rattle.reader.specs.Readings.{Verdict, ControlReading, read_control, plane_of}
 use Rattle.reader.proofs.Planes.{by_plane_lem}
 use Rattle.bench_reader.specs.Digests.{ABSENT, status_part, window_part, noted_sum, noted_of, is_accepted, fault_of, noted_digest}
@@ -22,7 +22,7 @@ code_part zero n = absurd (n refl)
 code_part (suc k) n = omega arith
 
 -- the options of a control message as they are noted are those that the reader reads
-pub noted_reading : (end : End) (id : DatalinkId) (datagram : List ℕ) {noted : Noted} {statuses tags windows : List ℕ} → plane_of datagram ≡ PlaneAnswer.Control
+pub noted_reading : (end : End) (id : DatalinkId) (datagram : List ℕ) {noted : Noted} {statuses tags windows : List ℕ} → plane_of datagram ≡ Ok Plane.Control
     → NotedBy (judge (rules_of (control_sort end id)) (split (drop 1 datagram)) 1 blank_control) noted statuses tags windows
     → NotedBy (read_control end id datagram) noted statuses tags windows
 unfolding read_control

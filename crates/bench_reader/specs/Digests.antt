@@ -1,20 +1,15 @@
 -- A reading as one number: 64 bits into which each part is mixed, so that two readers that answer alike can be compared and timed.
-use Rattle.std.specs.Prelude.{ℕ, ◌+◌, ◌-◌, ◌*◌, ◌/◌, ◌%◌, ◌^◌, Bool, true, false, cond, List, [], ◌∷◌, length, slice_index, slice_index_or}
+use Rattle.quantity.specs.declared.count.DatalinkId.{DatalinkId}
+use Rattle.quantity.specs.declared.count.LinkInstanceId.{LinkInstanceId}
+use Rattle.quantity.specs.declared.count.FlowSequence.{FlowSequence}
+use Rattle.meaning.specs.declared.message.ContextBytes.{ContextBytes}
+use Rattle.meaning.specs.declared.message.Plane.{Plane}
+use Rattle.std.specs.Prelude.{ℕ, ◌+◌, ◌-◌, ◌*◌, ◌/◌, ◌%◌, ◌^◌, Bool, true, false, cond, List, [], ◌∷◌, length, slice_index, slice_index_or, Option, Some, None, Result, Ok, Err}
 use Rattle.quantity.specs.declared.refusal.Refusal.{Refusal}
 use Rattle.meaning.specs.declared.message.End.{End}
-use Rattle.meaning.specs.declared.message.Datalink.{Datalink}
-use Rattle.meaning.specs.declared.message.Instance.{Instance}
-use Rattle.meaning.specs.declared.message.Context.{Context}
-use Rattle.meaning.specs.declared.message.Status.{Status}
-use Rattle.meaning.specs.declared.message.Sequence.{Sequence}
 use Rattle.meaning.specs.declared.message.Window.{Window}
-use Rattle.meaning.specs.declared.message.Counted.{Counted}
-use Rattle.meaning.specs.declared.message.Channel.{Channel}
-use Rattle.meaning.specs.declared.message.Expiration.{Expiration}
 use Rattle.meaning.specs.declared.message.Control.{Control}
 use Rattle.meaning.specs.declared.message.Data.{Data}
-use Rattle.meaning.specs.Cells.{no_status, no_sequence, no_window}
-use Rattle.reader.specs.declared.answer.PlaneAnswer.{PlaneAnswer}
 use Rattle.reader.specs.Readings.{Verdict, ControlReading, DataReading}
 
 abbrev pub end_of : Bool → End
@@ -34,54 +29,53 @@ ABSENT = 2 ^ 32
 abbrev pub EMPTY : ℕ
 EMPTY = 2 ^ 32 + 1
 
-abbrev pub datalink_part : Datalink → ℕ
-datalink_part Datalink.Absent = ABSENT
-datalink_part (Datalink.Given id) = id.0
+abbrev pub datalink_part : Option DatalinkId → ℕ
+datalink_part None = ABSENT
+datalink_part (Some id) = id.0
 
-abbrev pub instance_part : Instance → ℕ
-instance_part Instance.Absent = 0
-instance_part (Instance.Given id n) = id.0
+abbrev pub instance_part : Option (LinkInstanceId × ℕ) → ℕ
+instance_part None = 0
+instance_part (Some (id, n)) = id.0
 
-abbrev pub instance_length : Instance → ℕ
-instance_length Instance.Absent = 0
-instance_length (Instance.Given id n) = n
+abbrev pub instance_length : Option (LinkInstanceId × ℕ) → ℕ
+instance_length None = 0
+instance_length (Some (id, n)) = n
 
-abbrev pub context_part : Context → ℕ
-context_part Context.Absent = 0
-context_part (Context.Given bytes n) = bytes.0
+abbrev pub context_part : Option (ContextBytes × ℕ) → ℕ
+context_part None = 0
+context_part (Some (bytes, n)) = bytes.0
 
-abbrev pub context_length : Context → ℕ
-context_length Context.Absent = 0
-context_length (Context.Given bytes n) = n
+abbrev pub context_length : Option (ContextBytes × ℕ) → ℕ
+context_length None = 0
+context_length (Some (bytes, n)) = n
 
-abbrev pub status_part : Status → ℕ
-status_part Status.Absent = ABSENT
-status_part (Status.Given number) = number
+abbrev pub status_part : Option ℕ → ℕ
+status_part None = ABSENT
+status_part (Some number) = number
 
-abbrev pub sequence_part : Sequence → ℕ
-sequence_part Sequence.Absent = ABSENT
-sequence_part (Sequence.Given word) = word.0
+abbrev pub sequence_part : Option FlowSequence → ℕ
+sequence_part None = ABSENT
+sequence_part (Some word) = word.0
 
-abbrev pub window_part : Window → ℕ
-window_part Window.Absent = ABSENT
-window_part Window.Empty = EMPTY
-window_part (Window.Given word) = word.0
+abbrev pub window_part : Option Window → ℕ
+window_part None = ABSENT
+window_part (Some Window.Empty) = EMPTY
+window_part (Some (Window.Given word)) = word.0
 
-abbrev pub counted_part : Counted → ℕ
-counted_part Counted.Absent = ABSENT
-counted_part (Counted.Given id word) = word.0
+abbrev pub counted_part : Option (ℕ × FlowSequence) → ℕ
+counted_part None = ABSENT
+counted_part (Some (id, word)) = word.0
 
-abbrev pub counted_channel : Counted → ℕ
-counted_channel Counted.Absent = ABSENT
-counted_channel (Counted.Given id word) = id
+abbrev pub counted_channel : Option (ℕ × FlowSequence) → ℕ
+counted_channel None = ABSENT
+counted_channel (Some (id, word)) = id
 
-abbrev pub channel_part : Channel → ℕ
-channel_part Channel.Absent = ABSENT
-channel_part (Channel.Given id) = id
+abbrev pub channel_part : Option ℕ → ℕ
+channel_part = status_part
 
-abbrev pub expiration_part : Expiration → ℕ
-expiration_part Expiration.Absent = ABSENT
-expiration_part (Expiration.Given time) = time
+abbrev pub expiration_part : Option ℕ → ℕ
+expiration_part None = ABSENT
+expiration_part (Some time) = time
 
 -- ---- what is stated, one part after another
 
@@ -98,19 +92,19 @@ control_sum channel m =
     ∷ instance_length m.instance
     ∷ context_part m.context
     ∷ context_length m.context
-    ∷ status_part (slice_index_or m.statuses channel no_status).status
-    ∷ sequence_part (slice_index_or m.sequences channel no_sequence).sequence
-    ∷ window_part (slice_index_or m.windows channel no_window).window
+    ∷ status_part (slice_index_or m.statuses channel None)
+    ∷ sequence_part (slice_index_or m.sequences channel None)
+    ∷ window_part (slice_index_or m.windows channel None)
     ∷ [])
 
 -- of what is noted of a control message: its link, and of one channel its status and its window
-unfoldable pub noted_sum : Instance → Context → (status window : ℕ) → ℕ
+unfoldable pub noted_sum : Option (LinkInstanceId × ℕ) → Option (ContextBytes × ℕ) → (status window : ℕ) → ℕ
 noted_sum instance context status window =
     mixed_all 0 (instance_part instance ∷ instance_length instance ∷ context_part context ∷ context_length context ∷ status ∷ window ∷ [])
 
 abbrev pub noted_of : ℕ → Control → ℕ
 noted_of channel m =
-    noted_sum m.instance m.context (status_part (slice_index_or m.statuses channel no_status).status) (window_part (slice_index_or m.windows channel no_window).window)
+    noted_sum m.instance m.context (status_part (slice_index_or m.statuses channel None)) (window_part (slice_index_or m.windows channel None))
 
 unfoldable pub data_sum : Data → ℕ
 data_sum m = mixed_all 0 (datalink_part m.datalink ∷ counted_part m.sequence ∷ counted_channel m.sequence ∷ channel_part m.channel ∷ expiration_part m.expiration ∷ [])
@@ -135,10 +129,10 @@ fault_of Verdict.Accepted = 0
 fault_of Verdict.OtherPlane = 1
 fault_of (Verdict.Refused refusal) = refusal_of refusal
 
-abbrev pub plane_digest : PlaneAnswer → ℕ
-plane_digest PlaneAnswer.Control = 0
-plane_digest PlaneAnswer.Data = 1
-plane_digest (PlaneAnswer.Refused refusal) = refusal_of refusal
+abbrev pub plane_digest : Result Plane Refusal → ℕ
+plane_digest (Ok Plane.Control) = 0
+plane_digest (Ok Plane.Data) = 1
+plane_digest (Err refusal) = refusal_of refusal
 
 abbrev pub digest_of : Verdict → ℕ → ℕ
 digest_of verdict sum = cond (is_accepted verdict) sum (fault_of verdict)

@@ -1,16 +1,14 @@
 // A reading folded into a number, part by part.
 ghost use Rattle.std.specs.Prelude.{◌≡◌};
 ghost use Rattle.note_control.specs.Codes.{code_status};
-ghost use Rattle.bench_reader.specs.Digests.{end_of, mixed, datalink_part, instance_part, instance_length, context_part, context_length, status_part, sequence_part, window_part, counted_part, counted_channel, channel_part, expiration_part, control_sum, noted_sum, data_sum, packet_sum, is_accepted, refusal_of, fault_of, plane_digest};
+ghost use Rattle.bench_reader.specs.Digests.{end_of, mixed, datalink_part, instance_part, instance_length, context_part, context_length, status_part, sequence_part, window_part, counted_part, counted_channel, expiration_part, control_sum, noted_sum, data_sum, packet_sum, is_accepted, refusal_of, fault_of, plane_digest};
 
-use meaning::message::{
-    Channel, Context, Control, Counted, Data, Datalink, End, Expiration, Instance, Sequence,
-    Status, Window,
-};
+use meaning::message::{ContextBytes, Control, Data, End, Plane, Window};
 use note_control::ABSENT_STATUS;
+use quantity::count::{DatalinkId, FlowSequence, LinkInstanceId};
 use quantity::limit::CHANNEL_IDS;
 use quantity::refusal::Refusal;
-use reader::answer::{PlaneAnswer, Verdict};
+use reader::answer::Verdict;
 
 // 2^32 and the number behind it, that no value of 32 bits is.
 pub const ABSENT: u64 = 4294967296;
@@ -30,120 +28,83 @@ pub fn end_of(radio: bool) -> End
 }
 
 // One part more.
+#[tactic(auto, unfolding(crate::specs::Digests::mixed))]
 pub fn mix(sum: u64, part: u64) -> u64
     ensures { result ≡ mixed sum part }
 {
     let turned = sum % LOW * HIGH + sum / LOW;
-    std::num::wrapping_add_u64(turned, part)
+    turned.wrapping_add(part)
 }
 
-fn datalink(stated: Datalink) -> u64
+fn datalink(stated: Option<DatalinkId>) -> u64
     ensures { result ≡ datalink_part stated }
 {
-    match stated {
-        Datalink::Absent => ABSENT,
-        Datalink::Given(id) => id.0 as u64,
-    }
+    stated.map_or(ABSENT, |id| id.0 as u64)
 }
 
-fn instance(stated: Instance) -> u64
+fn instance(stated: Option<(LinkInstanceId, usize)>) -> u64
     ensures { result ≡ instance_part stated }
 {
-    match stated {
-        Instance::Absent => 0,
-        Instance::Given(id, _) => id.0,
-    }
+    stated.map_or(0, |(id, _)| id.0)
 }
 
-fn instance_length(stated: Instance) -> u64
+fn instance_length(stated: Option<(LinkInstanceId, usize)>) -> u64
     ensures { result ≡ instance_length stated }
 {
-    match stated {
-        Instance::Absent => 0,
-        Instance::Given(_, length) => length as u64,
-    }
+    stated.map_or(0, |(_, length)| length as u64)
 }
 
-fn context(stated: Context) -> u64
+fn context(stated: Option<(ContextBytes, usize)>) -> u64
     ensures { result ≡ context_part stated }
 {
-    match stated {
-        Context::Absent => 0,
-        Context::Given(bytes, _) => bytes.0,
-    }
+    stated.map_or(0, |(bytes, _)| bytes.0)
 }
 
-fn context_length(stated: Context) -> u64
+fn context_length(stated: Option<(ContextBytes, usize)>) -> u64
     ensures { result ≡ context_length stated }
 {
-    match stated {
-        Context::Absent => 0,
-        Context::Given(_, length) => length as u64,
-    }
+    stated.map_or(0, |(_, length)| length as u64)
 }
 
-fn status(stated: Status) -> u64
+// A status or a channel.
+fn byte(stated: Option<u8>) -> u64
     ensures { result ≡ status_part stated }
 {
-    match stated {
-        Status::Absent => ABSENT,
-        Status::Given(number) => number as u64,
-    }
+    stated.map_or(ABSENT, |number| number as u64)
 }
 
-fn sequence(stated: Sequence) -> u64
+fn sequence(stated: Option<FlowSequence>) -> u64
     ensures { result ≡ sequence_part stated }
 {
-    match stated {
-        Sequence::Absent => ABSENT,
-        Sequence::Given(word) => word.0 as u64,
-    }
+    stated.map_or(ABSENT, |word| word.0 as u64)
 }
 
-pub fn window(stated: Window) -> u64
+pub fn window(stated: Option<Window>) -> u64
     ensures { result ≡ window_part stated }
 {
     match stated {
-        Window::Absent => ABSENT,
-        Window::Empty => EMPTY,
-        Window::Given(word) => word.0 as u64,
+        None => ABSENT,
+        Some(Window::Empty) => EMPTY,
+        Some(Window::Given(word)) => word.0 as u64,
     }
 }
 
-fn counted(stated: Counted) -> u64
+fn counted(stated: Option<(u8, FlowSequence)>) -> u64
     ensures { result ≡ counted_part stated }
 {
-    match stated {
-        Counted::Absent => ABSENT,
-        Counted::Given(_, word) => word.0 as u64,
-    }
+    stated.map_or(ABSENT, |(_, word)| word.0 as u64)
 }
 
-fn counted_channel(stated: Counted) -> u64
+fn counted_channel(stated: Option<(u8, FlowSequence)>) -> u64
     ensures { result ≡ counted_channel stated }
 {
-    match stated {
-        Counted::Absent => ABSENT,
-        Counted::Given(id, _) => id as u64,
-    }
+    stated.map_or(ABSENT, |(id, _)| id as u64)
 }
 
-fn channel(stated: Channel) -> u64
-    ensures { result ≡ channel_part stated }
-{
-    match stated {
-        Channel::Absent => ABSENT,
-        Channel::Given(id) => id as u64,
-    }
-}
-
-fn expiration(stated: Expiration) -> u64
+fn expiration(stated: Option<u32>) -> u64
     ensures { result ≡ expiration_part stated }
 {
-    match stated {
-        Expiration::Absent => ABSENT,
-        Expiration::Given(time) => time as u64,
-    }
+    stated.map_or(ABSENT, |time| time as u64)
 }
 
 // What a control message states of the whole, and of one channel; of a channel that the tables don't have, nothing.
@@ -163,13 +124,13 @@ pub fn control_sum(message: Control, channel: u8) -> u64
         return mix(mix(mix(whole, ABSENT), ABSENT), ABSENT);
     }
     let status_cell = message.statuses[i];
-    let reported = status_cell.status;
+    let reported = status_cell;
     let sequence_cell = message.sequences[i];
-    let flow = sequence_cell.sequence;
+    let flow = sequence_cell;
     let window_cell = message.windows[i];
-    let edge = window_cell.window;
+    let edge = window_cell;
     mix(
-        mix(mix(whole, status(reported)), sequence(flow)),
+        mix(mix(whole, byte(reported)), sequence(flow)),
         window(edge),
     )
 }
@@ -185,7 +146,13 @@ pub fn status_code(code: u16) -> u64
 }
 
 // What is noted of a control message, its link, and of one channel its status and its window.
-pub fn noted_sum(link: Instance, told: Context, reported: u64, edge: u64) -> u64
+#[tactic(auto, unfolding(crate::specs::Digests::noted_sum))]
+pub fn noted_sum(
+    link: Option<(LinkInstanceId, usize)>,
+    told: Option<(ContextBytes, usize)>,
+    reported: u64,
+    edge: u64,
+) -> u64
     ensures { result ≡ noted_sum link told reported edge }
 {
     let named = mix(mix(0, instance(link)), instance_length(link));
@@ -194,6 +161,7 @@ pub fn noted_sum(link: Instance, told: Context, reported: u64, edge: u64) -> u64
 }
 
 // What a data message states, as one number.
+#[tactic(auto, unfolding(crate::specs::Digests::data_sum))]
 pub fn data_sum(message: Data) -> u64
     ensures { result ≡ data_sum message }
 {
@@ -205,10 +173,11 @@ pub fn data_sum(message: Data) -> u64
         mix(mix(0, datalink(named)), counted(flow)),
         counted_channel(flow),
     );
-    mix(mix(counting, channel(chosen)), expiration(time))
+    mix(mix(counting, byte(chosen)), expiration(time))
 }
 
 // The packet's length and its last byte, where it has one.
+#[tactic(auto, unfolding(crate::specs::Digests::packet_sum))]
 pub fn packet_sum(sum: u64, packet: &[u8]) -> u64
     ensures { result ≡ packet_sum sum packet.now }
 {
@@ -223,11 +192,7 @@ pub fn packet_sum(sum: u64, packet: &[u8]) -> u64
 pub fn is_accepted(verdict: Verdict) -> bool
     ensures { result ≡ is_accepted verdict }
 {
-    match verdict {
-        Verdict::Accepted => true,
-        Verdict::OtherPlane => false,
-        Verdict::Refused(_) => false,
-    }
+    matches!(verdict, Verdict::Accepted)
 }
 
 // A refusal's number and place: the place needs the lower 17 bits.
@@ -249,12 +214,12 @@ pub fn fault(verdict: Verdict) -> u64
 }
 
 // The answer about the plane, as one number.
-pub fn plane(answer: PlaneAnswer) -> u64
+pub fn plane(answer: Result<Plane, Refusal>) -> u64
     ensures { result ≡ plane_digest answer }
 {
     match answer {
-        PlaneAnswer::Control => 0,
-        PlaneAnswer::Data => 1,
-        PlaneAnswer::Refused(refusal) => refused(refusal),
+        Ok(Plane::Control) => 0,
+        Ok(Plane::Data) => 1,
+        Err(refusal) => refused(refusal),
     }
 }

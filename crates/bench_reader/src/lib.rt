@@ -2,16 +2,15 @@
 // asks it, by the plane first: what the header refuses fills no message.
 #![tactic(auto)]
 
-ghost use Rattle.std.specs.Prelude.{◌≡◌, if◌then◌else◌};
-ghost use Rattle.reader.specs.declared.answer.PlaneAnswer.{PlaneAnswer};
+ghost use Rattle.std.specs.Prelude.{◌≡◌, if◌then◌else◌, Ok};
 ghost use Rattle.reader.specs.Readings.{plane_of, read_control, read_data, packet_of};
 ghost use Rattle.bench_reader.specs.Digests.{end_of, plane_digest, control_digest, noted_digest, data_digest, packet_digest};
 
-use meaning::message::End;
+use meaning::message::{End, Plane};
 use note_control::{codes, note};
 use quantity::count::DatalinkId;
 use quantity::limit::CHANNEL_IDS;
-use reader::answer::{PlaneAnswer, Verdict};
+use reader::answer::Verdict;
 use reader::{control, data, header};
 
 pub mod digest;
@@ -34,7 +33,7 @@ pub extern "C" fn nespovarda_control_digest(
 ) -> u64
     ensures { result ≡ control_digest channel (read_control (end_of radio) (record { 0 = id }) datagram.now) }
 {
-    if let PlaneAnswer::Refused(refusal) = header::plane(datagram) {
+    if let Err(refusal) = header::plane(datagram) {
         return digest::refused(refusal);
     }
     let reading = control::read(datagram, digest::end_of(radio), DatalinkId(id));
@@ -48,7 +47,7 @@ pub extern "C" fn nespovarda_control_digest(
 
 // What is noted of a datagram of the control plane.
 fn noted(datagram: &[u8], end: End, id: DatalinkId, channel: u8) -> u64
-    requires { plane_of datagram.now ≡ PlaneAnswer.Control }
+    requires { plane_of datagram.now ≡ Ok Plane.Control }
     ensures { result ≡ noted_digest channel (read_control end id datagram.now) }
 {
     let mut statuses = [0u16; CHANNEL_IDS];
@@ -76,9 +75,9 @@ pub extern "C" fn nespovarda_noted_digest(datagram: &[u8], radio: bool, id: u8, 
     ensures { result ≡ noted_digest channel (read_control (end_of radio) (record { 0 = id }) datagram.now) }
 {
     match header::plane(datagram) {
-        PlaneAnswer::Control => noted(datagram, digest::end_of(radio), DatalinkId(id), channel),
-        PlaneAnswer::Data => digest::fault(Verdict::OtherPlane),
-        PlaneAnswer::Refused(refusal) => digest::refused(refusal),
+        Ok(Plane::Control) => noted(datagram, digest::end_of(radio), DatalinkId(id), channel),
+        Ok(Plane::Data) => digest::fault(Verdict::OtherPlane),
+        Err(refusal) => digest::refused(refusal),
     }
 }
 

@@ -1,4 +1,6 @@
 -- Each message of the radio's end is accepted by an endpoint of the same Datalink ID. Assumes nothing.
+use Rattle.meaning.specs.declared.message.Plane.{Plane}
+use Rattle.std.specs.Prelude.{Ok}
 use Prim.Native.Nat.{ℕ, ◌≤◌}
 use mathlib.Core.Bool.{Bool, true, false, cond}
 use mathlib.Core.List.{List}
@@ -13,7 +15,6 @@ use Rattle.quantity.specs.Limits.{LONGEST-DATAGRAM}
 use Rattle.wire.specs.Numbers.{Octets}
 use Rattle.writer.specs.Written.{control_written}
 use Rattle.reader.specs.Readings.{plane_of}
-use Rattle.reader.specs.declared.answer.PlaneAnswer.{PlaneAnswer}
 use Rattle.radio_end_state.specs.State as radio
 use Rattle.radio_end_state.specs.Limits as limits
 use Rattle.radio_end_state.specs.Message.{message_of, message_bytes}
@@ -35,7 +36,7 @@ use Rattle.ips_calls.proofs.Exactly.{radio_heard}
 
 module _ (s : radio.State) (fits : limits.state_fits s ≡ true) where
   -- its header is a control message's
-  pub own_plane : plane_of (message_bytes s) ≡ PlaneAnswer.Control
+  pub own_plane : plane_of (message_bytes s) ≡ Ok Plane.Control
   unfolding plane_of control_written
   own_plane =
       rw (le-ltb LONGEST-DATAGRAM (length (message_bytes s)) (message_short s fits), ne_eqb (length (message_bytes s)) 0 (λ e. omega arith))
@@ -55,10 +56,10 @@ module _ (s : radio.State) (fits : limits.state_fits s ≡ true) where
     message_heard = radio_heard w.state time (message_bytes s) timely (message_of s) (ap (λ datalink. received_in datalink (message_bytes s)) same ∙ message_received)
 
     -- EACH MESSAGE OF THE RADIO'S END IS ACCEPTED
-    pub message_accepted : (reply_of (run.radio time (message_bytes s)) w ≡ of_radio RadioAnswer.Accepted) ⊎ (reply_of (run.radio time (message_bytes s)) w ≡ of_radio RadioAnswer.Due)
+    pub message_accepted : (reply_of (run.radio time (message_bytes s)) w ≡ of_radio (Ok RadioAnswer.Accepted)) ⊎ (reply_of (run.radio time (message_bytes s)) w ≡ of_radio (Ok RadioAnswer.Due))
     message_accepted = rw message_heard (go (due_of w.state.context (message_of s).context))
       where
-        go : (due : Bool) → (of_radio (cond due RadioAnswer.Due RadioAnswer.Accepted) ≡ of_radio RadioAnswer.Accepted) ⊎ (of_radio (cond due RadioAnswer.Due RadioAnswer.Accepted) ≡ of_radio RadioAnswer.Due)
+        go : (due : Bool) → (of_radio (cond due (Ok RadioAnswer.Due) (Ok RadioAnswer.Accepted)) ≡ of_radio (Ok RadioAnswer.Accepted)) ⊎ (of_radio (cond due (Ok RadioAnswer.Due) (Ok RadioAnswer.Accepted)) ≡ of_radio (Ok RadioAnswer.Due))
         go true = inr refl
         go false = inl refl
 
@@ -66,8 +67,8 @@ module _ (s : radio.State) (fits : limits.state_fits s ≡ true) where
 module _ (s : radio.State) (fits : limits.state_fits s ≡ true) (out : List ℕ) (w : World) (same : w.state.datalink.id ≡ s.datalink) (time : ℕ)
     (within : state_fits w.state ≡ true) (later : w.state.pacer.clock ≤ time) where
   abbrev pub Written : After → Type 0
-  Written r = (n : ByteCount) → (r.answer ≡ Answer.Answered n) ⊎ (r.answer ≡ Answer.Unasked n)
-      → (reply_of (run.radio time (take n.0 r.output)) w ≡ of_radio RadioAnswer.Accepted) ⊎ (reply_of (run.radio time (take n.0 r.output)) w ≡ of_radio RadioAnswer.Due)
+  Written r = (n : ByteCount) → (r.answer ≡ Ok (Answer.Answered n)) ⊎ (r.answer ≡ Ok (Answer.Unasked n))
+      → (reply_of (run.radio time (take n.0 r.output)) w ≡ of_radio (Ok RadioAnswer.Accepted)) ⊎ (reply_of (run.radio time (take n.0 r.output)) w ≡ of_radio (Ok RadioAnswer.Due))
 
   taken : {r : After} → Leaves s out r → Written r
   taken {r} left n e =

@@ -13,7 +13,7 @@ use Rattle.store.proofs.Held.{well_fit, joined_append}
 use Rattle.store.proofs.Moved.{displaced_unchanging}
 use Rattle.store_moves.specs.Moving.{Move, ToStart, Marked}
 use Rattle.store_moves.proofs.Waiting.{marked_expiring, marked_sending, marked_withdrawing, marked_unchanging, staying_marked, joined_start, remaining_kept, marked_least}
-use Rattle.ips_channel_rules.specs.Rules.{ChannelCall, offer, next, withdraw, Taken, Tried, Terms, refused, Result, refusal, left}
+use Rattle.ips_channel_rules.specs.Rules.{ChannelCall, offer, next, withdraw, Taken, Tried, Terms, refused, AfterCall, refusal, left}
 use Rattle.ips_channel_rules.specs.Machine.{WordCounter, machine}
 use Rattle.ips_channel_rules.specs.Exactly.{Offered, offered_not_ipv6, offered_long, offered_early, offered_past, offered_full, offered_taken, Asked, asked_early, asked_nothing, asked_not_operational, asked_shut, asked_no_room, asked_sent}
 use Rattle.ips_channel_rules.proofs.Exact.{offered, asked, withdraw_is}
@@ -56,7 +56,7 @@ module _ (c : Channel) (store : List ℕ) where
     expired says counting time =
         changed says counting time (marked_expiring time (packets_of c.queue store)) _ [] (sym (append-nil (alive time (packets_of c.queue store))))
 
-    by_offer : {p : Packet} {time : ℕ} (r : Result machine Taken) → Offered machine k p time (condition_of c store) r
+    by_offer : {p : Packet} {time : ℕ} (r : AfterCall machine Taken) → Offered machine k p time (condition_of c store) r
         → Leaves c store (leaving_by (offer p time) r.answer (packets_of c.queue store)) (joining_by (offer p time) r.answer) r
     unfolding condition_of
     by_offer _ (offered_not_ipv6 v) = unchanged _
@@ -66,7 +66,7 @@ module _ (c : Channel) (store : List ℕ) where
     by_offer _ (offered_full v l t x f) = unchanged _
     by_offer {p} {time} _ (offered_taken v l t x f) = changed _ _ _ (marked_expiring time (packets_of c.queue store)) _ (p ∷ []) refl
 
-    by_next : {time : ℕ} (out : List ℕ) (r : Result machine Tried) → Asked machine k time (length out) (condition_of c store) r
+    by_next : {time : ℕ} (out : List ℕ) (r : AfterCall machine Tried) → Asked machine k time (length out) (condition_of c store) r
         → Leaves c store (leaving_by (next time out) r.answer (packets_of c.queue store)) [] r
     unfolding condition_of
     by_next out _ (asked_early t) = unchanged _

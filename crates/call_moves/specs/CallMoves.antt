@@ -4,7 +4,7 @@ use Rattle.store.specs.Packets.{Packet, joined}
 use Rattle.store.specs.Moves.{Stretch, staying}
 use Rattle.store.specs.Waiting.{packets_of}
 use Rattle.store_moves.specs.Moving.{remaining, Marked}
-use Rattle.ips_channel_rules.specs.Rules.{ChannelCall, offer, next, withdraw, taken, Says, Answer, refused, answered, Result}
+use Rattle.ips_channel_rules.specs.Rules.{ChannelCall, offer, next, withdraw, taken, Says, Answer, refused, answered, AfterCall}
 use Rattle.ips_channel_rules.specs.Machine.{machine}
 use Rattle.ips_channel.specs.declared.state.DatalinkSetting.{DatalinkSetting}
 use Rattle.ips_channel.specs.declared.state.Channel.{Channel}
@@ -18,7 +18,7 @@ joining_by (next time out) answer = []
 joining_by withdraw answer = []
 
 -- of a result: the packets marked as staying are those that wait after it, before those that join, and their bytes, so many as are said to stay, start the store
-pub record Leaves {A : Type 0} (c : Channel) (store : List ℕ) (xs : List Stretch) (joining : List Packet) (r : Result machine A) : Type 0 where
+pub record Leaves {A : Type 0} (c : Channel) (store : List ℕ) (xs : List Stretch) (joining : List Packet) (r : AfterCall machine A) : Type 0 where
   pub kept : List Packet
   pub marked : Marked (packets_of c.queue store) xs kept
   pub waiting_is : r.condition.keeping ≡ kept ++ joining

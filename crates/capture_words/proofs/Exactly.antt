@@ -1,11 +1,11 @@
 -- Which three numbers are taken, as they stand, and which not, in literal numbers. Assumes nothing.
+use Rattle.std.specs.Prelude.{Some}
 use mathlib.Core.Bool.{Bool, true, false, not, ◌&&◌, and-eq-true_iff}
 use mathlib.Core.Path.{◌≡◌, refl, sym}
 use Prim.Native.Nat.{ℕ, ◌≤◌, ◌<◌}
 use lib.Dec.{leb, eqb}
 use borrow.Author.Tests.{leb-true, eqb-false, not-true, le-leb, lt-leb, eq-eqb, ne_eqb}
 use Rattle.facts.proofs.Tests.{clash}
-use Rattle.text.specs.declared.Number.TheVariants.{Value}
 use Rattle.capture_words.specs.Settings.{setting_of, refused_of, allowed, numbers_say, words_say}
 
 module _ (radio ips datalink : ℕ) where
@@ -32,7 +32,7 @@ module _ (radio ips datalink : ℕ) where
 
   -- RADIO-PORT IPS-PORT DATALINK: which word is whose
   pub words_taken : radio ≤ 65535 → ips ≤ 65535 → datalink ≤ 255 → (radio ≡ ips → ⊥)
-      → words_say (Value radio) (Value ips) (Value datalink) ≡ record { good = true; ports = record { radio = radio; ips = ips }; id = record { 0 = datalink } }
+      → words_say (Some radio) (Some ips) (Some datalink) ≡ record { good = true; ports = record { radio = radio; ips = ips }; id = record { 0 = datalink } }
   unfolding words_say
   words_taken r i d n = sym (numbers_taken r i d n)
 

@@ -1,7 +1,5 @@
 -- The words of a program over captures: RADIO-PORT IPS-PORT DATALINK, all or none.
-use Rattle.std.specs.Prelude.{Bool, true, false, not, cond, ◌&&◌, ℕ, leb, eqb}
-use Rattle.text.specs.declared.Number.{Number}
-use Rattle.text.specs.declared.Number.TheVariants.{Bad, Value}
+use Rattle.std.specs.Prelude.{Bool, true, false, not, cond, ◌&&◌, ℕ, leb, eqb, Option, Some, None}
 use Rattle.capture_words.specs.declared.Setting.{Setting}
 
 abbrev pub HIGHEST-PORT : ℕ
@@ -27,14 +25,14 @@ unfoldable pub numbers_say : ℕ → ℕ → ℕ → Setting
 numbers_say radio ips datalink = cond (allowed radio ips datalink) (setting_of true radio ips datalink) refused_of
 
 -- what three words say, each a number or none
-unfoldable pub words_say : Number → Number → Number → Setting
-words_say Bad ips datalink = refused_of
-words_say (Value radio) Bad datalink = refused_of
-words_say (Value radio) (Value ips) Bad = refused_of
-words_say (Value radio) (Value ips) (Value datalink) = numbers_say radio ips datalink
+unfoldable pub words_say : Option ℕ → Option ℕ → Option ℕ → Setting
+words_say None ips datalink = refused_of
+words_say (Some radio) None datalink = refused_of
+words_say (Some radio) (Some ips) None = refused_of
+words_say (Some radio) (Some ips) (Some datalink) = numbers_say radio ips datalink
 
 -- by the words that there are: none, three of them, or another count
 pub data Asked : Setting → Type 0 where
   none : Asked (numbers_say 8580 8581 7)
-  three : (radio ips datalink : Number) → Asked (words_say radio ips datalink)
+  three : (radio ips datalink : Option ℕ) → Asked (words_say radio ips datalink)
   others : Asked refused_of

@@ -7,7 +7,6 @@ ghost use Rattle.capture_words.specs.Settings.{setting_of, refused_of, numbers_s
 use ethernet::Ports;
 use quantity::count::DatalinkId;
 use std::env::{Env, FillError};
-use text::Number;
 
 // "ports and Datalink ID are set in the program"
 const RADIO_PORT: u64 = 8580;
@@ -69,16 +68,16 @@ pub fn numbers_say(radio: u64, ips: u64, datalink: u64) -> Setting
 }
 
 // What three words say, each a number or none.
-pub fn words_say(radio: Number, ips: Number, datalink: Number) -> Setting
+pub fn words_say(radio: Option<u64>, ips: Option<u64>, datalink: Option<u64>) -> Setting
     ensures { result ≡ words_say radio ips datalink }
 {
-    let Number::Value(to_radio) = radio else {
+    let Some(to_radio) = radio else {
         return refused();
     };
-    let Number::Value(to_ips) = ips else {
+    let Some(to_ips) = ips else {
         return refused();
     };
-    let Number::Value(named) = datalink else {
+    let Some(named) = datalink else {
         return refused();
     };
     numbers_say(to_radio, to_ips, named)
@@ -91,11 +90,11 @@ fn has_word(env: &impl Env, i: usize) -> bool {
 }
 
 // The number that a word of the command line stands for.
-fn word(env: &impl Env, i: usize) -> Number {
+fn word(env: &impl Env, i: usize) -> Option<u64> {
     let mut buffer = [0u8; WORD];
     match env.arg(i, &mut buffer) {
         Ok(n) => text::parse(&buffer[..n], u64::MAX),
-        Err(_) => Number::Bad,
+        Err(_) => None,
     }
 }
 

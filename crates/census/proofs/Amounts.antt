@@ -1,4 +1,5 @@
 -- What a record adds at the place of a count is what the count counts of it. Assumes nothing.
+use Rattle.std.specs.Prelude.{Option, Some, None}
 use mathlib.Core.Path.{◌≡◌, refl, sym, ap, ◌∙◌}
 use mathlib.Core.Bool.{Bool, true, false, cond}
 use mathlib.Core.List.{List, [], ◌∷◌, ◌++◌}
@@ -10,7 +11,6 @@ use lib.ListN.{length, get_or, length-set}
 use lib.Seq.{get_or-set_same, get_or-set_other}
 use Rattle.meaning.specs.declared.message.End.{End}
 use Rattle.meaning.specs.declared.message.Window.{Window}
-use Rattle.meaning.specs.declared.message.WindowCell.{WindowCell}
 use Rattle.acceptance.specs.Numbers.{OfReading}
 use Rattle.census.specs.Adding.{MOST, plus, Add, to, add_at, add_all}
 use Rattle.census.specs.Outcomes.{Reading, refused, control, carried, astray, Outcome, skipped, message}
@@ -68,37 +68,37 @@ none place = refl
 
 -- ---- the windows of a table
 
-window_beside : (place channel : ℕ) (window : Window) (adds : List Add) → (WINDOWS + 3 * channel ≡ place → ⊥)
+window_beside : (place channel : ℕ) (window : Option Window) (adds : List Add) → (WINDOWS + 3 * channel ≡ place → ⊥)
     → amount_in place (window_adds channel window ++ adds) ≡ amount_in place adds
-window_beside place channel Window.Absent adds n = refl
-window_beside place channel Window.Empty adds n = refl
-window_beside place channel (Window.Given w) adds n = miss place adds (WINDOWS + 3 * channel) 1 n
+window_beside place channel None adds n = refl
+window_beside place channel (Some Window.Empty) adds n = refl
+window_beside place channel (Some (Window.Given w)) adds n = miss place adds (WINDOWS + 3 * channel) 1 n
 
-windows_beside : (place i : ℕ) (cells : List WindowCell) → ((channel : ℕ) → i ≤ channel → WINDOWS + 3 * channel ≡ place → ⊥) → amount_in place (windows_from i cells) ≡ 0
+windows_beside : (place i : ℕ) (cells : List (Option Window)) → ((channel : ℕ) → i ≤ channel → WINDOWS + 3 * channel ≡ place → ⊥) → amount_in place (windows_from i cells) ≡ 0
 unfolding windows_from
 windows_beside place i [] n = none place
 windows_beside place i (cell ∷ cells) n =
-    window_beside place i cell.window (windows_from (suc i) cells) (n i (omega arith))
+    window_beside place i cell (windows_from (suc i) cells) (n i (omega arith))
     ∙ windows_beside place (suc i) cells (λ channel l. n channel (omega arith))
 
-window_here : (channel : ℕ) (window : Window) (adds : List Add)
+window_here : (channel : ℕ) (window : Option Window) (adds : List Add)
     → amount_in (WINDOWS + 3 * channel) (window_adds channel window ++ adds) ≡ one (is_given window) + amount_in (WINDOWS + 3 * channel) adds
-window_here channel Window.Absent adds = omega arith
-window_here channel Window.Empty adds = omega arith
-window_here channel (Window.Given w) adds = hit (WINDOWS + 3 * channel) adds 1
+window_here channel None adds = omega arith
+window_here channel (Some Window.Empty) adds = omega arith
+window_here channel (Some (Window.Given w)) adds = hit (WINDOWS + 3 * channel) adds 1
 
-windows_at : (i c : ℕ) (cells : List WindowCell) → amount_in (WINDOWS + 3 * (i + c)) (windows_from i cells) ≡ one (is_given (window_in c cells))
+windows_at : (i c : ℕ) (cells : List (Option Window)) → amount_in (WINDOWS + 3 * (i + c)) (windows_from i cells) ≡ one (is_given (window_in c cells))
 unfolding windows_from
 windows_at i c [] = none (WINDOWS + 3 * (i + c))
 windows_at i zero (cell ∷ cells) =
     let same : i + 0 ≡ i = omega arith in
     rw same
-    (window_here i cell.window (windows_from (suc i) cells)
-    ∙ ap (λ (n : ℕ). one (is_given cell.window) + n) (windows_beside (WINDOWS + 3 * i) (suc i) cells (λ channel l e. omega arith))
+    (window_here i cell (windows_from (suc i) cells)
+    ∙ ap (λ (n : ℕ). one (is_given cell) + n) (windows_beside (WINDOWS + 3 * i) (suc i) cells (λ channel l e. omega arith))
     ∙ omega arith)
 windows_at i (suc c) (cell ∷ cells) =
     let next : i + suc c ≡ suc i + c = omega arith in
-    window_beside (WINDOWS + 3 * (i + suc c)) i cell.window (windows_from (suc i) cells) (λ e. omega arith)
+    window_beside (WINDOWS + 3 * (i + suc c)) i cell (windows_from (suc i) cells) (λ e. omega arith)
     ∙ rw next (windows_at (suc i) c cells)
 
 -- ---- a record whose refusal is one of a reader's
@@ -192,7 +192,7 @@ module _ (place : ℕ) (h : 15 ≤ place) where
   refused_beside : (end : End) (number : ℕ) → OfReading number → amount_in place (adds_of (message end (refused number))) ≡ 0
   refused_beside end number f = high place (omega arith) end (refused number) ∙ miss place [] (REFUSALS + number) 1 (λ e. omega (arith, f)) ∙ none place
 
-  granted_beside : ((channel : ℕ) → WINDOWS + 3 * channel ≡ place → ⊥) → (end : End) (cells : List WindowCell) → amount_in place (granted_adds end cells) ≡ 0
+  granted_beside : ((channel : ℕ) → WINDOWS + 3 * channel ≡ place → ⊥) → (end : End) (cells : List (Option Window)) → amount_in place (granted_adds end cells) ≡ 0
   granted_beside n End.Ips cells = none place
   granted_beside n End.Radio cells = windows_beside place 0 cells (λ channel l. n channel)
 

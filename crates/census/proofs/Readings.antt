@@ -1,5 +1,6 @@
 -- What a datagram of a record can be read as: refused by 1 to 11 alone, never by 1 where it is no longer than a datagram may be, and never left unread.
 -- Assumes nothing.
+use Rattle.std.specs.Prelude.{Option, Some, None, Result, Ok, Err}
 use mathlib.Core.Path.{◌≡◌, refl}
 use mathlib.Core.Bool.{Bool, true, false, cond}
 use mathlib.Core.List.{List}
@@ -22,7 +23,6 @@ use Rattle.read_rules.specs.Judging.{judge}
 use Rattle.reader.specs.Header.{CURRENT-VERSION, version_of, flag_of}
 use Rattle.read_rules.specs.Sorts.{Sort, rules_of}
 use Rattle.read_control.specs.Message.{control_sort}
-use Rattle.reader.specs.declared.answer.PlaneAnswer.{PlaneAnswer}
 use Rattle.read_data.specs.Message.{data_sort}
 use Rattle.reader.proofs.Planes.{by_plane_lem}
 use Rattle.acceptance.specs.Places.{Fault, cut_off_lem, other_length, meaningless, unlisted, repeated, behind_packet_lem}
@@ -37,7 +37,6 @@ use Rattle.ethernet.specs.declared.Ports.{Ports}
 use Rattle.ethernet.specs.Layers.{datagram_of}
 use Rattle.ethernet.specs.Kinds.{kind_of, HoldsUdp}
 use Rattle.ethernet.proofs.Exactly.{Tells, kind_tells, datagram_short}
-use Rattle.census.specs.declared.Sender.{Sender}
 use Rattle.census.specs.Outcomes.{control, carried, message, by_verdict, control_of, data_of, by_plane, sender_of, by_sender, reading_of, outcome_of}
 use Rattle.census.specs.Counts.{is_refused}
 use Rattle.census.proofs.Amounts.{Fair}
@@ -49,30 +48,30 @@ module _ (end : End) (id : DatalinkId) (datagram : List ℕ) where
   unfolding reading_of
   reading_fair = go (plane_of datagram) refl
     where
-      of_control : plane_of datagram ≡ PlaneAnswer.Control → (v : Verdict) → (read_control end id datagram).verdict ≡ v
+      of_control : plane_of datagram ≡ Ok Plane.Control → (v : Verdict) → (read_control end id datagram).verdict ≡ v
           → Fair (message end (by_verdict v (control (read_control end id datagram).message)))
       of_control p Verdict.Accepted e = tt
       of_control p (Verdict.Refused refusal) e = control_numbers end id datagram refusal e
       of_control p Verdict.OtherPlane e = absurd (control_own end id datagram p e)
 
-      of_data : plane_of datagram ≡ PlaneAnswer.Data → (v : Verdict) → (read_data end id datagram).verdict ≡ v → (channel size : ℕ)
+      of_data : plane_of datagram ≡ Ok Plane.Data → (v : Verdict) → (read_data end id datagram).verdict ≡ v → (channel size : ℕ)
           → Fair (message end (by_verdict v (carried channel size)))
       of_data p Verdict.Accepted e channel size = tt
       of_data p (Verdict.Refused refusal) e channel size = data_numbers end id datagram refusal e
       of_data p Verdict.OtherPlane e channel size = absurd (data_own end id datagram p e)
 
-      go : (plane : PlaneAnswer) → plane_of datagram ≡ plane → Fair (message end (by_plane plane (control_of (read_control end id datagram)) (data_of (read_data end id datagram) (packet_of datagram))))
-      go PlaneAnswer.Control p = of_control p (read_control end id datagram).verdict refl
-      go PlaneAnswer.Data p = of_data p (read_data end id datagram).verdict refl _ _
-      go (PlaneAnswer.Refused refusal) p = plane_numbers datagram refusal p
+      go : (plane : Result Plane Refusal) → plane_of datagram ≡ plane → Fair (message end (by_plane plane (control_of (read_control end id datagram)) (data_of (read_data end id datagram) (packet_of datagram))))
+      go (Ok Plane.Control) p = of_control p (read_control end id datagram).verdict refl
+      go (Ok Plane.Data) p = of_data p (read_data end id datagram).verdict refl _ _
+      go (Err refusal) p = plane_numbers datagram refusal p
 
 pub outcome_fair : (ports : Ports) (id : DatalinkId) (original : ℕ) (frame : List ℕ) → Fair (outcome_of ports id original frame)
 unfolding outcome_of
 outcome_fair ports id original frame = go (sender_of (kind_of ports original frame))
   where
-    go : (sender : Sender) → Fair (by_sender sender (λ end. reading_of end id (datagram_of frame)))
-    go Sender.Skipped = tt
-    go (Sender.Message end) = reading_fair end id (datagram_of frame)
+    go : (sender : Option End) → Fair (by_sender sender (λ end. reading_of end id (datagram_of frame)))
+    go None = tt
+    go (Some end) = reading_fair end id (datagram_of frame)
 
 -- ---- never by 1: the options and the tests on the whole have other numbers
 
@@ -105,26 +104,26 @@ judged_late S id stated C f =
     })
 
 module _ (end : End) (id : DatalinkId) (datagram : List ℕ) where
-  control_late : plane_of datagram ≡ PlaneAnswer.Control → LateVerdict (read_control end id datagram).verdict
+  control_late : plane_of datagram ≡ Ok Plane.Control → LateVerdict (read_control end id datagram).verdict
   unfolding read_control control_cells
   control_late p =
       let S = control_sort end id in
       rw (← (by_plane_lem (rules_of S) datagram p)) (judged_late S id control_stated (control_cells end id) (split (drop 1 datagram)))
 
-  data_late : plane_of datagram ≡ PlaneAnswer.Data → LateVerdict (read_data end id datagram).verdict
+  data_late : plane_of datagram ≡ Ok Plane.Data → LateVerdict (read_data end id datagram).verdict
   unfolding read_data data_cells
   data_late p =
       let S = data_sort end id in
       rw (← (by_plane_lem (rules_of S) datagram p)) (judged_late S id gathered (data_cells end id) (split (drop 1 datagram)))
 
-plane_late : (datagram : List ℕ) → length datagram ≤ LONGEST-DATAGRAM → (refusal : Refusal) → plane_of datagram ≡ PlaneAnswer.Refused refusal → 1 < refusal.number
+plane_late : (datagram : List ℕ) → length datagram ≤ LONGEST-DATAGRAM → (refusal : Refusal) → plane_of datagram ≡ Err refusal → 1 < refusal.number
 unfolding plane_of
 plane_late datagram h refusal e =
     go (ltb LONGEST-DATAGRAM (length datagram)) (le-ltb LONGEST-DATAGRAM (length datagram) h) (eqb (length datagram) 0) (eqb (version_of (get_or datagram 0 0)) CURRENT-VERSION) (eqb (flag_of (get_or datagram 0 0)) 0) e
   where
     go : (long : Bool) → long ≡ false → (empty version clear : Bool)
-        → cond long (PlaneAnswer.Refused (record { number = LONG-DATAGRAM; place = 0 })) (cond empty (PlaneAnswer.Refused (record { number = HEADER; place = 0 })) (cond version (cond clear PlaneAnswer.Control PlaneAnswer.Data) (PlaneAnswer.Refused (record { number = HEADER; place = 0 }))))
-        ≡ PlaneAnswer.Refused refusal → 1 < refusal.number
+        → cond long (Err (record { number = LONG-DATAGRAM; place = 0 })) (cond empty (Err (record { number = HEADER; place = 0 })) (cond version (cond clear (Ok Plane.Control) (Ok Plane.Data)) (Err (record { number = HEADER; place = 0 }))))
+        ≡ Err refusal → 1 < refusal.number
     go true q empty version clear k = clash (cc)
     go false q true version clear k = let n : HEADER ≡ refusal.number = cc in omega arith
     go false q false false clear k = let n : HEADER ≡ refusal.number = cc in omega arith
@@ -139,22 +138,22 @@ module _ (end : End) (id : DatalinkId) (datagram : List ℕ) (h : length datagra
       late : (number : ℕ) → 1 < number → eqb number 1 ≡ false
       late number l = ne_eqb number 1 (λ e. omega arith)
 
-      of_control : plane_of datagram ≡ PlaneAnswer.Control → (v : Verdict) → (read_control end id datagram).verdict ≡ v
+      of_control : plane_of datagram ≡ Ok Plane.Control → (v : Verdict) → (read_control end id datagram).verdict ≡ v
           → is_refused 1 (message end (by_verdict v (control (read_control end id datagram).message))) ≡ false
       of_control p Verdict.Accepted e = refl
       of_control p (Verdict.Refused refusal) e = late refusal.number (control_late end id datagram p refusal e)
       of_control p Verdict.OtherPlane e = refl
 
-      of_data : plane_of datagram ≡ PlaneAnswer.Data → (v : Verdict) → (read_data end id datagram).verdict ≡ v → (channel size : ℕ)
+      of_data : plane_of datagram ≡ Ok Plane.Data → (v : Verdict) → (read_data end id datagram).verdict ≡ v → (channel size : ℕ)
           → is_refused 1 (message end (by_verdict v (carried channel size))) ≡ false
       of_data p Verdict.Accepted e channel size = refl
       of_data p (Verdict.Refused refusal) e channel size = late refusal.number (data_late end id datagram p refusal e)
       of_data p Verdict.OtherPlane e channel size = refl
 
-      go : (plane : PlaneAnswer) → plane_of datagram ≡ plane → is_refused 1 (message end (by_plane plane (control_of (read_control end id datagram)) (data_of (read_data end id datagram) (packet_of datagram)))) ≡ false
-      go PlaneAnswer.Control p = of_control p (read_control end id datagram).verdict refl
-      go PlaneAnswer.Data p = of_data p (read_data end id datagram).verdict refl _ _
-      go (PlaneAnswer.Refused refusal) p = late refusal.number (plane_late datagram h refusal p)
+      go : (plane : Result Plane Refusal) → plane_of datagram ≡ plane → is_refused 1 (message end (by_plane plane (control_of (read_control end id datagram)) (data_of (read_data end id datagram) (packet_of datagram)))) ≡ false
+      go (Ok Plane.Control) p = of_control p (read_control end id datagram).verdict refl
+      go (Ok Plane.Data) p = of_data p (read_data end id datagram).verdict refl _ _
+      go (Err refusal) p = late refusal.number (plane_late datagram h refusal p)
 
 -- a record of at most 65,536 bytes, of which its datagram lacks 42 at least
 pub never_long : (ports : Ports) (id : DatalinkId) (original : ℕ) (frame : List ℕ) → length frame ≤ 65536 → is_refused 1 (outcome_of ports id original frame) ≡ false

@@ -1,9 +1,8 @@
 -- The counts by name: what each counts of a record, and of all records of a capture, said without the places and the order in which they are counted.
-use Rattle.std.specs.Prelude.{Bool, true, false, cond, List, [], ◌∷◌, ℕ, zero, suc, ◌+◌, ◌*◌, ◌≤◌, eqb, get_or}
+use Rattle.std.specs.Prelude.{Bool, true, false, cond, List, [], ◌∷◌, ℕ, zero, suc, ◌+◌, ◌*◌, ◌≤◌, eqb, get_or, Option, Some, None}
 use Rattle.quantity.specs.declared.count.DatalinkId.{DatalinkId}
 use Rattle.meaning.specs.declared.message.End.{End}
 use Rattle.meaning.specs.declared.message.Window.{Window}
-use Rattle.meaning.specs.declared.message.WindowCell.{WindowCell}
 use Rattle.records.specs.Files.{Report, kept}
 use Rattle.records.specs.Files as files
 use Rattle.ethernet.specs.declared.Ports.{Ports}
@@ -62,13 +61,13 @@ packet_bytes channel (message end (control stated)) = 0
 packet_bytes channel (message end (carried own size)) = cond (eqb own channel) size 0
 packet_bytes channel (message end astray) = 0
 
-abbrev pub is_given : Window → Bool
-is_given Window.Absent = false
-is_given Window.Empty = false
-is_given (Window.Given window) = true
+abbrev pub is_given : Option Window → Bool
+is_given None = false
+is_given (Some Window.Empty) = false
+is_given (Some (Window.Given window)) = true
 
-abbrev pub window_in : ℕ → List WindowCell → Window
-window_in channel cells = (get_or cells channel (record { window = Window.Absent })).window
+abbrev pub window_in : ℕ → List (Option Window) → Option Window
+window_in channel cells = (get_or cells channel None)
 
 -- an accepted radio control message with a window for a channel
 abbrev pub is_grant : ℕ → Outcome → Bool

@@ -1,8 +1,7 @@
 -- Where the counts stand, and what a record adds to them.
-use Rattle.std.specs.Prelude.{List, [], ◌∷◌, ◌++◌, ℕ, suc, ◌+◌, ◌*◌}
+use Rattle.std.specs.Prelude.{List, [], ◌∷◌, ◌++◌, ℕ, suc, ◌+◌, ◌*◌, Option, Some, None}
 use Rattle.meaning.specs.declared.message.End.{End}
 use Rattle.meaning.specs.declared.message.Window.{Window}
-use Rattle.meaning.specs.declared.message.WindowCell.{WindowCell}
 use Rattle.census.specs.Adding.{Add, to}
 use Rattle.census.specs.Outcomes.{Reading, refused, control, carried, astray, Outcome, skipped, message}
 
@@ -41,18 +40,18 @@ end_place End.Ips = IPS
 end_place End.Radio = RADIO
 
 -- "windows granted": a Flow Window with the field
-abbrev pub window_adds : ℕ → Window → List Add
-window_adds channel Window.Absent = []
-window_adds channel Window.Empty = []
-window_adds channel (Window.Given window) = to (WINDOWS + 3 * channel) 1 ∷ []
+abbrev pub window_adds : ℕ → Option Window → List Add
+window_adds channel None = []
+window_adds channel (Some Window.Empty) = []
+window_adds channel (Some (Window.Given window)) = to (WINDOWS + 3 * channel) 1 ∷ []
 
 -- those of a table, from a Channel ID on
-unfoldable pub windows_from : ℕ → List WindowCell → List Add
+unfoldable pub windows_from : ℕ → List (Option Window) → List Add
 windows_from channel [] = []
-windows_from channel (cell ∷ cells) = window_adds channel cell.window ++ windows_from (suc channel) cells
+windows_from channel (cell ∷ cells) = window_adds channel cell ++ windows_from (suc channel) cells
 
 -- of an accepted control message: the radio's grants windows
-abbrev pub granted_adds : End → List WindowCell → List Add
+abbrev pub granted_adds : End → List (Option Window) → List Add
 granted_adds End.Ips cells = []
 granted_adds End.Radio cells = windows_from 0 cells
 

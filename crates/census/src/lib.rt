@@ -4,15 +4,15 @@
 ghost use Rattle.std.specs.Prelude.{◌≡◌, ◌+◌};
 ghost use Rattle.ethernet.specs.Layers.{datagram_of};
 ghost use Rattle.reader.specs.Readings.{read_control, read_data, packet_of};
-ghost use Rattle.census.specs.Adding.{plus, add_at, add_all};
-ghost use Rattle.census.specs.Outcomes.{channel_of, control_of, data_of, reading_of, sender_of, outcome_of};
+ghost use Rattle.census.specs.Adding.{add_at, add_all};
+ghost use Rattle.census.specs.Outcomes.{control_of, data_of, reading_of, sender_of, outcome_of};
 ghost use Rattle.census.specs.Places.{REFUSALS, end_place, window_adds, windows_from, granted_adds, packet_adds, reading_adds, message_adds, adds_of};
 
 use ethernet::{Kind, Ports};
-use meaning::message::{Channel, End, Window, WindowCell};
+use meaning::message::{End, Plane, Window};
 use quantity::count::DatalinkId;
 use quantity::limit::CHANNEL_IDS;
-use reader::answer::{PlaneAnswer, Verdict};
+use reader::answer::Verdict;
 use reader::{control, data, header};
 
 // Where each count stands.
@@ -37,32 +37,12 @@ const WINDOWS: usize = 17;
 // All counts.
 pub const PLACES: usize = 780;
 
-// A count that has come so far stays there.
-const MOST: u64 = 18446744073709551615;
-
-// Whose message a record holds.
-#[derive(Clone, Copy)]
-enum Sender {
-    Skipped,
-    Message(End),
-}
-
-// A count with an amount more.
-fn more(count: u64, amount: u64) -> u64
-    ensures { result ≡ plus count amount }
-{
-    if MOST - count < amount {
-        return MOST;
-    }
-    count + amount
-}
-
-// An amount more at a place, if there is such a place.
+// An amount more at a place, if there is such a place. A count at the most that a word holds stays there.
 fn add(counts: &mut [u64], place: usize, amount: u64)
     ensures { counts.new ≡ add_at counts.old place amount }
 {
     if place < counts.len() {
-        counts[place] = more(counts[place], amount);
+        counts[place] = counts[place].saturating_add(amount);
     }
 }
 
@@ -77,27 +57,22 @@ fn end_place(end: End) -> usize
 }
 
 // A Flow Window of a channel: only one with the field grants a window.
-fn count_window(counts: &mut [u64], channel: u8, window: Window)
+#[tactic(auto, unfolding(crate::specs::Adding::add_all))]
+fn count_window(counts: &mut [u64], channel: u8, window: Option<Window>)
     ensures { counts.new ≡ add_all (window_adds channel window) counts.old }
 {
-    match window {
-        Window::Absent => {}
-        Window::Empty => {}
-        Window::Given(_) => add(counts, WINDOWS + 3 * (channel as usize), 1),
+    if let Some(Window::Given(_)) = window {
+        add(counts, WINDOWS + 3 * (channel as usize), 1);
     }
 }
 
 // The Flow Windows of a control message.
-fn count_windows(counts: &mut [u64], cells: [WindowCell; CHANNEL_IDS])
+#[tactic(auto, using(crate::proofs::Turns::left_on, crate::proofs::Turns::left_end))]
+fn count_windows(counts: &mut [u64], cells: [Option<Window>; CHANNEL_IDS])
     ensures { counts.new ≡ add_all (windows_from 0 cells) counts.old }
 {
-    let mut i: usize = 0;
-    while i < CHANNEL_IDS {
-        let next = i + 1;
-        let cell = cells[i];
-        let window = cell.window;
-        count_window(counts, i as u8, window);
-        i = next;
+    for (channel, cell) in cells.iter().enumerate() {
+        count_window(counts, channel as u8, *cell);
     }
 }
 
@@ -109,7 +84,8 @@ fn count_refusal(counts: &mut [u64], number: u8)
 }
 
 // The windows that an accepted control message grants: the radio's does.
-fn count_granted(counts: &mut [u64], end: End, cells: [WindowCell; CHANNEL_IDS])
+#[tactic(auto, unfolding(crate::specs::Adding::add_all))]
+fn count_granted(counts: &mut [u64], end: End, cells: [Option<Window>; CHANNEL_IDS])
     ensures { counts.new ≡ add_all (granted_adds end cells) counts.old }
 {
     match end {
@@ -118,33 +94,20 @@ fn count_granted(counts: &mut [u64], end: End, cells: [WindowCell; CHANNEL_IDS])
     }
 }
 
+#[tactic(auto, unfolding(crate::specs::Adding::add_all))]
 fn count_control(counts: &mut [u64], datagram: &[u8], end: End, id: DatalinkId)
     ensures { counts.new ≡ add_all (reading_adds end (control_of (read_control end id datagram.now))) counts.old }
 {
     let reading = control::read(datagram, end, id);
-    let verdict = reading.verdict;
-    match verdict {
-        Verdict::Accepted => {
-            let message = reading.message;
-            let cells = message.windows;
-            count_granted(counts, end, cells);
-        }
+    match reading.verdict {
+        Verdict::Accepted => count_granted(counts, end, reading.message.windows),
         Verdict::Refused(refusal) => count_refusal(counts, refusal.number),
         Verdict::OtherPlane => {}
     }
 }
 
-// The channel of a data message; none stated is channel 0.
-fn channel_of(channel: Channel) -> u8
-    ensures { result ≡ channel_of channel }
-{
-    match channel {
-        Channel::Absent => 0,
-        Channel::Given(named) => named,
-    }
-}
-
 // A packet of n bytes on a channel.
+#[tactic(auto, unfolding(crate::specs::Adding::add_all))]
 fn count_packet(counts: &mut [u64], channel: u8, size: u64)
     ensures { counts.new ≡ add_all (packet_adds channel size) counts.old }
 {
@@ -153,18 +116,17 @@ fn count_packet(counts: &mut [u64], channel: u8, size: u64)
     add(counts, BYTES + first, size);
 }
 
+#[tactic(auto, using(reader::proofs::Carried::carried_reading_lem, reader::proofs::Carried::carried_size, reader::proofs::Carried::carried_within), unfolding(crate::specs::Adding::add_all))]
 fn count_data(counts: &mut [u64], datagram: &[u8], end: End, id: DatalinkId)
     ensures { counts.new ≡ add_all (reading_adds end (data_of (read_data end id datagram.now) (packet_of datagram.now))) counts.old }
 {
     let carried = data::read_with_packet(datagram, end, id);
-    let reading = carried.reading;
-    let verdict = reading.verdict;
-    match verdict {
+    match carried.reading.verdict {
         Verdict::Accepted => {
-            let message = reading.message;
-            let channel = message.channel;
+            // None stated is channel 0.
+            let channel = carried.reading.message.channel.unwrap_or(0);
             let size = datagram.len() - carried.start;
-            count_packet(counts, channel_of(channel), size as u64);
+            count_packet(counts, channel, size as u64);
         }
         Verdict::Refused(refusal) => count_refusal(counts, refusal.number),
         Verdict::OtherPlane => {}
@@ -172,17 +134,19 @@ fn count_data(counts: &mut [u64], datagram: &[u8], end: End, id: DatalinkId)
 }
 
 // A datagram of an end, read as CIRI.
+#[tactic(auto, unfolding(crate::specs::Adding::add_all, crate::specs::Outcomes::reading_of))]
 fn count_datagram(counts: &mut [u64], datagram: &[u8], end: End, id: DatalinkId)
     ensures { counts.new ≡ add_all (reading_adds end (reading_of end id datagram.now)) counts.old }
 {
     match header::plane(datagram) {
-        PlaneAnswer::Control => count_control(counts, datagram, end, id),
-        PlaneAnswer::Data => count_data(counts, datagram, end, id),
-        PlaneAnswer::Refused(refusal) => count_refusal(counts, refusal.number),
+        Ok(Plane::Control) => count_control(counts, datagram, end, id),
+        Ok(Plane::Data) => count_data(counts, datagram, end, id),
+        Err(refusal) => count_refusal(counts, refusal.number),
     }
 }
 
 // A message of an end, and what it is read as.
+#[tactic(auto, unfolding(crate::specs::Adding::add_all))]
 fn count_message(counts: &mut [u64], frame: &[u8], end: End, id: DatalinkId)
     ensures { counts.new ≡ add_all (message_adds end (reading_of end id (datagram_of frame.now))) counts.old }
 {
@@ -191,31 +155,32 @@ fn count_message(counts: &mut [u64], frame: &[u8], end: End, id: DatalinkId)
 }
 
 // Whose message a record of a kind holds.
-fn sender_of(kind: Kind) -> Sender
+fn sender_of(kind: Kind) -> Option<End>
     ensures { result ≡ sender_of kind }
 {
     match kind {
-        Kind::Ips => Sender::Message(End::Ips),
-        Kind::Radio => Sender::Message(End::Radio),
-        Kind::Shortened => Sender::Skipped,
-        Kind::Short => Sender::Skipped,
-        Kind::OtherType => Sender::Skipped,
-        Kind::NotIpv4 => Sender::Skipped,
-        Kind::Fragment => Sender::Skipped,
-        Kind::OtherProtocol => Sender::Skipped,
-        Kind::Ipv4Length => Sender::Skipped,
-        Kind::UdpLength => Sender::Skipped,
-        Kind::OtherPort => Sender::Skipped,
+        Kind::Ips => Some(End::Ips),
+        Kind::Radio => Some(End::Radio),
+        Kind::Shortened
+        | Kind::Short
+        | Kind::OtherType
+        | Kind::NotIpv4
+        | Kind::Fragment
+        | Kind::OtherProtocol
+        | Kind::Ipv4Length
+        | Kind::UdpLength
+        | Kind::OtherPort => None,
     }
 }
 
 // A record: how many bytes there were, those that were kept, the ports of the two ends, and the configured Datalink ID.
+#[tactic(auto, unfolding(crate::specs::Adding::add_all, crate::specs::Outcomes::outcome_of))]
 pub fn count(counts: &mut [u64], frame: &[u8], original: usize, ports: Ports, id: DatalinkId)
     ensures { counts.new ≡ add_all (adds_of (outcome_of ports id original frame.now)) counts.old }
 {
     add(counts, RECORDS, 1);
     match sender_of(ethernet::kind_of(frame, original, ports)) {
-        Sender::Skipped => add(counts, SKIPPED, 1),
-        Sender::Message(end) => count_message(counts, frame, end, id),
+        None => add(counts, SKIPPED, 1),
+        Some(end) => count_message(counts, frame, end, id),
     }
 }

@@ -1,9 +1,8 @@
 -- The counts in literal places: 0 all records, 1 those skipped, 2 datagrams of the IPS end, 3 those of the radio, 4 to 14 refusals 1 to 11, and for channel c 15 + 3 c
 -- packets, 16 + 3 c their bytes, 17 + 3 c windows granted.
-use Rattle.std.specs.Prelude.{List, [], ◌∷◌, ℕ, suc, ◌+◌, ◌*◌, min, get_or, set}
+use Rattle.std.specs.Prelude.{List, [], ◌∷◌, ℕ, suc, ◌+◌, ◌*◌, min, get_or, set, Option, Some, None}
 use Rattle.meaning.specs.declared.message.End.{End}
 use Rattle.meaning.specs.declared.message.Window.{Window}
-use Rattle.meaning.specs.declared.message.WindowCell.{WindowCell}
 use Rattle.quantity.specs.declared.count.DatalinkId.{DatalinkId}
 use Rattle.ethernet.specs.declared.Kind.{Kind}
 use Rattle.ethernet.specs.declared.Ports.{Ports}
@@ -29,11 +28,11 @@ place_by End.Ips = 2
 place_by End.Radio = 3
 
 -- "windows granted": one for each Flow Window with the field, from a channel on
-abbrev pub granted : (channel : ℕ) → Window → List ℕ → List ℕ
-granted channel Window.Absent counts = counts
-granted channel Window.Empty counts = counts
-granted channel (Window.Given window) counts = more (17 + 3 * channel) 1 counts
+abbrev pub granted : (channel : ℕ) → Option Window → List ℕ → List ℕ
+granted channel None counts = counts
+granted channel (Some Window.Empty) counts = counts
+granted channel (Some (Window.Given window)) counts = more (17 + 3 * channel) 1 counts
 
-unfoldable pub granted_from : (channel : ℕ) → List WindowCell → List ℕ → List ℕ
+unfoldable pub granted_from : (channel : ℕ) → List (Option Window) → List ℕ → List ℕ
 granted_from channel [] counts = counts
-granted_from channel (cell ∷ cells) counts = granted_from (suc channel) cells (granted channel cell.window counts)
+granted_from channel (cell ∷ cells) counts = granted_from (suc channel) cells (granted channel cell counts)

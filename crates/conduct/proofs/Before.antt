@@ -1,4 +1,6 @@
 -- What stood before a message, by the message that it comes from: the latest radio control message, and the last data message with a sequence. Assumes nothing.
+use Rattle.meaning.specs.declared.message.Window.{Window}
+use Rattle.std.specs.Prelude.{Option, Some, None}
 use mathlib.Core.Path.{◌≡◌, refl, ap}
 use mathlib.Core.Bool.{Bool, true, false, cond}
 use mathlib.Core.List.{List, [], ◌∷◌, ◌++◌}
@@ -7,8 +9,6 @@ use borrow.Author.Tests.{eq-eqb, ne_eqb}
 use lib.Dec.{eqb}
 use Rattle.quantity.specs.declared.count.ByteCount.{ByteCount}
 use Rattle.quantity.specs.declared.count.FlowSequence.{FlowSequence}
-use Rattle.meaning.specs.declared.message.Sequence.{Sequence}
-use Rattle.meaning.specs.declared.message.WindowCell.{WindowCell}
 use Rattle.conduct_rules.specs.declared.Flow.{Flow}
 use Rattle.conduct_rules.specs.Rules.{flow_of}
 use Rattle.conduct.specs.Outcomes.{Message, control, packet}
@@ -41,13 +41,13 @@ last_stated {A} states none x (first ∷ earlier) m later e k = go (states first
 
 -- no radio control message
 abbrev pub NoControl : List Numbered → Type 0
-NoControl ms = Each (λ stated. (cells : List WindowCell) → stated ≡ control cells → ⊥) ms
+NoControl ms = Each (λ stated. (cells : List (Option Window)) → stated ≡ control cells → ⊥) ms
 
 no_flow : (channel : ℕ) (ms : List Numbered) → NoControl ms → Each (λ stated. flows_by channel stated ≡ []) ms
 no_flow channel [] k = tt
 no_flow channel (m ∷ ms) k = (go m.message k.0, no_flow channel ms k.1)
   where
-    go : (stated : Message) → ((cells : List WindowCell) → stated ≡ control cells → ⊥) → flows_by channel stated ≡ []
+    go : (stated : Message) → ((cells : List (Option Window)) → stated ≡ control cells → ⊥) → flows_by channel stated ≡ []
     go (control cells) n = absurd (n cells refl)
     go (packet own bytes carried) n = refl
 
@@ -56,7 +56,7 @@ pub unseen : (channel : ℕ) (before : List Numbered) → NoControl before → f
 unseen channel before k = unstated (flows_by channel) Flow.Unseen before (no_flow channel before k)
 
 -- "the window last seen": what the latest radio control message states, whatever came earlier
-pub latest_flow : (channel number : ℕ) (earlier later : List Numbered) (cells : List WindowCell) → NoControl later
+pub latest_flow : (channel number : ℕ) (earlier later : List Numbered) (cells : List (Option Window)) → NoControl later
     → flow_before channel (earlier ++ (at number (control cells) ∷ later)) ≡ flow_of (window_in channel cells)
 latest_flow channel number earlier later cells k =
     last_stated (flows_by channel) Flow.Unseen (flow_of (window_in channel cells)) earlier (at number (control cells)) later refl (no_flow channel later k)
@@ -65,28 +65,28 @@ latest_flow channel number earlier later cells k =
 
 -- no data message of a channel with a sequence
 abbrev pub NoSequence : ℕ → List Numbered → Type 0
-NoSequence channel ms = Each (λ stated. (bytes : ByteCount) (own : FlowSequence) → stated ≡ packet channel bytes (Sequence.Given own) → ⊥) ms
+NoSequence channel ms = Each (λ stated. (bytes : ByteCount) (own : FlowSequence) → stated ≡ packet channel bytes (Some own) → ⊥) ms
 
 no_base : (channel : ℕ) (ms : List Numbered) → NoSequence channel ms → Each (λ stated. sequences_by channel stated ≡ []) ms
 no_base channel [] k = tt
 no_base channel (m ∷ ms) k = (go m.message k.0, no_base channel ms k.1)
   where
-    go : (stated : Message) → ((bytes : ByteCount) (own : FlowSequence) → stated ≡ packet channel bytes (Sequence.Given own) → ⊥) → sequences_by channel stated ≡ []
+    go : (stated : Message) → ((bytes : ByteCount) (own : FlowSequence) → stated ≡ packet channel bytes (Some own) → ⊥) → sequences_by channel stated ≡ []
     go (control cells) n = refl
-    go (packet own bytes Sequence.Absent) n = either (eqb own channel)
+    go (packet own bytes None) n = either (eqb own channel)
       where
-        either : (b : Bool) → cond {A = List Sequence} b [] [] ≡ []
+        either : (b : Bool) → cond {A = List (Option FlowSequence)} b [] [] ≡ []
         either true = refl
         either false = refl
-    go (packet own bytes (Sequence.Given sequence)) n =
-        rw (ne_eqb own channel (λ e. n bytes sequence (ap (λ (c : ℕ). packet c bytes (Sequence.Given sequence)) e)))
+    go (packet own bytes (Some sequence)) n =
+        rw (ne_eqb own channel (λ e. n bytes sequence (ap (λ (c : ℕ). packet c bytes (Some sequence)) e)))
 
 -- the first with a sequence has no base before it
-pub first_base : (channel : ℕ) (before : List Numbered) → NoSequence channel before → base_before channel before ≡ Sequence.Absent
-first_base channel before k = unstated (sequences_by channel) Sequence.Absent before (no_base channel before k)
+pub first_base : (channel : ℕ) (before : List Numbered) → NoSequence channel before → base_before channel before ≡ None
+first_base channel before k = unstated (sequences_by channel) None before (no_base channel before k)
 
 -- "the last sequence carried"
 pub last_base : (channel number : ℕ) (earlier later : List Numbered) (bytes : ByteCount) (own : FlowSequence) → NoSequence channel later
-    → base_before channel (earlier ++ (at number (packet channel bytes (Sequence.Given own)) ∷ later)) ≡ Sequence.Given own
+    → base_before channel (earlier ++ (at number (packet channel bytes (Some own)) ∷ later)) ≡ Some own
 last_base channel number earlier later bytes own k =
-    last_stated (sequences_by channel) Sequence.Absent (Sequence.Given own) earlier (at number (packet channel bytes (Sequence.Given own))) later (rw (eq-eqb channel channel refl)) (no_base channel later k)
+    last_stated (sequences_by channel) None (Some own) earlier (at number (packet channel bytes (Some own))) later (rw (eq-eqb channel channel refl)) (no_base channel later k)

@@ -1,4 +1,7 @@
 -- What is kept of a channel while its records are judged, and that a breach stands. Assumes nothing.
+use Rattle.meaning.specs.declared.message.Window.{Window}
+use Rattle.std.specs.Prelude.{Option, Some, None}
+use Rattle.quantity.specs.declared.count.FlowSequence.{FlowSequence}
 use mathlib.Core.Path.{◌≡◌, refl, ◌∙◌}
 use mathlib.Core.Bool.{Bool, true, false, cond}
 use mathlib.Core.List.{List}
@@ -11,8 +14,6 @@ use lib.Seq.{get_or-set_same, get_or-set_other}
 use Rattle.facts.proofs.Tests.{by_le, clash}
 use Rattle.quantity.specs.declared.count.ByteCount.{ByteCount}
 use Rattle.quantity.specs.Limits.{CHANNEL-IDS}
-use Rattle.meaning.specs.declared.message.Sequence.{Sequence}
-use Rattle.meaning.specs.declared.message.WindowCell.{WindowCell}
 use Rattle.conduct_rules.specs.declared.Flow.{Flow}
 use Rattle.conduct_rules.specs.Rules.{flow_of, obeys_of}
 use Rattle.conduct_rules.specs.Kept.{flow_word, flow_in, base_in, base_after, breach_after}
@@ -25,7 +26,7 @@ use Rattle.conduct.specs.Words.{UNDECIDED, BREACH, FLOW, BASE, EACH, WORDS, word
 
 -- ---- each word after a radio control message
 
-module _ (cells : List WindowCell) (words : List ℕ) where
+module _ (cells : List (Option Window)) (words : List ℕ) where
   pub heard_length : (n : ℕ) → length (heard_up_to n cells words) ≡ length words
   unfolding heard_up_to
   heard_length zero = refl
@@ -53,7 +54,7 @@ module _ (cells : List WindowCell) (words : List ℕ) where
 
 -- ---- each word after a data message
 
-module _ (number own : ℕ) (bytes : ByteCount) (carried : Sequence) (words : List ℕ) where
+module _ (number own : ℕ) (bytes : ByteCount) (carried : Option FlowSequence) (words : List ℕ) where
   pub packet_length : length (packet_judged number own bytes carried words) ≡ length words
   unfolding packet_judged
   packet_length = simp length-set
@@ -89,14 +90,14 @@ judged_length number (message (packet own bytes carried)) words = packet_length 
 
 -- ---- a channel without a breach so far: the words hold its flow and its base
 
-pub record Holds (channel : ℕ) (flow : Flow) (base : Sequence) (words : List ℕ) : Type 0 where
+pub record Holds (channel : ℕ) (flow : Flow) (base : Option FlowSequence) (words : List ℕ) : Type 0 where
   pub known : channel < CHANNEL-IDS
   pub long : WORDS ≤ length words
   pub clean : word words (BREACH + EACH * channel) ≡ 0
-  pub flow_alike : (last : Sequence) (bytes : ByteCount) (carried : Sequence) → obeys_of (flow_in (word words (FLOW + EACH * channel))) last bytes carried ≡ obeys_of flow last bytes carried
+  pub flow_alike : (last : Option FlowSequence) (bytes : ByteCount) (carried : Option FlowSequence) → obeys_of (flow_in (word words (FLOW + EACH * channel))) last bytes carried ≡ obeys_of flow last bytes carried
   pub base_is : base_in (word words (BASE + EACH * channel)) ≡ base
 
-pub holds_fresh : (channel n : ℕ) → channel < CHANNEL-IDS → WORDS ≤ n → Holds channel Flow.Unseen Sequence.Absent (replicate n 0)
+pub holds_fresh : (channel n : ℕ) → channel < CHANNEL-IDS → WORDS ≤ n → Holds channel Flow.Unseen None (replicate n 0)
 unfolding flow_in base_in
 holds_fresh channel n h long =
     let at : (place : ℕ) → place < n → word (replicate n 0) place ≡ 0 = λ place l. get_or-replicate {A = ℕ} n place 0 0 l in
@@ -109,7 +110,7 @@ holds_fresh channel n h long =
     }
 
 -- words that agree on a channel's three hold the same of it
-holds_same : {channel : ℕ} {flow : Flow} {base : Sequence} {words words' : List ℕ} → Holds channel flow base words → length words' ≡ length words
+holds_same : {channel : ℕ} {flow : Flow} {base : Option FlowSequence} {words words' : List ℕ} → Holds channel flow base words → length words' ≡ length words
     → word words' (BREACH + EACH * channel) ≡ word words (BREACH + EACH * channel) → word words' (FLOW + EACH * channel) ≡ word words (FLOW + EACH * channel)
     → word words' (BASE + EACH * channel) ≡ word words (BASE + EACH * channel) → Holds channel flow base words'
 holds_same k l a b c =
@@ -121,12 +122,12 @@ holds_same k l a b c =
       base_is = rw c k.base_is;
     }
 
-pub holds_undecided : {channel : ℕ} {flow : Flow} {base : Sequence} {words : List ℕ} → Holds channel flow base words → Holds channel flow base (undecided words)
+pub holds_undecided : {channel : ℕ} {flow : Flow} {base : Option FlowSequence} {words : List ℕ} → Holds channel flow base words → Holds channel flow base (undecided words)
 holds_undecided {channel} {words = words} k =
     let beside : (place : ℕ) → (place ≡ UNDECIDED → ⊥) → word (undecided words) place ≡ word words place = λ place b. get_or-set_other words UNDECIDED place 1 0 b in
     holds_same k (simp length-set) (beside (BREACH + EACH * channel) (λ e. omega arith)) (beside (FLOW + EACH * channel) (λ e. omega arith)) (beside (BASE + EACH * channel) (λ e. omega arith))
 
-pub holds_heard : {channel : ℕ} {flow : Flow} {base : Sequence} {words : List ℕ} (cells : List WindowCell) → Holds channel flow base words
+pub holds_heard : {channel : ℕ} {flow : Flow} {base : Option FlowSequence} {words : List ℕ} (cells : List (Option Window)) → Holds channel flow base words
     → Holds channel (flow_of (window_in channel cells)) base (heard_up_to CHANNEL-IDS cells words)
 holds_heard {channel} {words = words} cells k =
     let at = heard_at_lem cells words channel (omega (arith, k.known, k.long)) CHANNEL-IDS k.known in
@@ -140,7 +141,7 @@ holds_heard {channel} {words = words} cells k =
 
 -- ---- a data message: of another channel, one that obeys, one that doesn't
 
-module _ {channel : ℕ} {flow : Flow} {base : Sequence} {words : List ℕ} (k : Holds channel flow base words) (number : ℕ) (bytes : ByteCount) (carried : Sequence) where
+module _ {channel : ℕ} {flow : Flow} {base : Option FlowSequence} {words : List ℕ} (k : Holds channel flow base words) (number : ℕ) (bytes : ByteCount) (carried : Option FlowSequence) where
   pub holds_other : (own : ℕ) → (own ≡ channel → ⊥) → Holds channel flow base (packet_judged number own bytes carried words)
   holds_other own n =
       let beside = packet_beside number own bytes carried words in
@@ -156,9 +157,9 @@ module _ {channel : ℕ} {flow : Flow} {base : Sequence} {words : List ℕ} (k :
   breach_is : word (packet_judged number channel bytes carried words) (BREACH + EACH * channel) ≡ cond (obeys_of flow base bytes carried) 0 number
   breach_is = packet_breach number channel bytes carried words (omega (arith, k.known, k.long)) ∙ rw (k.clean, tested) refl
 
-  base_after_lem : (carried' : Sequence) → carried ≡ carried' → obeys_of flow base bytes carried ≡ true → base_in (base_after (word words (BASE + EACH * channel)) carried') ≡ last_or base (if_given carried')
-  base_after_lem Sequence.Absent e o = k.base_is
-  base_after_lem (Sequence.Given own) e o = base_back own (obeyed_narrow flow base bytes own (rw (← e) o))
+  base_after_lem : (carried' : Option FlowSequence) → carried ≡ carried' → obeys_of flow base bytes carried ≡ true → base_in (base_after (word words (BASE + EACH * channel)) carried') ≡ last_or base (if_given carried')
+  base_after_lem None e o = k.base_is
+  base_after_lem (Some own) e o = base_back own (obeyed_narrow flow base bytes own (rw (← e) o))
 
   pub holds_obeyed : obeys_of flow base bytes carried ≡ true → Holds channel flow (last_or base (if_given carried)) (packet_judged number channel bytes carried words)
   holds_obeyed o =
@@ -215,7 +216,7 @@ finding_stands channel breach words h long e number outcome n =
         let some : word words (BREACH + EACH * channel) ≡ 0 → ⊥ = eqb-false (word words (BREACH + EACH * channel)) 0 c in
         rw (left_decided number outcome words n, d, breach_stands channel (word words (BREACH + EACH * channel)) words h long (by_le (word words (BREACH + EACH * channel)) 0 (λ l. absurd (some (omega arith))) (λ l. l)) refl number outcome, c) q
 
-pub finding_other : (channel own number : ℕ) (bytes : ByteCount) (carried : Sequence) (words : List ℕ) → (own ≡ channel → ⊥)
+pub finding_other : (channel own number : ℕ) (bytes : ByteCount) (carried : Option FlowSequence) (words : List ℕ) → (own ≡ channel → ⊥)
     → finding_of (packet_judged number own bytes carried words) channel ≡ finding_of words channel
 finding_other channel own number bytes carried words n =
     let beside = packet_beside number own bytes carried words in

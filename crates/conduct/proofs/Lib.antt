@@ -1,4 +1,3 @@
-pub mod Steps
 pub mod Kept
 pub mod Lists
 -- The rules pinned a second time: what stood before a message, by the message that it comes from; and what a record comes to.

@@ -1,9 +1,10 @@
 -- A list of messages by its first: all obey, or the least number that doesn't. Assumes nothing.
+use Rattle.std.specs.Prelude.{Option}
+use Rattle.quantity.specs.declared.count.FlowSequence.{FlowSequence}
 use mathlib.Core.Path.{◌≡◌, refl}
 use mathlib.Core.List.{List, [], ◌∷◌, ◌++◌}
 use Prim.Native.Nat.{ℕ, ◌≤◌}
 use native.Mathlib.Omega.{arith}
-use Rattle.meaning.specs.declared.message.Sequence.{Sequence}
 use Rattle.conduct_rules.specs.declared.Flow.{Flow}
 use Rattle.conduct.specs.Outcomes.{Message}
 use Rattle.conduct.specs.Account.{Numbered, stated_in, last_or, flows_by, sequences_by, ObeysUnder, Stands, here, later, AllObey, LeastBreach}
@@ -27,17 +28,17 @@ last_append none (x ∷ xs) ys = last_append x xs ys
 
 module _ (channel : ℕ) where
   -- the same question, from a flow and a base on
-  abbrev pub ObeysFrom : Flow → Sequence → (before : List Numbered) → Message → Type 0
+  abbrev pub ObeysFrom : Flow → Option FlowSequence → (before : List Numbered) → Message → Type 0
   ObeysFrom flow base before stated = ObeysUnder channel (last_or flow (stated_in (flows_by channel) before)) (last_or base (stated_in (sequences_by channel) before)) stated
 
   -- what a message leaves of them
   abbrev pub flow_by : Flow → Message → Flow
   flow_by flow stated = last_or flow (flows_by channel stated)
 
-  abbrev pub base_by : Sequence → Message → Sequence
+  abbrev pub base_by : Option FlowSequence → Message → Option FlowSequence
   base_by base stated = last_or base (sequences_by channel stated)
 
-  module _ (flow : Flow) (base : Sequence) (x : Numbered) where
+  module _ (flow : Flow) (base : Option FlowSequence) (x : Numbered) where
     behind_first : (before : List Numbered) (stated : Message) → ObeysFrom (flow_by flow x.message) (base_by base x.message) before stated → ObeysFrom flow base (x ∷ before) stated
     behind_first before stated k =
         rw (last_append flow (flows_by channel x.message) (stated_in (flows_by channel) before), last_append base (sequences_by channel x.message) (stated_in (sequences_by channel) before)) k

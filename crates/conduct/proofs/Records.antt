@@ -1,4 +1,6 @@
 -- What a record comes to, by its kind and its reading, and which number it has. Assumes nothing.
+use Rattle.meaning.specs.declared.message.Plane.{Plane}
+use Rattle.std.specs.Prelude.{Some, None, Ok}
 use mathlib.Core.Path.{◌≡◌}
 use mathlib.Core.List.{List, [], ◌∷◌}
 use Prim.Native.Nat.{ℕ}
@@ -6,12 +8,9 @@ use lib.ListN.{length}
 use Rattle.quantity.specs.declared.count.DatalinkId.{DatalinkId}
 use Rattle.quantity.specs.declared.count.FlowSequence.{FlowSequence}
 use Rattle.quantity.specs.declared.refusal.Refusal.{Refusal}
-use Rattle.meaning.specs.declared.message.Channel.{Channel}
-use Rattle.meaning.specs.declared.message.Counted.{Counted}
 use Rattle.meaning.specs.declared.message.End.{End}
-use Rattle.meaning.specs.declared.message.Sequence.{Sequence}
+use Rattle.meaning.specs.declared.message.Plane.{Plane}
 use Rattle.reader.specs.Readings.{Verdict, read_control, read_data, packet_of, plane_of}
-use Rattle.reader.specs.declared.answer.PlaneAnswer.{PlaneAnswer}
 use Rattle.reader.proofs.Planes.{data_of_control, control_of_data}
 use Rattle.records.specs.Files.{kept}
 use Rattle.ethernet.specs.declared.Kind.{Kind}
@@ -37,11 +36,11 @@ module _ (ports : Ports) (id : DatalinkId) (original : ℕ) (frame : List ℕ) w
   ips_refused refusal k e = rw (k, e)
 
   -- a control message of the IPS end and a data message of the radio are nothing here: a query's sequences are no base
-  pub query_nothing : kind_of ports original frame ≡ Kind.Ips → plane_of datagram ≡ PlaneAnswer.Control → outcome_of ports id original frame ≡ nothing
+  pub query_nothing : kind_of ports original frame ≡ Kind.Ips → plane_of datagram ≡ Ok Plane.Control → outcome_of ports id original frame ≡ nothing
   unfolding outcome_by
   query_nothing k p = rw (k, data_of_control End.Ips id datagram p)
 
-  pub radio_data_nothing : kind_of ports original frame ≡ Kind.Radio → plane_of datagram ≡ PlaneAnswer.Data → outcome_of ports id original frame ≡ nothing
+  pub radio_data_nothing : kind_of ports original frame ≡ Kind.Radio → plane_of datagram ≡ Ok Plane.Data → outcome_of ports id original frame ≡ nothing
   unfolding outcome_by
   radio_data_nothing k p = rw (k, control_of_data End.Radio id datagram p)
 
@@ -53,19 +52,19 @@ module _ (ports : Ports) (id : DatalinkId) (original : ℕ) (frame : List ℕ) w
 
   module _ (k : kind_of ports original frame ≡ Kind.Ips) (e : (read_data End.Ips id datagram).verdict ≡ Verdict.Accepted) where
     -- "no Channel Identifier: channel 0", where no sequence is carried
-    pub unnamed_accepted : (read_data End.Ips id datagram).message.channel ≡ Channel.Absent → (read_data End.Ips id datagram).message.sequence ≡ Counted.Absent
-        → outcome_of ports id original frame ≡ message (packet 0 (record { 0 = length (packet_of datagram) }) Sequence.Absent)
+    pub unnamed_accepted : (read_data End.Ips id datagram).message.channel ≡ None → (read_data End.Ips id datagram).message.sequence ≡ None
+        → outcome_of ports id original frame ≡ message (packet 0 (record { 0 = length (packet_of datagram) }) None)
     unfolding outcome_by
     unnamed_accepted c s = rw (k, e, c, s)
 
-    pub plain_accepted : (channel : ℕ) → (read_data End.Ips id datagram).message.channel ≡ Channel.Given channel → (read_data End.Ips id datagram).message.sequence ≡ Counted.Absent
-        → outcome_of ports id original frame ≡ message (packet channel (record { 0 = length (packet_of datagram) }) Sequence.Absent)
+    pub plain_accepted : (channel : ℕ) → (read_data End.Ips id datagram).message.channel ≡ Some channel → (read_data End.Ips id datagram).message.sequence ≡ None
+        → outcome_of ports id original frame ≡ message (packet channel (record { 0 = length (packet_of datagram) }) None)
     unfolding outcome_by
     plain_accepted channel c s = rw (k, e, c, s)
 
-    pub counted_accepted : (channel other : ℕ) (own : FlowSequence) → (read_data End.Ips id datagram).message.channel ≡ Channel.Given channel
-        → (read_data End.Ips id datagram).message.sequence ≡ Counted.Given other own
-        → outcome_of ports id original frame ≡ message (packet channel (record { 0 = length (packet_of datagram) }) (Sequence.Given own))
+    pub counted_accepted : (channel other : ℕ) (own : FlowSequence) → (read_data End.Ips id datagram).message.channel ≡ Some channel
+        → (read_data End.Ips id datagram).message.sequence ≡ Some (other, own)
+        → outcome_of ports id original frame ≡ message (packet channel (record { 0 = length (packet_of datagram) }) (Some own))
     unfolding outcome_by
     counted_accepted channel other own c s = rw (k, e, c, s)
 

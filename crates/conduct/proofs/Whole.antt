@@ -1,4 +1,6 @@
 -- The promises: what is found of a channel after all records of a capture is what the papers say of the list of its accepted messages. Assumes nothing.
+use Rattle.std.specs.Prelude.{Option, None}
+use Rattle.quantity.specs.declared.count.FlowSequence.{FlowSequence}
 use mathlib.Core.Path.{◌≡◌, refl, sym, ap, ◌∙◌}
 use mathlib.Core.Bool.{Bool, true, false}
 use mathlib.Core.List.{List, [], ◌∷◌, ◌++◌}
@@ -13,7 +15,6 @@ use Rattle.quantity.specs.declared.count.ByteCount.{ByteCount}
 use Rattle.quantity.specs.declared.count.DatalinkId.{DatalinkId}
 use Rattle.quantity.specs.Limits.{CHANNEL-IDS}
 use Rattle.meaning.specs.declared.message.End.{End}
-use Rattle.meaning.specs.declared.message.Sequence.{Sequence}
 use Rattle.reader.specs.Readings.{Verdict, read_control, read_data}
 use Rattle.records.specs.Files.{Report, kept, refused, reports_of, closed, Turns}
 use Rattle.records.specs.Unread.{ROOM, start_of}
@@ -62,22 +63,22 @@ module _ (ports : Ports) (id : DatalinkId) where
 
   -- ---- the walk over the records, from words that hold a flow and a base
 
-  data Walked (channel : ℕ) (flow : Flow) (base : Sequence) (messages : List Numbered) (words : List ℕ) : Type 0 where
+  data Walked (channel : ℕ) (flow : Flow) (base : Option FlowSequence) (messages : List Numbered) (words : List ℕ) : Type 0 where
     passed : word words (BREACH + EACH * channel) ≡ 0 → AllObey (ObeysFrom channel flow base) messages → Walked channel flow base messages words
     broke : (breach : ℕ) → word words (BREACH + EACH * channel) ≡ breach → 1 ≤ breach → LeastBreach (ObeysFrom channel flow base) messages breach
         → Walked channel flow base messages words
 
-  walked_on : (channel : ℕ) (flow : Flow) (base : Sequence) (x : Numbered) (ms : List Numbered) {words : List ℕ} → ObeysUnder channel flow base x.message
+  walked_on : (channel : ℕ) (flow : Flow) (base : Option FlowSequence) (x : Numbered) (ms : List Numbered) {words : List ℕ} → ObeysUnder channel flow base x.message
       → Walked channel (flow_by channel flow x.message) (base_by channel base x.message) ms words → Walked channel flow base (x ∷ ms) words
   walked_on channel flow base x ms o (passed e k) = passed e (all_on channel flow base x ms o k)
   walked_on channel flow base x ms o (broke breach e some k) = broke breach e some (least_on channel flow base x ms o k)
 
   -- what the records behind make of words that hold a flow and a base
   abbrev Onward : (channel : ℕ) → List Report → (number : ℕ) → Type 0
-  Onward channel reports number = (flow : Flow) (base : Sequence) (words : List ℕ) → Holds channel flow base words
+  Onward channel reports number = (flow : Flow) (base : Option FlowSequence) (words : List ℕ) → Holds channel flow base words
       → Walked channel flow base (messages_from ports id number reports) (judged_all ports id number reports words)
 
-  module _ (channel : ℕ) (reports : List Report) (number : ℕ) (some : 1 ≤ number) (flow : Flow) (base : Sequence) (words : List ℕ) (k : Holds channel flow base words)
+  module _ (channel : ℕ) (reports : List Report) (number : ℕ) (some : 1 ≤ number) (flow : Flow) (base : Option FlowSequence) (words : List ℕ) (k : Holds channel flow base words)
       (on : Onward channel reports (suc number)) where
     abbrev rest : List Numbered
     rest = messages_from ports id (suc number) reports
@@ -85,7 +86,7 @@ module _ (ports : Ports) (id : DatalinkId) where
     abbrev Step : Outcome → Type 0
     Step outcome = Walked channel flow base (numbered number outcome ++ rest) (judged_all ports id (suc number) reports (judged_by number outcome words))
 
-    packet_step : (own : ℕ) (bytes : ByteCount) (carried : Sequence) (own_is : Bool) → eqb own channel ≡ own_is → (obeyed : Bool) → obeys_of flow base bytes carried ≡ obeyed
+    packet_step : (own : ℕ) (bytes : ByteCount) (carried : Option FlowSequence) (own_is : Bool) → eqb own channel ≡ own_is → (obeyed : Bool) → obeys_of flow base bytes carried ≡ obeyed
         → Step (message (packet own bytes carried))
     packet_step own bytes carried true e true o =
         let same : own ≡ channel = eqb-true own channel e in
@@ -239,7 +240,7 @@ module _ (ports : Ports) (id : DatalinkId) (reports : List Report) (channel : �
     pub finding_says : Says ports id reports channel (finding_of left channel)
     finding_says =
         go (clarity ports id reports 1 (replicate n 0))
-        (walk ports id channel reports 1 (omega arith) Flow.Unseen Sequence.Absent (replicate n 0) (holds_fresh channel n known room))
+        (walk ports id channel reports 1 (omega arith) Flow.Unseen None (replicate n 0) (holds_fresh channel n known room))
       where
         long : 1 ≤ length {A = ℕ} (replicate n 0)
         long = rw (length-replicate {A = ℕ} n 0) (omega arith)
@@ -250,7 +251,7 @@ module _ (ports : Ports) (id : DatalinkId) (reports : List Report) (channel : �
         clear_not : word left UNDECIDED ≡ 0 → Unclear ports reports → ⊥
         clear_not e u = let one = undecided_when ports id u 1 (replicate n 0) long in omega arith
 
-        go : Clarity ports id reports left (word (replicate n 0) UNDECIDED) → Walked ports id channel Flow.Unseen Sequence.Absent (messages_of ports id reports) left
+        go : Clarity ports id reports left (word (replicate n 0) UNDECIDED) → Walked ports id channel Flow.Unseen None (messages_of ports id reports) left
             → Says ports id reports channel (finding_of left channel)
         go (unclear u) k = rw (undecided_when ports id u 1 (replicate n 0) long) u
         go (clear e) (passed b k) = rw (e ∙ zeros, b) (clear_not (e ∙ zeros), k)

@@ -1,9 +1,8 @@
 -- Document 02, §12: the verdict of a channel, over the list of the capture's accepted messages.
-use Rattle.std.specs.Prelude.{◌≡◌, cond, List, [], ◌∷◌, ◌++◌, ℕ, suc, ◌≤◌, eqb, get_or}
+use Rattle.quantity.specs.declared.count.FlowSequence.{FlowSequence}
+use Rattle.std.specs.Prelude.{◌≡◌, cond, List, [], ◌∷◌, ◌++◌, ℕ, suc, ◌≤◌, eqb, get_or, Option, Some, None}
 use Rattle.quantity.specs.declared.count.DatalinkId.{DatalinkId}
-use Rattle.meaning.specs.declared.message.Sequence.{Sequence}
 use Rattle.meaning.specs.declared.message.Window.{Window}
-use Rattle.meaning.specs.declared.message.WindowCell.{WindowCell}
 use Rattle.records.specs.Files.{Report, kept, refused}
 use Rattle.ethernet.specs.declared.Kind.{Kind}
 use Rattle.ethernet.specs.declared.Ports.{Ports}
@@ -44,8 +43,8 @@ last_or none [] = none
 last_or none (x ∷ xs) = last_or x xs
 
 -- a message's Flow Window for a channel
-abbrev pub window_in : ℕ → List WindowCell → Window
-window_in channel cells = (get_or cells channel (record { window = Window.Absent })).window
+abbrev pub window_in : ℕ → List (Option Window) → Option Window
+window_in channel cells = (get_or cells channel None)
 
 abbrev pub flows_by : ℕ → Message → List Flow
 flows_by channel (control cells) = flow_of (window_in channel cells) ∷ []
@@ -55,22 +54,22 @@ flows_by channel (packet own bytes carried) = []
 abbrev pub flow_before : ℕ → List Numbered → Flow
 flow_before channel before = last_or Flow.Unseen (stated_in (flows_by channel) before)
 
-abbrev pub if_given : Sequence → List Sequence
-if_given Sequence.Absent = []
-if_given (Sequence.Given sequence) = Sequence.Given sequence ∷ []
+abbrev pub if_given : Option FlowSequence → List (Option FlowSequence)
+if_given None = []
+if_given (Some sequence) = Some sequence ∷ []
 
-abbrev pub sequences_by : ℕ → Message → List Sequence
+abbrev pub sequences_by : ℕ → Message → List (Option FlowSequence)
 sequences_by channel (control cells) = []
 sequences_by channel (packet own bytes carried) = cond (eqb own channel) (if_given carried) []
 
 -- "the last sequence carried": that of the last data message of the channel that has one
-abbrev pub base_before : ℕ → List Numbered → Sequence
-base_before channel before = last_or Sequence.Absent (stated_in (sequences_by channel) before)
+abbrev pub base_before : ℕ → List Numbered → Option FlowSequence
+base_before channel before = last_or None (stated_in (sequences_by channel) before)
 
 -- ---- the verdict
 
 -- a data message of the channel obeys, by its flow and its base; nothing is asked of another message
-abbrev pub ObeysUnder : ℕ → Flow → (base : Sequence) → Message → Type 0
+abbrev pub ObeysUnder : ℕ → Flow → (base : Option FlowSequence) → Message → Type 0
 ObeysUnder channel flow base (control cells) = Unit {0}
 ObeysUnder channel flow base (packet own bytes carried) = own ≡ channel → Obeys flow base bytes carried
 

@@ -1,13 +1,11 @@
 -- Document 02, §12: what a record of a capture comes to for the judge. "Datagrams that the reader refuses are passed over. A capture with fragments or shortened
 -- records .. is reported as undecided for all channels."
-use Rattle.std.specs.Prelude.{List, [], ◌∷◌, ℕ, ◌+◌, min, length}
+use Rattle.meaning.specs.declared.message.Window.{Window}
+use Rattle.quantity.specs.declared.count.FlowSequence.{FlowSequence}
+use Rattle.std.specs.Prelude.{List, [], ◌∷◌, ℕ, ◌+◌, min, length, Option, Some, None}
 use Rattle.quantity.specs.declared.count.DatalinkId.{DatalinkId}
 use Rattle.quantity.specs.declared.count.ByteCount.{ByteCount}
-use Rattle.meaning.specs.declared.message.Channel.{Channel}
-use Rattle.meaning.specs.declared.message.Counted.{Counted}
 use Rattle.meaning.specs.declared.message.End.{End}
-use Rattle.meaning.specs.declared.message.Sequence.{Sequence}
-use Rattle.meaning.specs.declared.message.WindowCell.{WindowCell}
 use Rattle.reader.specs.Readings.{Verdict, ControlReading, DataReading, read_control, read_data, packet_of}
 use Rattle.records.specs.Files.{Report, kept, refused}
 use Rattle.ethernet.specs.declared.Kind.{Kind}
@@ -20,8 +18,8 @@ use Rattle.conduct.specs.declared.verdict.Tally.{Tally}
 -- an accepted message: the radio's control message, by its Flow Windows over the Channel IDs; a data message, "here always the IPS end's", by its channel, the bytes of its
 -- packet and the Flow Sequence that it carries
 pub data Message : Type 0 where
-  control : List WindowCell → Message
-  packet : (channel : ℕ) → ByteCount → (carried : Sequence) → Message
+  control : List (Option Window) → Message
+  packet : (channel : ℕ) → ByteCount → (carried : Option FlowSequence) → Message
 
 -- a record: an accepted message; one that leaves the capture undecided; or nothing to the judge
 pub data Outcome : Type 0 where
@@ -30,14 +28,14 @@ pub data Outcome : Type 0 where
   message : Message → Outcome
 
 -- §9: "no Channel Identifier: channel 0"
-abbrev pub channel_of : Channel → ℕ
-channel_of Channel.Absent = 0
-channel_of (Channel.Given channel) = channel
+abbrev pub channel_of : Option ℕ → ℕ
+channel_of None = 0
+channel_of (Some channel) = channel
 
 -- its channel is the message's own, by number 10
-abbrev pub sequence_of : Counted → Sequence
-sequence_of Counted.Absent = Sequence.Absent
-sequence_of (Counted.Given channel sequence) = Sequence.Given sequence
+abbrev pub sequence_of : Option (ℕ × FlowSequence) → Option FlowSequence
+sequence_of None = None
+sequence_of (Some (channel, sequence)) = Some sequence
 
 -- only what the reader accepts
 abbrev pub if_accepted : Verdict → Message → Outcome

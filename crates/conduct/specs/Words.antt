@@ -1,10 +1,10 @@
 -- What the judge keeps, in lent words of 64 bits, and what a record makes of them. A word that isn't there reads as 0 and takes nothing.
-use Rattle.std.specs.Prelude.{Bool, cond, List, [], ◌∷◌, ℕ, zero, suc, ◌+◌, ◌*◌, eqb, get_or, set}
+use Rattle.meaning.specs.declared.message.Window.{Window}
+use Rattle.quantity.specs.declared.count.FlowSequence.{FlowSequence}
+use Rattle.std.specs.Prelude.{Bool, cond, List, [], ◌∷◌, ℕ, zero, suc, ◌+◌, ◌*◌, eqb, get_or, set, Option}
 use Rattle.quantity.specs.declared.count.DatalinkId.{DatalinkId}
 use Rattle.quantity.specs.declared.count.ByteCount.{ByteCount}
 use Rattle.quantity.specs.Limits.{CHANNEL-IDS}
-use Rattle.meaning.specs.declared.message.Sequence.{Sequence}
-use Rattle.meaning.specs.declared.message.WindowCell.{WindowCell}
 use Rattle.records.specs.Files.{Report, kept, refused}
 use Rattle.ethernet.specs.declared.Ports.{Ports}
 use Rattle.conduct_rules.specs.Rules.{obeys_of}
@@ -38,16 +38,16 @@ word words place = get_or words place 0
 -- ---- what a record makes of the words
 
 -- a radio control message: the flow of the first so many Channel IDs
-unfoldable pub heard_up_to : ℕ → List WindowCell → List ℕ → List ℕ
+unfoldable pub heard_up_to : ℕ → List (Option Window) → List ℕ → List ℕ
 heard_up_to zero cells words = words
 heard_up_to (suc channel) cells words = set (heard_up_to channel cells words) (FLOW + EACH * channel) (flow_word (window_in channel cells))
 
 -- whether a data message obeys, by what the words hold of its channel
-abbrev pub obeyed_in : List ℕ → (channel : ℕ) → ByteCount → Sequence → Bool
+abbrev pub obeyed_in : List ℕ → (channel : ℕ) → ByteCount → Option FlowSequence → Bool
 obeyed_in words channel bytes carried = obeys_of (flow_in (word words (FLOW + EACH * channel))) (base_in (word words (BASE + EACH * channel))) bytes carried
 
 -- a data message: its breach, then its base
-unfoldable pub packet_judged : (number channel : ℕ) → ByteCount → Sequence → List ℕ → List ℕ
+unfoldable pub packet_judged : (number channel : ℕ) → ByteCount → Option FlowSequence → List ℕ → List ℕ
 packet_judged number channel bytes carried words =
     set (set words (BREACH + EACH * channel) (breach_after (word words (BREACH + EACH * channel)) number (obeyed_in words channel bytes carried)))
     (BASE + EACH * channel)

@@ -4,7 +4,7 @@
 ghost use Rattle.std.specs.Prelude.{◌≡◌, ◌+◌, ◌*◌, length, get_or, set, replicate};
 ghost use Rattle.ethernet.specs.Layers.{datagram_of};
 ghost use Rattle.quantity.specs.Limits.{CHANNEL-IDS};
-ghost use Rattle.conduct.specs.Outcomes.{channel_of, sequence_of, heard_in, sent_in, outcome_of, seen_in, seen_of, one_more_of, tallied_by};
+ghost use Rattle.conduct.specs.Outcomes.{heard_in, sent_in, outcome_of, seen_in, seen_of, one_more_of, tallied_by};
 ghost use Rattle.conduct.specs.Words.{heard_up_to, packet_judged, undecided, judged_by, finding_by, finding_of};
 
 pub mod verdict;
@@ -12,8 +12,8 @@ pub mod verdict;
 pub use crate::verdict::{Finding, Seen, Tally};
 use conduct_rules::kept;
 use ethernet::{Kind, Ports};
-use meaning::message::{Channel, Counted, End, Sequence, WindowCell};
-use quantity::count::{ByteCount, DatalinkId};
+use meaning::message::{End, Window};
+use quantity::count::{ByteCount, DatalinkId, FlowSequence};
 use quantity::limit::CHANNEL_IDS;
 use reader::answer::Verdict;
 use reader::{control, data};
@@ -37,10 +37,7 @@ pub const WORDS: usize = 766;
 fn word(words: &[u64], place: usize) -> u64
     ensures { result ≡ get_or words.now place 0 }
 {
-    if place < words.len() {
-        return words[place];
-    }
-    0
+    words.get(place).copied().unwrap_or(0)
 }
 
 // A word set, if there is such a place.
@@ -56,30 +53,27 @@ fn put(words: &mut [u64], place: usize, value: u64)
 pub fn start(words: &mut [u64])
     ensures { words.new ≡ replicate (length words.old) 0 }
 {
-    let mut i: usize = 0;
-    while i < words.len() {
-        let next = i + 1;
-        words[i] = 0;
-        i = next;
-    }
+    words.fill(0);
 }
 
 // A radio control message: each channel's flow is what it states of it.
-fn hear(words: &mut [u64], cells: [WindowCell; CHANNEL_IDS])
+fn hear(words: &mut [u64], cells: [Option<Window>; CHANNEL_IDS])
     ensures { words.new ≡ heard_up_to CHANNEL-IDS cells words.old }
 {
-    let mut i: usize = 0;
-    while i < CHANNEL_IDS {
-        let next = i + 1;
-        let cell = cells[i];
-        let window = cell.window;
-        put(words, FLOW + EACH * i, kept::flow_word(window));
-        i = next;
+    for (i, cell) in cells.iter().enumerate() {
+        put(words, FLOW + EACH * i, kept::flow_word(*cell));
     }
 }
 
 // A data message: whether it obeys by what is kept of its channel, and the base that it leaves.
-fn judge_packet(words: &mut [u64], number: u64, channel: u8, bytes: ByteCount, carried: Sequence)
+#[tactic(auto, unfolding(crate::specs::Words::packet_judged))]
+fn judge_packet(
+    words: &mut [u64],
+    number: u64,
+    channel: u8,
+    bytes: ByteCount,
+    carried: Option<FlowSequence>,
+)
     ensures { words.new ≡ packet_judged number channel bytes carried words.old }
 {
     let first = EACH * (channel as usize);
@@ -99,62 +93,30 @@ fn judge_radio(words: &mut [u64], number: u64, datagram: &[u8], id: DatalinkId)
     ensures { words.new ≡ judged_by number (heard_in id datagram.now) words.old }
 {
     let reading = control::read(datagram, End::Radio, id);
-    let verdict = reading.verdict;
-    match verdict {
-        Verdict::Accepted => {
-            let message = reading.message;
-            let cells = message.windows;
-            hear(words, cells);
-        }
-        Verdict::Refused(_) => {}
-        Verdict::OtherPlane => {}
+    if let Verdict::Accepted = reading.verdict {
+        hear(words, reading.message.windows);
     }
 }
 
-// The channel of a data message; none stated is channel 0.
-fn channel_of(channel: Channel) -> u8
-    ensures { result ≡ channel_of channel }
-{
-    match channel {
-        Channel::Absent => 0,
-        Channel::Given(named) => named,
-    }
-}
-
-fn sequence_of(counted: Counted) -> Sequence
-    ensures { result ≡ sequence_of counted }
-{
-    match counted {
-        Counted::Absent => Sequence::Absent,
-        Counted::Given(_, sequence) => Sequence::Given(sequence),
-    }
-}
-
+// A data message without a Channel Identifier is one of channel 0.
+#[tactic(auto, using(reader::proofs::Carried::carried_reading_lem, reader::proofs::Carried::carried_size, reader::proofs::Carried::carried_within))]
 fn judge_ips(words: &mut [u64], number: u64, datagram: &[u8], id: DatalinkId) -> Seen
     ensures words { words.new ≡ judged_by number (sent_in id datagram.now) words.old }
     ensures seen { result ≡ seen_in (sent_in id datagram.now) }
 {
     let carried = data::read_with_packet(datagram, End::Ips, id);
-    let reading = carried.reading;
-    let verdict = reading.verdict;
-    match verdict {
-        Verdict::Accepted => {
-            let message = reading.message;
-            let channel = message.channel;
-            let sequence = message.sequence;
-            let size = datagram.len() - carried.start;
-            judge_packet(
-                words,
-                number,
-                channel_of(channel),
-                ByteCount(size),
-                sequence_of(sequence),
-            );
-            Seen::Judged
-        }
-        Verdict::Refused(_) => Seen::Other,
-        Verdict::OtherPlane => Seen::Other,
-    }
+    let Verdict::Accepted = carried.reading.verdict else {
+        return Seen::Other;
+    };
+    let message = carried.reading.message;
+    judge_packet(
+        words,
+        number,
+        message.channel.unwrap_or(0),
+        ByteCount(datagram.len() - carried.start),
+        message.sequence.map(|(_, sequence)| sequence),
+    );
+    Seen::Judged
 }
 
 // The capture was refused, or a record leaves it open what was said: undecided for all channels.
@@ -165,6 +127,7 @@ pub fn undecide(words: &mut [u64])
 }
 
 // A record, by its number: how many bytes there were, those that were kept, the ports of the two ends, and the configured Datalink ID.
+#[tactic(auto, unfolding(crate::specs::Outcomes::outcome_by, crate::specs::Outcomes::seen_by))]
 pub fn judge(
     words: &mut [u64],
     number: u64,
@@ -182,21 +145,17 @@ pub fn judge(
             judge_radio(words, number, ethernet::datagram(frame), id);
             Seen::Other
         }
-        Kind::Shortened => {
+        Kind::Shortened | Kind::Fragment => {
             undecide(words);
             Seen::Skipped
         }
-        Kind::Fragment => {
-            undecide(words);
-            Seen::Skipped
-        }
-        Kind::Short => Seen::Skipped,
-        Kind::OtherType => Seen::Skipped,
-        Kind::NotIpv4 => Seen::Skipped,
-        Kind::OtherProtocol => Seen::Skipped,
-        Kind::Ipv4Length => Seen::Skipped,
-        Kind::UdpLength => Seen::Skipped,
-        Kind::OtherPort => Seen::Skipped,
+        Kind::Short
+        | Kind::OtherType
+        | Kind::NotIpv4
+        | Kind::OtherProtocol
+        | Kind::Ipv4Length
+        | Kind::UdpLength
+        | Kind::OtherPort => Seen::Skipped,
     }
 }
 
@@ -204,10 +163,7 @@ pub fn judge(
 fn one_more(count: u64) -> u64
     ensures { result ≡ one_more_of count }
 {
-    if count < u64::MAX {
-        return count + 1;
-    }
-    count
+    count.saturating_add(1)
 }
 
 // The counts with a record more.

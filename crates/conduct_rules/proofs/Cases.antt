@@ -1,6 +1,6 @@
 -- The rules by their numbers: each row is computed. Assumes nothing.
-use Rattle.std.proofs.Common.{◌≡◌, ℕ, Bool, true, false, List, [], ◌∷◌, refl}
-use Rattle.meaning.specs.declared.message.Sequence.{Sequence}
+use Rattle.quantity.specs.declared.count.FlowSequence.{FlowSequence}
+use Rattle.std.proofs.Common.{◌≡◌, ℕ, Bool, true, false, List, [], ◌∷◌, refl, Option, Some, None}
 use Rattle.meaning.specs.declared.message.Window.{Window}
 use Rattle.conduct_rules.specs.declared.Flow.{Flow}
 use Rattle.conduct_rules.specs.Rules.{flow_of, obeys_within, obeys_of}
@@ -9,22 +9,22 @@ use Rattle.quantity.specs.Distance.{distance_of, fits_of}
 -- a data message: the flow of its channel, the last sequence there, its bytes, the sequence that it carries, and whether it obeys
 pub record Row : Type 0 where
   pub flow : Flow
-  pub last : Sequence
+  pub last : Option FlowSequence
   pub bytes : ℕ
-  pub carried : Sequence
+  pub carried : Option FlowSequence
   pub obeys : Bool
 
-row : Flow → Sequence → ℕ → Sequence → Bool → Row
+row : Flow → Option FlowSequence → ℕ → Option FlowSequence → Bool → Row
 row flow last bytes carried obeys = record { flow = flow; last = last; bytes = bytes; carried = carried; obeys = obeys }
 
-abbrev none : Sequence
-none = Sequence.Absent
+abbrev none : Option FlowSequence
+none = None
 
-abbrev given : ℕ → Sequence
-given number = Sequence.Given (record { 0 = number })
+abbrev given : ℕ → Option FlowSequence
+given number = Some (record { 0 = number })
 
 abbrev window : ℕ → Flow
-window number = flow_of (Window.Given (record { 0 = number }))
+window number = flow_of (Some (Window.Given (record { 0 = number })))
 
 abbrev pub Holds : List Row → Type 0
 Holds [] = Unit {0}
@@ -61,12 +61,12 @@ rows =
     ∷ row Flow.Unseen none 40 none false
     ∷ row Flow.Unseen none 40 (given 40) false
     -- an option without the field: no window
-    ∷ row (flow_of Window.Empty) (given 100) 40 (given 140) false
-    ∷ row (flow_of Window.Empty) (given 100) 40 none false
+    ∷ row (flow_of (Some Window.Empty)) (given 100) 40 (given 140) false
+    ∷ row (flow_of (Some Window.Empty)) (given 100) 40 none false
     -- no option: free
-    ∷ row (flow_of Window.Absent) (given 100) 40 none true
-    ∷ row (flow_of Window.Absent) (given 100) 40 (given 140) false
-    ∷ row (flow_of Window.Absent) none 0 none true
+    ∷ row (flow_of None) (given 100) 40 none true
+    ∷ row (flow_of None) (given 100) 40 (given 140) false
+    ∷ row (flow_of None) none 0 none true
     ∷ []
 
 pub rows_hold : Holds rows

@@ -3,7 +3,7 @@ ghost use Rattle.std.specs.Prelude.{◌≡◌};
 ghost use Rattle.conduct_rules.specs.Kept.{flow_word, flow_in, base_after, base_in, breach_after};
 
 use crate::Flow;
-use meaning::message::{Sequence, Window};
+use meaning::message::Window;
 use quantity::count::{FlowSequence, FlowWindow};
 
 // Words of a flow; from IN_FORCE on it is the window that many higher.
@@ -18,48 +18,43 @@ const IN_FORCE: u64 = 3;
 // Numbers of 32 bits are below this.
 const COUNT_VALUES: u64 = 4294967296;
 
-pub fn flow_word(window: Window) -> u64
+pub fn flow_word(window: Option<Window>) -> u64
     ensures { result ≡ flow_word window }
 {
     match window {
-        Window::Absent => FREE,
-        Window::Empty => NO_WINDOW,
-        Window::Given(given) => IN_FORCE + given.0 as u64,
+        None => FREE,
+        Some(Window::Empty) => NO_WINDOW,
+        Some(Window::Given(given)) => IN_FORCE + given.0 as u64,
     }
 }
 
+#[tactic(auto, unfolding(crate::specs::Kept::flow_in))]
 pub fn flow_in(number: u64) -> Flow
     ensures { result ≡ flow_in number }
 {
-    if number == UNSEEN {
-        return Flow::Unseen;
+    match number {
+        UNSEEN => Flow::Unseen,
+        FREE => Flow::Free,
+        NO_WINDOW => Flow::NoWindow,
+        _ => Flow::InForce(FlowWindow(((number - IN_FORCE) % COUNT_VALUES) as u32)),
     }
-    if number == FREE {
-        return Flow::Free;
-    }
-    if number == NO_WINDOW {
-        return Flow::NoWindow;
-    }
-    Flow::InForce(FlowWindow(((number - IN_FORCE) % COUNT_VALUES) as u32))
 }
 
 // A message without a Flow Sequence leaves the base.
-pub fn base_after(number: u64, carried: Sequence) -> u64
+pub fn base_after(number: u64, carried: Option<FlowSequence>) -> u64
     ensures { result ≡ base_after number carried }
 {
-    match carried {
-        Sequence::Absent => number,
-        Sequence::Given(sequence) => 1 + sequence.0 as u64,
-    }
+    carried.map_or(number, |sequence| 1 + sequence.0 as u64)
 }
 
-pub fn base_in(number: u64) -> Sequence
+#[tactic(auto, unfolding(crate::specs::Kept::base_in))]
+pub fn base_in(number: u64) -> Option<FlowSequence>
     ensures { result ≡ base_in number }
 {
     if number == 0 {
-        return Sequence::Absent;
+        return None;
     }
-    Sequence::Given(FlowSequence(((number - 1) % COUNT_VALUES) as u32))
+    Some(FlowSequence(((number - 1) % COUNT_VALUES) as u32))
 }
 
 // A breach stands, whatever follows.

@@ -6,7 +6,6 @@ ghost use Rattle.conduct_rules.specs.Rules.{less_of, base_for, obeys_free, obeys
 
 pub mod kept;
 
-use meaning::message::Sequence;
 use quantity::count;
 use quantity::count::{ByteCount, FlowSequence, FlowWindow};
 
@@ -32,53 +31,51 @@ fn less(sequence: FlowSequence, bytes: ByteCount) -> FlowSequence
 }
 
 // What a packet is counted from: the last sequence carried; for the first, its own less its bytes.
-fn base_for(last: Sequence, own: FlowSequence, bytes: ByteCount) -> FlowSequence
+fn base_for(last: Option<FlowSequence>, own: FlowSequence, bytes: ByteCount) -> FlowSequence
     ensures { result ≡ base_for last own bytes }
 {
-    match last {
-        Sequence::Absent => less(own, bytes),
-        Sequence::Given(base) => base,
-    }
+    last.unwrap_or(less(own, bytes))
 }
 
 // Under a window: the sequence after the packet, and a packet that fits.
+#[tactic(auto, unfolding(crate::specs::Rules::obeys_within))]
 fn obeys_within(window: FlowWindow, base: FlowSequence, bytes: ByteCount, own: FlowSequence) -> bool
     ensures { result ≡ obeys_within window base bytes own }
 {
     let after = count::advance(base, bytes);
-    if own.0 == after.0 {
-        return count::fits(base, window, bytes);
-    }
-    false
+    own.0 == after.0 && count::fits(base, window, bytes)
 }
 
-fn obeys_in_force(window: FlowWindow, last: Sequence, bytes: ByteCount, carried: Sequence) -> bool
+fn obeys_in_force(
+    window: FlowWindow,
+    last: Option<FlowSequence>,
+    bytes: ByteCount,
+    carried: Option<FlowSequence>,
+) -> bool
     ensures { result ≡ obeys_in_force window last bytes carried }
 {
-    match carried {
-        Sequence::Absent => false,
-        Sequence::Given(own) => obeys_within(window, base_for(last, own, bytes), bytes, own),
-    }
+    carried.is_some_and(|own| obeys_within(window, base_for(last, own, bytes), bytes, own))
 }
 
 // On a free channel only a Flow Sequence is a breach.
-fn obeys_free(carried: Sequence) -> bool
+fn obeys_free(carried: Option<FlowSequence>) -> bool
     ensures { result ≡ obeys_free carried }
 {
-    match carried {
-        Sequence::Absent => true,
-        Sequence::Given(_) => false,
-    }
+    carried.is_none()
 }
 
 // A data message of so many bytes, by the flow of its channel, the last sequence carried there before, and its own.
-pub fn obeys(flow: Flow, last: Sequence, bytes: ByteCount, carried: Sequence) -> bool
+pub fn obeys(
+    flow: Flow,
+    last: Option<FlowSequence>,
+    bytes: ByteCount,
+    carried: Option<FlowSequence>,
+) -> bool
     ensures { result ≡ obeys_of flow last bytes carried }
 {
     match flow {
-        Flow::Unseen => false,
+        Flow::Unseen | Flow::NoWindow => false,
         Flow::Free => obeys_free(carried),
-        Flow::NoWindow => false,
         Flow::InForce(window) => obeys_in_force(window, last, bytes, carried),
     }
 }

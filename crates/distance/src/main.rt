@@ -36,6 +36,7 @@ fn say(printer: &impl Print, complaints: &impl Print, line: &[u8]) -> bool {
 // turns are counted.
 fn serve(reader: &mut impl Read, printer: &impl Print, complaints: &impl Print, buffer: &mut [u8]) {
     let mut input = lines::start();
+    // Counted down, and no `for`: the edit `two_turns` counts each turn twice here.
     let mut turns = u64::MAX;
     while turns > 0 {
         turns -= 1;

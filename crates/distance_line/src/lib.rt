@@ -6,7 +6,6 @@ ghost use Rattle.text.specs.Laying.{Lays, Wrote};
 ghost use Rattle.distance_line.specs.Answer.{PART, ROW, spaced, row_of, read_of, answer_of};
 
 use quantity::count::{FlowSequence, FlowWindow, distance};
-use text::Number;
 
 // The largest number of 32 bits.
 const MOST: u64 = 4294967295;
@@ -14,28 +13,17 @@ const MOST: u64 = 4294967295;
 // Room for an answer, of at most 33 bytes, and for what ends its line.
 pub const ANSWER: usize = 40;
 
-// What a line stands for.
-#[derive(Clone, Copy)]
-pub enum Read {
-    Bad,
-    Numbers(FlowSequence, FlowWindow),
-}
-
 // The two numbers of a line.
-fn read_line(line: &[u8]) -> Read
+fn read_line(line: &[u8]) -> Option<(FlowSequence, FlowWindow)>
     ensures { result ≡ read_of line.now }
 {
     let rest = text::tail(line);
-    let Number::Value(sequence) = text::parse(text::head(line), MOST) else {
-        return Read::Bad;
-    };
-    let Number::Value(window) = text::parse(text::word(rest), MOST) else {
-        return Read::Bad;
-    };
+    let sequence = text::parse(text::head(line), MOST)?;
+    let window = text::parse(text::word(rest), MOST)?;
     if text::beyond(rest).len() > 0 {
-        return Read::Bad;
+        return None;
     }
-    Read::Numbers(FlowSequence(sequence as u32), FlowWindow(window as u32))
+    Some((FlowSequence(sequence as u32), FlowWindow(window as u32)))
 }
 
 // Lays a number and a space.
@@ -62,7 +50,7 @@ fn answer_into(line: &[u8], out: &mut [u8]) -> usize
     requires { ROW ≤ length out.old }
     ensures { Wrote out.old (answer_of line.now) result out.new }
 {
-    let Read::Numbers(sequence, window) = read_line(line) else {
+    let Some((sequence, window)) = read_line(line) else {
         return text::put(out, 0, b"bad");
     };
     put_row(out, sequence, window)

@@ -1,4 +1,5 @@
 -- A call on the channel at an index with its store lent, both put back unless it is refused: one law serves the three calls. Assumes nothing.
+use Rattle.std.specs.Prelude.{Err}
 use Prim.Native.Nat.{ℕ, ◌+◌, ◌-◌, ◌≤◌}
 use mathlib.Core.Bool.{true, false, cond, and-eq-true_iff}
 use mathlib.Core.List.{List}
@@ -20,7 +21,6 @@ use Rattle.ips_run.specs.Run.{on}
 use Rattle.ips_calls.specs.Replies.{of_channel}
 use Rattle.ips_words.specs.Words.{state_in, put_channel}
 use Rattle.ips_words_survey.specs.declared.place.Found.{Found}
-use Rattle.ips_words_survey.specs.declared.place.Place.{Place}
 use Rattle.ips_words_survey.specs.Places.{place_of, Located}
 use Rattle.ips_words_survey.proofs.Finding.{Finds}
 use Rattle.endpoint.specs.Lent.{Lent, lent, world_in, words_called_under, after_in_under}
@@ -106,9 +106,6 @@ module _ (l : Lent) (found : Found) (located : Located (world_in l) found) where
           words_are : words' ≡ unless_refused (result_in call w found.index).answer l.words (put_channel l.words found.index (channel_after (channel_in w found.index) (result_in call w found.index)))
           words_are = e ∙ rw (reply_told, left) (sym (unless_told (terms_in w found.index) call (result_in call w found.index).answer l.words (put_channel l.words found.index (channel_after (channel_in w found.index) (result_in call w found.index)))))
 
-      pub kept_at : is_refused x ≡ true → PerformedInAt call l found.index x (lent l.words (back store'))
-      kept_at e = performed_at l.words (rw e)
-
       pub saved_at : is_refused x ≡ false → (words' : List ℕ) → words' ≡ put_channel l.words found.index c' → PerformedInAt call l found.index x (lent words' (back store'))
       saved_at e words' is-put = performed_at words' (rw e is-put)
 
@@ -122,7 +119,7 @@ performed_found l id found finds call x l' h =
     record { reply_is = ap of_channel (rw (same, finds.at_index) h.reply_is); lent_is = rw (same, finds.at_index, here) h.lent_is }
 
 -- ---- and where it is not
-pub performed_refused : (l : Lent) (id number : ℕ) → place_of (state_in l.words) id (length l.memory) ≡ Place.Refused number → (call : ChannelCall)
+pub performed_refused : (l : Lent) (id number : ℕ) → place_of (state_in l.words) id (length l.memory) ≡ Err number → (call : ChannelCall)
     → PerformedIn (on id call) l (of_channel (reply_to (terms_in (world_in l) (index_in (world_in l) id)) call (refused number))) l
 unfolding after_in_under words_called_under
 performed_refused l id number e call =

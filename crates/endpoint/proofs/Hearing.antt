@@ -1,4 +1,8 @@
 -- The ways out of a radio message handed in, of the pacer asked, and of a query. Assumes nothing.
+use Rattle.std.specs.Prelude.{Option, Result, Ok, Err}
+use Rattle.quantity.specs.declared.count.ByteCount.{ByteCount}
+use Rattle.meaning.specs.declared.message.ContextBytes.{ContextBytes}
+use Rattle.meaning.specs.declared.message.Plane.{Plane}
 use Prim.Native.Nat.{ℕ, ◌≤◌}
 use mathlib.Core.Bool.{Bool, true, false, cond}
 use mathlib.Core.List.{List}
@@ -8,11 +12,8 @@ use lib.ListN.{length}
 use Rattle.quantity.specs.declared.refusal.Refusal.{Refusal}
 use Rattle.quantity.specs.Refusals.{OUTSIDE-LIMITS, EARLIER-PACE}
 use Rattle.meaning.specs.declared.message.End.TheVariants as ends
-use Rattle.meaning.specs.declared.message.Context.{Context}
 use Rattle.meaning.specs.declared.message.Control.{Control}
 use Rattle.reader.specs.Readings.{ControlReading, DataReading, read_control, read_data, plane_of}
-use Rattle.reader.specs.declared.answer.PlaneAnswer.{PlaneAnswer}
-use Rattle.writer.specs.declared.answer.WriteAnswer.{WriteAnswer}
 use Rattle.writer.specs.Written.{control_written, Outcome}
 use Rattle.pacer.specs.declared.Pacer.{Pacer}
 use Rattle.pacer.specs.declared.PaceAnswer.{PaceAnswer}
@@ -46,8 +47,8 @@ silent_room true words fallen fits e = rw e (omega (arith, silenced_length words
 silent_room false words fallen fits e = rw e (head_there words fits)
 
 -- ---- an accepted control message
-pub message_heard : (time : ℕ) (message : Control) (words : List ℕ) → state_fits (state_in words) ≡ true → (before : Context) → before ≡ (state_of words).context
-    → (due : Bool) → due ≡ due_of before message.context → (r : RadioAnswer) → r ≡ cond due RadioAnswer.Due RadioAnswer.Accepted
+pub message_heard : (time : ℕ) (message : Control) (words : List ℕ) → state_fits (state_in words) ≡ true → (before : Option (ContextBytes × ℕ)) → before ≡ (state_of words).context
+    → (due : Bool) → due ≡ due_of before message.context → (r : Result RadioAnswer Refusal) → r ≡ cond due (Ok RadioAnswer.Due) (Ok RadioAnswer.Accepted)
     → (paced : Pacer) → paced ≡ (state_of words).pacer → (heard : List ℕ) → heard ≡ heard_words message words → (moved : Pacer) → moved ≡ heard_at time paced
     → (words' : List ℕ) → words' ≡ put_pacer heard moved → MessageHeard time message words r words'
 unfolding state_of
@@ -56,28 +57,28 @@ message_heard time message words fits before e due told r is paced p heard h mov
 
 -- ---- an accepted data message
 pub data_passed : (time : ℕ) (words : List ℕ) (paced : Pacer) → paced ≡ (state_of words).pacer → (moved : Pacer) → moved ≡ moved_to time paced
-    → (words' : List ℕ) → words' ≡ put_pacer words moved → DataPassed time words RadioAnswer.Accepted words'
+    → (words' : List ℕ) → words' ≡ put_pacer words moved → DataPassed time words (Ok RadioAnswer.Accepted) words'
 unfolding state_of
 data_passed time words paced p moved m words' put = record { answer_is = refl; words_are = put ∙ rw (m, p) }
 
 -- ---- a datagram, read by its plane
-module _ (time : ℕ) (words datagram : List ℕ) (r : RadioAnswer) (plane : PlaneAnswer) (told : plane ≡ plane_of datagram) (words' : List ℕ) where
-  pub read_control_lem : plane ≡ PlaneAnswer.Control → (reading : ControlReading) → reading ≡ read_control ends.Radio (state_in words).datalink.id datagram
+module _ (time : ℕ) (words datagram : List ℕ) (r : Result RadioAnswer Refusal) (plane : Result Plane Refusal) (told : plane ≡ plane_of datagram) (words' : List ℕ) where
+  pub read_control_lem : plane ≡ Ok Plane.Control → (reading : ControlReading) → reading ≡ read_control ends.Radio (state_in words).datalink.id datagram
       → ControlRead time reading words r words' → DatagramRead time datagram words r words'
   unfolding received_in
   read_control_lem p reading read h = record { answer_is = rw (sym told ∙ p, ← read) h.answer_is; words_are = rw (sym told ∙ p, ← read) h.words_are }
 
-  pub read_data_lem : plane ≡ PlaneAnswer.Data → (reading : DataReading) → reading ≡ read_data ends.Radio (state_in words).datalink.id datagram
+  pub read_data_lem : plane ≡ Ok Plane.Data → (reading : DataReading) → reading ≡ read_data ends.Radio (state_in words).datalink.id datagram
       → DataRead time reading words r words' → DatagramRead time datagram words r words'
   unfolding received_in
   read_data_lem p reading read h = record { answer_is = rw (sym told ∙ p, ← read) h.answer_is; words_are = rw (sym told ∙ p, ← read) h.words_are }
 
-  pub read_refused : (refusal : Refusal) → plane ≡ PlaneAnswer.Refused refusal → r ≡ RadioAnswer.Refused refusal → words' ≡ words → DatagramRead time datagram words r words'
+  pub read_refused : (refusal : Refusal) → plane ≡ Err refusal → r ≡ Err refusal → words' ≡ words → DatagramRead time datagram words r words'
   unfolding received_in
   read_refused refusal p is same = record { answer_is = rw (sym told ∙ p) is; words_are = rw (sym told ∙ p) same }
 
 -- ---- a radio message handed in
-module _ (time : ℕ) (words datagram : List ℕ) (r : RadioAnswer) where
+module _ (time : ℕ) (words datagram : List ℕ) (r : Result RadioAnswer Refusal) where
   handed : (words' : List ℕ) → r ≡ (handed_in time (state_in words) datagram).answer
       → words' ≡ cond (in_time time (state_in words)) (received_words time (received_in (state_in words).datalink.id datagram) words) words
       → PerformedInWithAny (radio time datagram) words (of_radio r) words'
@@ -101,7 +102,7 @@ module _ (time : ℕ) (words datagram : List ℕ) (r : RadioAnswer) where
     handed_read e words' h = handed words' (rw (fits, earlier_is ∙ e) h.answer_is) (rw (fits, earlier_is ∙ e) h.words_are)
 
 -- ---- the pacer asked
-module _ (time : ℕ) (words : List ℕ) (r : PaceAnswer) where
+module _ (time : ℕ) (words : List ℕ) (r : Result PaceAnswer Refusal) where
   paced_so : (words' : List ℕ) → r ≡ pace_answer time (state_in words) → words' ≡ cond (in_time time (state_in words)) (paced_words time words) words
       → PerformedInWithAny (pace time) words (of_pace r) words'
   unfolding after_in_under
@@ -133,8 +134,8 @@ module _ (time : ℕ) (words : List ℕ) (r : PaceAnswer) where
         ∙ ap₂ put_pacer (f ∙ ap (λ (b : Bool). cond b (silenced_words words) words) (s ∙ ap (λ (x : Pacer). is_silent time x) p)) (m ∙ ap (asked time) p)))
 
 -- ---- a query
-module _ (words out : List ℕ) (r : WriteAnswer) where
-  pub asked_unfit : state_fits (state_in words) ≡ false → r ≡ WriteAnswer.Refused (record { number = OUTSIDE-LIMITS; place = 0 }) → PerformedInWithAny (query out) words (of_query r out) words
+module _ (words out : List ℕ) (r : Result ByteCount Refusal) where
+  pub asked_unfit : state_fits (state_in words) ≡ false → r ≡ Err (record { number = OUTSIDE-LIMITS; place = 0 }) → PerformedInWithAny (query out) words (of_query r out) words
   unfolding after_in_under
   asked_unfit e is memory = record { reply_is = (query_unfit (state_in words) out r memory e is).reply_is; lent_is = refl }
 

@@ -12,7 +12,7 @@ use Rattle.store.proofs.Held.{holds_count, well_sound}
 use Rattle.flow.specs.declared.Flow.{Flow}
 use Rattle.flow.specs.Counting.{sequence_on}
 use Rattle.ips_channel_rules.specs.Rules as rules
-use Rattle.ips_channel_rules.specs.Rules.{ChannelCall, Says, Answer, refused, answered, unless_refused, Event, Happened, Terms, Condition, Result}
+use Rattle.ips_channel_rules.specs.Rules.{ChannelCall, Says, Answer, refused, answered, unless_refused, Event, Happened, Terms, Condition, AfterCall}
 use Rattle.ips_channel_rules.specs.Machine.{machine}
 use Rattle.ips_channel_rules.specs.Account.{is_call}
 use Rattle.ips_channel_rules.proofs.Leaves.{Leaves, stays, joins, looks, sends, clears, hears, leaves}
@@ -52,7 +52,7 @@ slim_of c store n = record { status = n.status; window = n.window; sequence = n.
 
 -- ---- what a call leaves, refused ones among them
 module _ (datalink : DatalinkSetting) (call : ChannelCall) (c : Channel) (store : List ℕ) (ready : Ready c store) (narrow : Narrow c) where
-  abbrev r : Result machine (Says call)
+  abbrev r : AfterCall machine (Says call)
   r = result_of datalink call c store
 
   slim : Slim r.condition

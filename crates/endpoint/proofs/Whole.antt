@@ -1,4 +1,6 @@
 -- From a fresh start on words, and any calls on them, to demand 3's sentence. Assumes nothing.
+use Rattle.std.specs.Prelude.{Result, Ok}
+use Rattle.quantity.specs.declared.refusal.Refusal.{Refusal}
 use Prim.Native.Nat.{ℕ, ◌+◌, ◌≤◌, ◌<◌}
 use mathlib.Core.Bool.{Bool, true, false}
 use mathlib.Core.List.{List}
@@ -11,7 +13,6 @@ use Rattle.pacer.specs.declared.PaceAnswer.{PaceAnswer}
 use Rattle.ips_state.specs.State.{Configuration}
 use Rattle.ips_state.specs.Limits.{waits_fit, configuration_taken}
 use Rattle.ips_state.specs.Memory.{memory_fits, World}
-use Rattle.ips_state.specs.declared.StartAnswer.{StartAnswer}
 use Rattle.ips_run.specs.Run.{Call, pace, after_all, fresh_world}
 use Rattle.ips_run.specs.Demand.{BytesIn, reached}
 use Rattle.ips_run.specs.Kept.{last_or}
@@ -41,7 +42,7 @@ starts_is configuration words memory = refl
 
 module _ {configuration words memory words' memory' : List ℕ} where
   -- the contract of a start on words is the contract of a start
-  pub start_in_lem : {answer : StartAnswer} → StartedIn configuration words memory answer words' memory'
+  pub start_in_lem : {answer : Result (Unit {0}) Refusal} → StartedIn configuration words memory answer words' memory'
       → Started (configuration_in configuration) (room_in configuration words) (world_in (lent words memory)) answer (world_in (lent words' memory'))
   start_in_lem {answer} h = go (begins_in configuration words memory) refl
     where
@@ -53,7 +54,7 @@ module _ {configuration words memory words' memory' : List ℕ} where
       }
       go false f = record { answer_is = rw (starts_is configuration words memory) h.answer_is; world_is = rw (starts_is configuration words memory, f, h.words_are, h.memory_is, f) }
 
-  module _ (begun : StartedIn configuration words memory StartAnswer.Started words' memory') where
+  module _ (begun : StartedIn configuration words memory (Ok tt) words' memory') where
     started_fits : starts (configuration_in configuration) (room_in configuration words) memory ≡ true
     started_fits = rw (starts_is configuration words memory) (go (starts_in configuration words memory) refl (waits_fit (configuration_in configuration)) refl)
       where
@@ -64,7 +65,7 @@ module _ {configuration words memory words' memory' : List ℕ} where
 
     -- a start that is not refused leaves words and memory that stand for the fresh world
     pub started_in : world_in (lent words' memory') ≡ fresh_world (configuration_in configuration)
-    started_in = begins (configuration_in configuration) (room_in configuration words) (world_in (lent words memory)) started_fits StartAnswer.Started (world_in (lent words' memory')) (start_in_lem begun)
+    started_in = begins (configuration_in configuration) (room_in configuration words) (world_in (lent words memory)) started_fits (Ok tt) (world_in (lent words' memory')) (start_in_lem begun)
 
     -- THE STATEMENT: demand 3's sentence, of the code's own outcomes on lent words, with nothing asked of configuration, words and memory
     pub started_own_in : (index : ℕ) → index < length (configuration_in configuration).starts → (cs : List Call) → BytesIn cs → (xs : List EndpointReply) (last : Lent)
@@ -75,7 +76,7 @@ module _ {configuration words memory words' memory' : List ℕ} where
 
     -- DUE AND SILENT BY HISTORY, of the code's own outcomes: the pacer asked after any calls on the words that a start left
     module _ (cs : List Call) (bytes : BytesIn cs) (xs : List EndpointReply) (last : Lent) (run : RanIn (lent words' memory') cs xs last)
-        (time : ℕ) {answer : PaceAnswer} {l' : Lent} (h : PerformedIn (pace time) last (of_pace answer) l') where
+        (time : ℕ) {answer : Result PaceAnswer Refusal} {l' : Lent} (h : PerformedIn (pace time) last (of_pace answer) l') where
       abbrev k : Configuration
       k = configuration_in configuration
 

@@ -1,12 +1,10 @@
 -- Document 01's calls on a state in lent words: each leaves one reply, every word and every lent byte fixed.
-use Rattle.std.specs.Prelude.{ℕ, ◌<◌, Bool, true, false, List, ◌≡◌, length}
+use Rattle.std.specs.Result.{is_err}
+use Rattle.std.specs.Prelude.{ℕ, ◌<◌, Bool, true, List, ◌≡◌, length}
 use Rattle.quantity.specs.declared.count.ByteCount.{ByteCount}
 use Rattle.store.specs.Moves.{displaced}
 use Rattle.store.specs.Waiting.{packets_of}
 use Rattle.ips_channel_rules.specs.Rules.{ChannelCall, unless_refused}
-use Rattle.ips_channel_calls.specs.declared.offering.OfferAnswer.{OfferAnswer}
-use Rattle.ips_channel_calls.specs.declared.offering.WithdrawAnswer.{WithdrawAnswer}
-use Rattle.ips_channel_calls.specs.declared.asking.NextAnswer.{NextAnswer}
 use Rattle.ips_channel_calls.specs.Calls.{Reply, offered, asked, withdrawn, reply_to, channel_after, store_after, leaving_by}
 use Rattle.ips_state.specs.Limits.{state_fits}
 use Rattle.ips_state.specs.Memory.{World, with_store, channel_in, store_in}
@@ -26,25 +24,10 @@ abbrev pub PerformedInWithAny : Call → List ℕ → EndpointReply → List ℕ
 PerformedInWithAny c words x words' = (memory : List ℕ) → PerformedIn c (lent words memory) x (lent words' memory)
 
 -- ---- which replies are refusals: of these alone no word is written
-abbrev pub offer_refused : OfferAnswer → Bool
-offer_refused OfferAnswer.Taken = false
-offer_refused (OfferAnswer.Refused refusal) = true
-
-abbrev pub next_refused : NextAnswer → Bool
-next_refused (NextAnswer.Sent bytes) = false
-next_refused NextAnswer.NothingWaiting = false
-next_refused NextAnswer.NotOperational = false
-next_refused NextAnswer.WindowShut = false
-next_refused (NextAnswer.Refused refusal) = true
-
-abbrev pub withdraw_refused : WithdrawAnswer → Bool
-withdraw_refused WithdrawAnswer.Withdrawn = false
-withdraw_refused (WithdrawAnswer.Refused refusal) = true
-
 abbrev pub is_refused : Reply → Bool
-is_refused (offered answer) = offer_refused answer
-is_refused (asked answer out) = next_refused answer
-is_refused (withdrawn answer) = withdraw_refused answer
+is_refused (offered answer) = is_err answer
+is_refused (asked answer out) = is_err answer
+is_refused (withdrawn answer) = is_err answer
 
 -- ---- what the functions behind the calls require and do: number 19 has been tested, and the channel stands at this index
 pub record Placed (words : List ℕ) (index : ℕ) : Type 0 where

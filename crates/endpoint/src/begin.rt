@@ -3,9 +3,9 @@ ghost use Rattle.std.specs.Prelude.{◌≡◌};
 ghost use Rattle.ips_words_start.specs.Start.{StartedIn};
 ghost use Rattle.endpoint.specs.Shown.{words_needed};
 
-use ips_state::StartAnswer;
 use ips_words::layout::{HEAD, SLOT};
 use quantity::limit::{FEWEST_CHANNELS, MOST_CHANNELS};
+use quantity::refusal::Refusal;
 
 // What a state of the most channels asks for.
 pub const MOST_WORDS: usize = HEAD + SLOT * MOST_CHANNELS;
@@ -24,7 +24,7 @@ pub fn words_for(channels: usize) -> usize
 }
 
 // Judges the configuration, the words and the memory (19, then 22), and fills each store with zeros.
-pub fn start(words: &mut [u64], memory: &mut [u8], configuration: &[u64]) -> StartAnswer
+pub fn start(words: &mut [u64], memory: &mut [u8], configuration: &[u64]) -> Result<(), Refusal>
     ensures { StartedIn configuration.now words.old memory.old result words.new memory.new }
 {
     ips_words_start::begin(words, memory, configuration)

@@ -7,31 +7,21 @@ ghost use Rattle.ips_run.specs.Run.{on};
 ghost use Rattle.ips_calls.specs.Replies.{of_channel};
 ghost use Rattle.ips_words_survey.specs.Places.{Located};
 ghost use Rattle.endpoint.specs.Lent.{lent, world_in};
-ghost use Rattle.endpoint.specs.Calls.{PerformedIn, PerformedInAt, MovedAt, offer_refused, next_refused};
+ghost use Rattle.endpoint.specs.Calls.{PerformedIn, PerformedInAt, MovedAt};
 
 use crate::channel;
 use ips_channel_calls::asking::NextAnswer;
-use ips_channel_calls::offering::{OfferAnswer, WithdrawAnswer};
 use ips_channel_calls::{asking, offering};
 use ips_words::head;
 use ips_words_survey::place;
-use ips_words_survey::place::{Found, Place};
+use ips_words_survey::place::Found;
 use quantity::count::ByteCount;
 use quantity::refusal::Refusal;
 
-fn offer_refused(answer: OfferAnswer) -> bool
-    ensures { result ≡ offer_refused answer }
-{
-    match answer {
-        OfferAnswer::Taken => false,
-        OfferAnswer::Refused(_) => true,
-    }
-}
-
-// The answer to a packet offered, and how many bytes it says were moved within the store.
+// An answer, and how many bytes it says were moved within the store.
 #[derive(Clone, Copy)]
-pub struct PacketOffered {
-    pub answer: OfferAnswer,
+pub struct Performed<A> {
+    pub answer: Result<A, Refusal>,
     pub moved: ByteCount,
 }
 
@@ -43,25 +33,22 @@ pub fn offer_at(
     packet: &[u8],
     expiry: u64,
     time: u64,
-) -> PacketOffered
+) -> Performed<()>
     requires { Located (world_in (lent words.old memory.old)) found }
     ensures performed_in_at { PerformedInAt (rules.offer (packet_for packet.now expiry) time) (lent words.old memory.old) found.index (offered result.answer) (lent words.new memory.new) }
     ensures moved_at { MovedAt (rules.offer (packet_for packet.now expiry) time) (world_in (lent words.old memory.old)) found.index result.moved }
 {
-    let index = found.index;
     let start = found.start;
-    let before = channel::load(words, index);
-    let size = before.setting.size;
-    let end = start + size.0;
+    let before = channel::load(words, found.index);
+    let end = start + before.setting.size.0;
     let offered = offering::offer(before, &mut memory[start..end], packet, expiry, time);
-    let answer = offered.answer;
-    let moved = offered.moved;
-    if offer_refused(answer) {
-        return PacketOffered { answer, moved };
+    if offered.answer.is_ok() {
+        channel::save(words, found.index, offered.channel);
     }
-    let after = offered.channel;
-    channel::save(words, index, after);
-    PacketOffered { answer, moved }
+    Performed {
+        answer: offered.answer,
+        moved: offered.moved,
+    }
 }
 
 // Offers a packet: 19, 12, then as the channel judges it.
@@ -72,32 +59,13 @@ pub fn offer(
     packet: &[u8],
     expiry: u64,
     time: u64,
-) -> OfferAnswer
+) -> Result<(), Refusal>
     ensures { PerformedIn (on id (rules.offer (packet_for packet.now expiry) time)) (lent words.old memory.old) (of_channel (offered result)) (lent words.new memory.new) }
 {
     match place::find(words, id, memory.len()) {
-        Place::At(found) => offer_at(words, memory, found, packet, expiry, time).answer,
-        Place::Refused(number) => OfferAnswer::Refused(Refusal { number, place: 0 }),
+        Ok(found) => offer_at(words, memory, found, packet, expiry, time).answer,
+        Err(number) => Err(Refusal { number, place: 0 }),
     }
-}
-
-fn next_refused(answer: NextAnswer) -> bool
-    ensures { result ≡ next_refused answer }
-{
-    match answer {
-        NextAnswer::Sent(_) => false,
-        NextAnswer::NothingWaiting => false,
-        NextAnswer::NotOperational => false,
-        NextAnswer::WindowShut => false,
-        NextAnswer::Refused(_) => true,
-    }
-}
-
-// The answer to an ask, and how many bytes it says were moved within the store.
-#[derive(Clone, Copy)]
-struct PacketAsked {
-    answer: NextAnswer,
-    moved: ByteCount,
 }
 
 fn next_at(
@@ -106,71 +74,63 @@ fn next_at(
     found: Found,
     time: u64,
     out: &mut [u8],
-) -> PacketAsked
+) -> Performed<NextAnswer>
     requires { Located (world_in (lent words.old memory.old)) found }
     ensures performed_in_at { PerformedInAt (rules.next time out.old) (lent words.old memory.old) found.index (asked result.answer out.new) (lent words.new memory.new) }
     ensures moved_at { MovedAt (rules.next time out.old) (world_in (lent words.old memory.old)) found.index result.moved }
 {
-    let index = found.index;
     let start = found.start;
     let datalink = head::setting(words);
-    let before = channel::load(words, index);
-    let size = before.setting.size;
-    let end = start + size.0;
+    let before = channel::load(words, found.index);
+    let end = start + before.setting.size.0;
     let asked = asking::next(before, &mut memory[start..end], datalink, time, out);
-    let answer = asked.answer;
-    let moved = asked.moved;
-    if next_refused(answer) {
-        return PacketAsked { answer, moved };
+    if asked.answer.is_ok() {
+        channel::save(words, found.index, asked.channel);
     }
-    let after = asked.channel;
-    channel::save(words, index, after);
-    PacketAsked { answer, moved }
+    Performed {
+        answer: asked.answer,
+        moved: asked.moved,
+    }
 }
 
 // Asks for the next packet's message: 19, 12, then as the channel answers.
-pub fn next(words: &mut [u64], memory: &mut [u8], id: u8, time: u64, out: &mut [u8]) -> NextAnswer
+pub fn next(
+    words: &mut [u64],
+    memory: &mut [u8],
+    id: u8,
+    time: u64,
+    out: &mut [u8],
+) -> Result<NextAnswer, Refusal>
     ensures { PerformedIn (on id (rules.next time out.old)) (lent words.old memory.old) (of_channel (asked result out.new)) (lent words.new memory.new) }
 {
     match place::find(words, id, memory.len()) {
-        Place::At(found) => next_at(words, memory, found, time, out).answer,
-        Place::Refused(number) => NextAnswer::Refused(Refusal { number, place: 0 }),
+        Ok(found) => next_at(words, memory, found, time, out).answer,
+        Err(number) => Err(Refusal { number, place: 0 }),
     }
 }
 
-// The answer to a withdrawal, and how many bytes it says were moved within the store.
-#[derive(Clone, Copy)]
-struct PacketsWithdrawn {
-    answer: WithdrawAnswer,
-    moved: ByteCount,
-}
-
-fn withdraw_at(words: &mut [u64], memory: &mut [u8], found: Found) -> PacketsWithdrawn
+fn withdraw_at(words: &mut [u64], memory: &mut [u8], found: Found) -> Performed<()>
     requires { Located (world_in (lent words.old memory.old)) found }
     ensures performed_in_at { PerformedInAt rules.withdraw (lent words.old memory.old) found.index (withdrawn result.answer) (lent words.new memory.new) }
     ensures moved_at { MovedAt rules.withdraw (world_in (lent words.old memory.old)) found.index result.moved }
 {
-    let index = found.index;
     let start = found.start;
-    let before = channel::load(words, index);
-    let size = before.setting.size;
-    let end = start + size.0;
+    let before = channel::load(words, found.index);
+    let end = start + before.setting.size.0;
     let emptied = offering::withdraw(before, &mut memory[start..end]);
-    let moved = emptied.moved;
-    let after = emptied.channel;
-    channel::save(words, index, after);
-    PacketsWithdrawn {
-        answer: WithdrawAnswer::Withdrawn,
-        moved,
+    channel::save(words, found.index, emptied.channel);
+    Performed {
+        answer: Ok(()),
+        moved: emptied.moved,
     }
 }
 
 // Withdraws all packets that wait on a channel: 19, 12.
-pub fn withdraw(words: &mut [u64], memory: &mut [u8], id: u8) -> WithdrawAnswer
+pub fn withdraw(words: &mut [u64], memory: &mut [u8], id: u8) -> Result<(), Refusal>
     ensures { PerformedIn (on id rules.withdraw) (lent words.old memory.old) (of_channel (withdrawn result)) (lent words.new memory.new) }
 {
     match place::find(words, id, memory.len()) {
-        Place::At(found) => withdraw_at(words, memory, found).answer,
-        Place::Refused(number) => WithdrawAnswer::Refused(Refusal { number, place: 0 }),
+        Ok(found) => withdraw_at(words, memory, found).answer,
+        Err(number) => Err(Refusal { number, place: 0 }),
     }
 }

@@ -2,7 +2,6 @@
 ghost use Rattle.std.specs.Prelude.{◌≡◌, true, cond};
 ghost use Rattle.ips_state.specs.Limits.{state_fits};
 ghost use Rattle.ips_run.specs.Run as run;
-ghost use Rattle.ips_calls.specs.Pace.{refused_pace};
 ghost use Rattle.ips_calls.specs.Replies.{of_pace};
 ghost use Rattle.ips_words.specs.Words.{state_in};
 ghost use Rattle.ips_words_radio.specs.HeardWords.{silenced_words};
@@ -14,12 +13,6 @@ use pacer::PaceAnswer;
 use quantity::refusal;
 use quantity::refusal::Refusal;
 
-fn refused(number: u8) -> PaceAnswer
-    ensures { result ≡ refused_pace number }
-{
-    PaceAnswer::Refused(Refusal { number, place: 0 })
-}
-
 fn fall_silent(words: &mut [u64], silent: bool)
     requires { state_fits (state_in words.old) ≡ true }
     ensures { words.new ≡ cond silent (silenced_words words.old) words.old }
@@ -30,16 +23,16 @@ fn fall_silent(words: &mut [u64], silent: bool)
 }
 
 // 19, then 21. Packets stay waiting, so no memory is asked for.
-pub fn pace(words: &mut [u64], time: u64) -> PaceAnswer
+pub fn pace(words: &mut [u64], time: u64) -> Result<PaceAnswer, Refusal>
     ensures { PerformedInWithAny (run.pace time) words.old (of_pace result) words.new }
 {
-    let survey = survey::survey_words(words, 0);
-    if !survey.fits {
-        return refused(refusal::OUTSIDE_LIMITS);
-    }
+    survey::judge(words)?;
     let paced = head::pacer(words);
     if pacer::is_earlier(paced, time) {
-        return refused(refusal::EARLIER_PACE);
+        return Err(Refusal {
+            number: refusal::EARLIER_PACE,
+            place: 0,
+        });
     }
     let due = pacer::is_due(paced, time);
     let silent = pacer::is_silent(paced, time);

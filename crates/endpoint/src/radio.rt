@@ -5,18 +5,18 @@ ghost use Rattle.ips_run.specs.Run as run;
 ghost use Rattle.ips_calls.specs.Replies.{of_radio};
 ghost use Rattle.ips_words.specs.Words.{state_in};
 ghost use Rattle.endpoint.specs.Calls.{PerformedInWithAny};
-ghost use Rattle.endpoint.specs.Radio.{MessageHeard, DataPassed, ControlRead, DataRead, DatagramRead, refused_radio};
+ghost use Rattle.endpoint.specs.Radio.{MessageHeard, DataPassed, ControlRead, DataRead, DatagramRead};
 
 use ips_radio::RadioAnswer;
 use ips_words::head;
 use ips_words_survey::survey;
-use meaning::message::{Control, End};
+use meaning::message::{Control, End, Plane};
 use quantity::refusal;
 use quantity::refusal::Refusal;
-use reader::answer::{ControlReading, DataReading, PlaneAnswer, Verdict};
+use reader::answer::{ControlReading, DataReading, Verdict};
 use reader::header;
 
-fn accepted(words: &mut [u64], time: u64, message: Control) -> RadioAnswer
+fn accepted(words: &mut [u64], time: u64, message: Control) -> Result<RadioAnswer, Refusal>
     requires { state_fits (state_in words.old) ≡ true }
     ensures { MessageHeard time message words.old result words.new }
 {
@@ -26,12 +26,12 @@ fn accepted(words: &mut [u64], time: u64, message: Control) -> RadioAnswer
     ips_words_radio::hear(words, message);
     head::move_pacer(words, pacer::hear(paced, time));
     if ips_radio::is_due(kept, given) {
-        return RadioAnswer::Due;
+        return Ok(RadioAnswer::Due);
     }
-    RadioAnswer::Accepted
+    Ok(RadioAnswer::Accepted)
 }
 
-fn control(words: &mut [u64], time: u64, reading: ControlReading) -> RadioAnswer
+fn control(words: &mut [u64], time: u64, reading: ControlReading) -> Result<RadioAnswer, Refusal>
     requires { state_fits (state_in words.old) ≡ true }
     ensures { ControlRead time reading words.old result words.new }
 {
@@ -39,70 +39,64 @@ fn control(words: &mut [u64], time: u64, reading: ControlReading) -> RadioAnswer
     match verdict {
         Verdict::Accepted => accepted(words, time, reading.message),
         // The plane is known before a reader is asked.
-        Verdict::OtherPlane => RadioAnswer::Accepted,
-        Verdict::Refused(refusal) => RadioAnswer::Refused(refusal),
+        Verdict::OtherPlane => Ok(RadioAnswer::Accepted),
+        Verdict::Refused(refusal) => Err(refusal),
     }
 }
 
 // An accepted radio data message moves the pacer's clock, and changes nothing else.
-fn passed(words: &mut [u64], time: u64) -> RadioAnswer
+fn passed(words: &mut [u64], time: u64) -> Result<RadioAnswer, Refusal>
     requires { state_fits (state_in words.old) ≡ true }
     ensures { DataPassed time words.old result words.new }
 {
     let paced = head::pacer(words);
     head::move_pacer(words, pacer::pass(paced, time));
-    RadioAnswer::Accepted
+    Ok(RadioAnswer::Accepted)
 }
 
-fn data(words: &mut [u64], time: u64, reading: DataReading) -> RadioAnswer
+fn data(words: &mut [u64], time: u64, reading: DataReading) -> Result<RadioAnswer, Refusal>
     requires { state_fits (state_in words.old) ≡ true }
     ensures { DataRead time reading words.old result words.new }
 {
     let verdict = reading.verdict;
     match verdict {
         Verdict::Accepted => passed(words, time),
-        Verdict::OtherPlane => RadioAnswer::Accepted,
-        Verdict::Refused(refusal) => RadioAnswer::Refused(refusal),
+        Verdict::OtherPlane => Ok(RadioAnswer::Accepted),
+        Verdict::Refused(refusal) => Err(refusal),
     }
 }
 
 // As for reading.
-fn read(words: &mut [u64], time: u64, datagram: &[u8]) -> RadioAnswer
+fn read(words: &mut [u64], time: u64, datagram: &[u8]) -> Result<RadioAnswer, Refusal>
     requires { state_fits (state_in words.old) ≡ true }
     ensures { DatagramRead time datagram.now words.old result words.new }
 {
     let datalink = head::datalink(words);
     match header::plane(datagram) {
-        PlaneAnswer::Control => control(
+        Ok(Plane::Control) => control(
             words,
             time,
             reader::control::read(datagram, End::Radio, datalink),
         ),
-        PlaneAnswer::Data => data(
+        Ok(Plane::Data) => data(
             words,
             time,
             reader::data::read(datagram, End::Radio, datalink),
         ),
-        PlaneAnswer::Refused(refusal) => RadioAnswer::Refused(refusal),
+        Err(refusal) => Err(refusal),
     }
-}
-
-fn refused(number: u8) -> RadioAnswer
-    ensures { result ≡ refused_radio number }
-{
-    RadioAnswer::Refused(Refusal { number, place: 0 })
 }
 
 // 19, 21, then as for reading.
-pub fn hand_in(words: &mut [u64], time: u64, datagram: &[u8]) -> RadioAnswer
+pub fn hand_in(words: &mut [u64], time: u64, datagram: &[u8]) -> Result<RadioAnswer, Refusal>
     ensures { PerformedInWithAny (run.radio time datagram.now) words.old (of_radio result) words.new }
 {
-    let survey = survey::survey_words(words, 0);
-    if !survey.fits {
-        return refused(refusal::OUTSIDE_LIMITS);
-    }
+    survey::judge(words)?;
     if pacer::is_earlier(head::pacer(words), time) {
-        return refused(refusal::EARLIER_PACE);
+        return Err(Refusal {
+            number: refusal::EARLIER_PACE,
+            place: 0,
+        });
     }
     read(words, time, datagram)
 }

@@ -1,5 +1,6 @@
 // What the words say of a channel, of the Link Instance and the Context that are kept, and of the pacer. Nothing is changed.
-ghost use Rattle.std.specs.Prelude.{◌≡◌};
+ghost use Rattle.std.specs.Prelude.{◌≡◌, true};
+ghost use Rattle.ips_state.specs.Limits.{state_fits, sizes};
 ghost use Rattle.ips_words.specs.Words.{state_in};
 ghost use Rattle.endpoint.specs.Shown.{shown_of, kept_of, pacer_of};
 
@@ -7,88 +8,71 @@ use crate::channel;
 use ips_channel::state;
 use ips_channel::state::{Channel, Setting};
 use ips_words::head;
-use ips_words_survey::place::Place;
+use ips_words_survey::place::Found;
 use ips_words_survey::{place, survey};
-use meaning::message::{Context, Instance};
+use meaning::message::ContextBytes;
 use pacer::Pacer;
-use quantity::count::{ByteCount, FlowSequence};
-use quantity::refusal;
+use quantity::count::{ByteCount, FlowSequence, LinkInstanceId};
 use quantity::refusal::Refusal;
 
 // Where a channel stands and where its store starts, or the refusal; and the channel, if it is found.
 #[derive(Clone, Copy)]
 pub struct ChannelShown {
-    pub place: Place,
+    pub place: Result<Found, u8>,
     pub channel: Channel,
 }
 
+// The Link Instance as last given, and the Context of the last accepted control message.
 #[derive(Clone, Copy)]
-pub enum KeptAnswer {
-    Kept(Instance, Context),
-    Refused(Refusal),
+pub struct KeptShown {
+    pub instance: Option<(LinkInstanceId, usize)>,
+    pub context: Option<(ContextBytes, usize)>,
 }
 
-#[derive(Clone, Copy)]
-pub enum PacerAnswer {
-    Shown(Pacer),
-    Refused(Refusal),
+// The length of the memory that a state within the limits asks for.
+fn memory_asked(words: &[u64]) -> usize
+    ensures { state_fits (state_in words.now) ≡ true → result ≡ sizes (state_in words.now).channels }
+{
+    match survey::survey_words(words, 0) {
+        Some(survey) => survey.total.0,
+        None => 0,
+    }
 }
 
 // 19, then 12.
 pub fn find_channel(words: &[u64], id: u8) -> ChannelShown
     ensures { result ≡ shown_of (state_in words.now) id }
 {
-    let survey = survey::survey_words(words, id);
-    let total = survey.total;
-    match place::find(words, id, total.0) {
-        Place::At(found) => {
-            let channel = channel::load(words, found.index);
-            ChannelShown {
-                place: Place::At(found),
-                channel,
-            }
-        }
-        Place::Refused(number) => {
+    let place = place::find(words, id, memory_asked(words));
+    let channel = match place {
+        Ok(found) => channel::load(words, found.index),
+        Err(_) => {
             let nothing = Setting {
                 id: 0,
                 controlled: false,
                 size: ByteCount(0),
             };
-            let channel = state::fresh(nothing, FlowSequence(0));
-            ChannelShown {
-                place: Place::Refused(number),
-                channel,
-            }
+            state::fresh(nothing, FlowSequence(0))
         }
-    }
+    };
+    ChannelShown { place, channel }
 }
 
-// 19, or the Link Instance as last given and the Context of the last accepted control message.
-pub fn kept(words: &[u64]) -> KeptAnswer
+// 19, or what is kept of the radio's messages.
+pub fn kept(words: &[u64]) -> Result<KeptShown, Refusal>
     ensures { result ≡ kept_of (state_in words.now) }
 {
-    let survey = survey::survey_words(words, 0);
-    if !survey.fits {
-        return KeptAnswer::Refused(Refusal {
-            number: refusal::OUTSIDE_LIMITS,
-            place: 0,
-        });
-    }
-    let instance = head::instance(words);
-    let context = head::context(words);
-    KeptAnswer::Kept(instance, context)
+    survey::judge(words)?;
+    Ok(KeptShown {
+        instance: head::instance(words),
+        context: head::context(words),
+    })
 }
 
 // 19, or the pacer: HelloTime and silence limit, its clock, the last query due, the last accepted control message.
-pub fn pacer(words: &[u64]) -> PacerAnswer
+pub fn pacer(words: &[u64]) -> Result<Pacer, Refusal>
     ensures { result ≡ pacer_of (state_in words.now) }
 {
-    let survey = survey::survey_words(words, 0);
-    if !survey.fits {
-        return PacerAnswer::Refused(Refusal {
-            number: refusal::OUTSIDE_LIMITS,
-            place: 0,
-        });
-    }
-    PacerAnswer::Shown(head::pacer(words))
+    survey::judge(words)?;
+    Ok(head::pacer(words))
 }

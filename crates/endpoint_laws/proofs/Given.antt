@@ -1,4 +1,6 @@
 -- Each answer of Offer, Next and Withdraw, as they should be on a state, is given if and only if its facts hold, the numbers 12 to 19 among them. Assumes nothing.
+use Rattle.std.specs.Prelude.{Result, Ok, Err}
+use Rattle.quantity.specs.declared.refusal.Refusal.{Refusal}
 use Prim.Native.Nat.{ℕ, ◌+◌, ◌%◌, ◌≤◌, ◌<◌}
 use mathlib.Core.Bool.{Bool, true, false, and-eq-true_iff}
 use mathlib.Core.List.{List, [], ◌∷◌}
@@ -19,7 +21,7 @@ use Rattle.flow.specs.declared.Flow.{Flow}
 use Rattle.flow.specs.Counting.{may_go, sequence_on, carried_by}
 use Rattle.ipv6.specs.FixedHeader.{FixedHeader}
 use Rattle.ipv6.proofs.FixedHeader.{ipv6_exactly}
-use Rattle.ips_channel_rules.specs.Rules.{ChannelCall, offer, next, withdraw, Taken, Tried, Emptied, Terms, longest_on, Result, grown, message_bytes}
+use Rattle.ips_channel_rules.specs.Rules.{ChannelCall, offer, next, withdraw, Taken, Tried, Emptied, Terms, longest_on, AfterCall, grown, message_bytes}
 use Rattle.ips_channel_rules.specs.Machine.{machine}
 use Rattle.ips_channel_rules.specs.Exactly.{Offered, offered_not_ipv6, offered_long, offered_early, offered_past, offered_full, offered_taken, Asked, asked_early, asked_nothing, asked_not_operational, asked_shut, asked_no_room, asked_sent}
 use Rattle.ips_channel_rules.specs.FlowCases.{IsUnder, DistanceFrom}
@@ -31,8 +33,6 @@ use Rattle.ips_channel_rules.proofs.CallCases as cases
 use Rattle.ips_channel_rules.proofs.CallCases.{false_unless, size_free, size_under}
 use Rattle.ips_channel.specs.declared.state.Channel.{Channel}
 use Rattle.ips_channel.specs.Channel.{condition_of}
-use Rattle.ips_channel_calls.specs.declared.offering.OfferAnswer.{OfferAnswer}
-use Rattle.ips_channel_calls.specs.declared.offering.WithdrawAnswer.{WithdrawAnswer}
 use Rattle.ips_channel_calls.specs.declared.asking.NextAnswer.{NextAnswer}
 use Rattle.ips_channel_calls.specs.Calls.{offered, asked, withdrawn, offer_answer, next_answer, withdraw_answer}
 use Rattle.ips_state.specs.Limits.{sizes, state_fits}
@@ -88,7 +88,7 @@ module _ (w : World) where
       not_long : (index : ℕ) → length p.bytes ≤ longest_on (terms_in w index) → NotLong w index p
       not_long index l = let both = short_both machine machine_limited (terms_in w index) (length p.bytes) l in record { longest = both.0; store = both.1 }
 
-      offer_when : (index : ℕ) → Configured w id index → (r : Result machine Taken) → Offered machine (terms_in w index) p time (condition_in w index) r → OfferGiven w id p time (offer_answer r.answer)
+      offer_when : (index : ℕ) → Configured w id index → (r : AfterCall machine Taken) → Offered machine (terms_in w index) p time (condition_in w index) r → OfferGiven w id p time (offer_answer r.answer)
       unfolding condition_of
       offer_when index n _ (offered_not_ipv6 v) = offer_13 n (λ h. clash (sym v ∙ (ipv6_exactly p.bytes).1 h))
       offer_when index n _ (offered_long v l) = offer_14 n ((ipv6_exactly p.bytes).0 v) ((machine_limited.long (terms_in w index) _).0 l)
@@ -103,7 +103,7 @@ module _ (w : World) where
       offer_judged (unknown f g) = offer_12 (fits_admitted f) (unknown_unnamed f g)
       offer_judged (served f g) = offer_when (index_in w id) (found_named f g) _ (rules.offered machine (terms_in w (index_in w id)) p time (condition_in w (index_in w id)))
 
-      offer_then : {x : OfferAnswer} → OfferGiven w id p time x → offer_answer (calling id (offer p time) w).answer ≡ x
+      offer_then : {x : Result (Unit {0}) Refusal} → OfferGiven w id p time x → offer_answer (calling id (offer p time) w).answer ≡ x
       unfolding condition_of
       offer_then (offer_19 not) = rw (gives_configuration id (offer p time) w (unadmitted_fits not))
       offer_then (offer_12 s not) = rw (gives_no_channel id (offer p time) w (admitted_fits s) (unnamed_unknown not))
@@ -121,17 +121,17 @@ module _ (w : World) where
           rw (named_serves (offer p time) index n, cases.offer_joins machine machine_limited (terms_in w index) p time (condition_in w index) h l.longest l.store t x place)
 
       -- what Offer answers
-      pub offer_exactly : {answer : OfferAnswer} {w' : World} → Performed (on id (offer p time)) w (of_channel (offered answer)) w' → (x : OfferAnswer) → (answer ≡ x) ↔ OfferGiven w id p time x
+      pub offer_exactly : {answer : Result (Unit {0}) Refusal} {w' : World} → Performed (on id (offer p time)) w (of_channel (offered answer)) w' → (x : Result (Unit {0}) Refusal) → (answer ≡ x) ↔ OfferGiven w id p time x
       offer_exactly {answer} h x =
           let is : answer ≡ offer_answer (calling id (offer p time) w).answer = cc (one_reply h.reply_is) in
           (λ e. subst (OfferGiven w id p time) (sym is ∙ e) (offer_judged (judged id (offer p time) w)), λ g. is ∙ offer_then g)
 
       -- where every packet that waits is due, an offer that 12 to 16 pass is taken: 17 is never given there
-      pub empty_taken : {answer : OfferAnswer} {w' : World} → Performed (on id (offer p time)) w (of_channel (offered answer)) w' → {index : ℕ} → Configured w id index
-          → FixedHeader p.bytes → NotLong w index p → (channel_in w index).latest ≤ time → time < p.expiry → not_due_in w index time ≡ [] → answer ≡ OfferAnswer.Taken
+      pub empty_taken : {answer : Result (Unit {0}) Refusal} {w' : World} → Performed (on id (offer p time)) w (of_channel (offered answer)) w' → {index : ℕ} → Configured w id index
+          → FixedHeader p.bytes → NotLong w index p → (channel_in w index).latest ≤ time → time < p.expiry → not_due_in w index time ≡ [] → answer ≡ Ok tt
       unfolding condition_of
       empty_taken h {index} n header short t x none =
-          (offer_exactly h OfferAnswer.Taken).1
+          (offer_exactly h (Ok tt)).1
           (offer_taken n header short t x (place_empty machine machine_limited (terms_in w index) p time (condition_in w index) none short.store))
 
     -- ---- Withdraw
@@ -140,13 +140,13 @@ module _ (w : World) where
     withdraw_judged (unknown f g) = withdraw_12 (fits_admitted f) (unknown_unnamed f g)
     withdraw_judged (served f g) = rw (withdraw_is machine (terms_in w (index_in w id)) (condition_in w (index_in w id))) (withdraw_done (found_named f g))
 
-    withdraw_then : {x : WithdrawAnswer} → WithdrawGiven w id x → withdraw_answer (calling id withdraw w).answer ≡ x
+    withdraw_then : {x : Result (Unit {0}) Refusal} → WithdrawGiven w id x → withdraw_answer (calling id withdraw w).answer ≡ x
     withdraw_then (withdraw_19 not) = rw (gives_configuration id withdraw w (unadmitted_fits not))
     withdraw_then (withdraw_12 s not) = rw (gives_no_channel id withdraw w (admitted_fits s) (unnamed_unknown not))
     withdraw_then (withdraw_done {index} n) = rw (named_serves withdraw index n, withdraw_is machine (terms_in w index) (condition_in w index))
 
     -- what Withdraw answers
-    pub withdraw_exactly : {answer : WithdrawAnswer} {w' : World} → Performed (on id withdraw) w (of_channel (withdrawn answer)) w' → (x : WithdrawAnswer) → (answer ≡ x) ↔ WithdrawGiven w id x
+    pub withdraw_exactly : {answer : Result (Unit {0}) Refusal} {w' : World} → Performed (on id withdraw) w (of_channel (withdrawn answer)) w' → (x : Result (Unit {0}) Refusal) → (answer ≡ x) ↔ WithdrawGiven w id x
     withdraw_exactly {answer} h x =
         let is : answer ≡ withdraw_answer (calling id withdraw w).answer = cc (one_reply h.reply_is) in
         (λ e. subst (WithdrawGiven w id) (sym is ∙ e) (withdraw_judged (judged id withdraw w)), λ g. is ∙ withdraw_then g)
@@ -196,7 +196,7 @@ module _ (w : World) (words : SequenceWords w.state) (id time : ℕ) (out : List
   abbrev size : ℕ → List ℕ → ℕ
   size index packet = length (message_bytes (terms_in w index) (machine.carried (grown machine packet (condition_in w index))) packet)
 
-  next_when : (index : ℕ) → Configured w id index → (r : Result machine Tried) → Asked machine (terms_in w index) time (length out) (condition_in w index) r
+  next_when : (index : ℕ) → Configured w id index → (r : AfterCall machine Tried) → Asked machine (terms_in w index) time (length out) (condition_in w index) r
       → NextGiven w id time (length out) (next_answer (terms_in w index) r.answer)
   unfolding condition_of
   next_when index n _ (asked_early t) = next_15 n t
@@ -217,7 +217,7 @@ module _ (w : World) (words : SequenceWords w.state) (id time : ℕ) (out : List
   next_judged (unknown f g) = next_12 (fits_admitted w f) (unknown_unnamed w id f g)
   next_judged (served f g) = next_when (index_in w id) (found_named w id f g) _ (rules.asked machine (terms_in w (index_in w id)) time (length out) (condition_in w (index_in w id)))
 
-  abbrev told : NextAnswer
+  abbrev told : Result NextAnswer Refusal
   told = next_answer (terms_in w (index_in w id)) (calling id (next time out) w).answer
 
   module _ (index : ℕ) (n : Configured w id index) (t : (channel_in w index).latest ≤ time) (p : Packet) (ps : List Packet) (e : not_due_in w index time ≡ p ∷ ps)
@@ -229,14 +229,14 @@ module _ (w : World) (words : SequenceWords w.state) (id time : ℕ) (out : List
     unfolding condition_of
     under window distance force far = rw force (under_words (channel_in w index).sequence window (length p.bytes) distance (words index n.inside) far)
 
-    shut_then : Shut (channel_in w index) (length p.bytes) → told ≡ NextAnswer.WindowShut
+    shut_then : Shut (channel_in w index) (length p.bytes) → told ≡ Ok NextAnswer.WindowShut
     unfolding condition_of
     shut_then (shut_none none) =
         rw (named_serves w id (next time out) index n, cases.next_no_window machine (terms_in w index) time (length out) (condition_in w index) t p ps e up (rw none (shut_words _)))
     shut_then (shut_past {window} {distance} force far not) =
         rw (named_serves w id (next time out) index n, cases.next_past machine (terms_in w index) time (length out) (condition_in w index) t p ps e up _ _ _ (under window distance force far) not)
 
-    eighteen_then : {head : ℕ} → Goes (channel_in w index) (length p.bytes) head → (length out < head + length p.bytes) ⊎ (65507 < head + length p.bytes) → told ≡ NextAnswer.Refused (numbered 18)
+    eighteen_then : {head : ℕ} → Goes (channel_in w index) (length p.bytes) head → (length out < head + length p.bytes) ⊎ (65507 < head + length p.bytes) → told ≡ Err (numbered 18)
     unfolding condition_of
     eighteen_then (goes_free free) l =
         rw (named_serves w id (next time out) index n, cases.next_free_eighteen machine (terms_in w index) time (length out) (condition_in w index) t p ps e up (rw free (free_words _)) l)
@@ -244,7 +244,7 @@ module _ (w : World) (words : SequenceWords w.state) (id time : ℕ) (out : List
         rw (named_serves w id (next time out) index n, cases.next_under_eighteen machine (terms_in w index) time (length out) (condition_in w index) t p ps e up _ _ _ (under window distance force far) may l)
 
     sent_then : {head : ℕ} → Goes (channel_in w index) (length p.bytes) head → head + length p.bytes ≤ length out → head + length p.bytes ≤ 65507
-        → told ≡ NextAnswer.Sent (record { 0 = head + length p.bytes })
+        → told ≡ Ok (NextAnswer.Sent (record { 0 = head + length p.bytes }))
     unfolding condition_of
     sent_then (goes_free free) l m =
         rw (
@@ -259,7 +259,7 @@ module _ (w : World) (words : SequenceWords w.state) (id time : ℕ) (out : List
           size_under (terms_in w (index_in w id)) _ p.bytes,
         )
 
-  next_then : {x : NextAnswer} → NextGiven w id time (length out) x → told ≡ x
+  next_then : {x : Result NextAnswer Refusal} → NextGiven w id time (length out) x → told ≡ x
   unfolding condition_of
   next_then (next_19 not) = rw (gives_configuration id (next time out) w (unadmitted_fits w not))
   next_then (next_12 s not) = rw (gives_no_channel id (next time out) w (admitted_fits w s) (unnamed_unknown w id not))
@@ -272,8 +272,8 @@ module _ (w : World) (words : SequenceWords w.state) (id time : ℕ) (out : List
   next_then (next_sent {index} {p} {ps} n t e up goes l m) = sent_then index n t p ps e up goes l m
 
   -- what Next answers
-  pub next_exactly : {answer : NextAnswer} {out' : List ℕ} {w' : World} → Performed (on id (next time out)) w (of_channel (asked answer out')) w'
-      → (x : NextAnswer) → (answer ≡ x) ↔ NextGiven w id time (length out) x
+  pub next_exactly : {answer : Result NextAnswer Refusal} {out' : List ℕ} {w' : World} → Performed (on id (next time out)) w (of_channel (asked answer out')) w'
+      → (x : Result NextAnswer Refusal) → (answer ≡ x) ↔ NextGiven w id time (length out) x
   next_exactly {answer} h x =
       let is : answer ≡ told = cc (one_reply h.reply_is) in
       (λ e. subst (NextGiven w id time (length out)) (sym is ∙ e) (next_judged (judged id (next time out) w)), λ g. is ∙ next_then g)

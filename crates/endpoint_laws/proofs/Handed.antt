@@ -1,4 +1,7 @@
 -- What Next hands over, read back field by field; "the answers otherwise .. leave the output's bytes as they stood". Assumes nothing.
+use Rattle.std.specs.Prelude.{Option, Result, Ok}
+use Rattle.quantity.specs.declared.count.FlowSequence.{FlowSequence}
+use Rattle.quantity.specs.declared.refusal.Refusal.{Refusal}
 use Prim.Native.Nat.{ℕ}
 use mathlib.Core.Bool.{true}
 use mathlib.Core.List.{List, ◌∷◌}
@@ -9,12 +12,11 @@ use Rattle.facts.proofs.Tests.{clash}
 use Rattle.quantity.specs.declared.count.ByteCount.{ByteCount}
 use Rattle.wire.specs.Options.{over}
 use Rattle.meaning.specs.declared.message.End.TheVariants as ends
-use Rattle.meaning.specs.declared.message.Sequence.{Sequence}
 use Rattle.reader.specs.Readings.{Verdict, read_data}
 use Rattle.store.specs.Packets.{Packet}
 use Rattle.flow.specs.declared.Flow.{Flow}
 use Rattle.flow.specs.Counting.{may_go, sequence_on, carried_by}
-use Rattle.ips_channel_rules.specs.Rules.{next, Tried, nothing_waiting, not_operational, window_shut, sent, Answer, refused, answered, Terms, Result, counted_on, message_of, message_bytes}
+use Rattle.ips_channel_rules.specs.Rules.{next, Tried, nothing_waiting, not_operational, window_shut, sent, Answer, refused, answered, Terms, AfterCall, counted_on, message_of, message_bytes}
 use Rattle.ips_channel_rules.specs.Machine.{machine}
 use Rattle.ips_channel_rules.specs.Exactly.{Asked, asked_early, asked_nothing, asked_not_operational, asked_shut, asked_no_room, asked_sent}
 use Rattle.ips_channel_rules.proofs.Exact as rules
@@ -42,7 +44,7 @@ carries c id n Flow.NoWindow e may = clash may
 carries c id n (Flow.InForce window) e may = read_sum e
 
 -- the packet and the Flow Sequence that the rules answer
-record FirstGoes (w : World) (id time : ℕ) (packet : List ℕ) (sequence : Sequence) : Type 0 where
+record FirstGoes (w : World) (id time : ℕ) (packet : List ℕ) (sequence : Option FlowSequence) : Type 0 where
   index : ℕ
   named : Configured w id index
   first : Packet
@@ -52,8 +54,8 @@ record FirstGoes (w : World) (id time : ℕ) (packet : List ℕ) (sequence : Seq
   sequence_is : SequenceRead (channel_in w index) id (length first.bytes) (counted_on id sequence)
 
 module _ (w : World) (id time : ℕ) (out : List ℕ) where
-  module _ (packet : List ℕ) (sequence : Sequence) where
-    first_goes : (index : ℕ) → Configured w id index → (r : Result machine Tried) → Asked machine (terms_in w index) time (length out) (condition_in w index) r
+  module _ (packet : List ℕ) (sequence : Option FlowSequence) where
+    first_goes : (index : ℕ) → Configured w id index → (r : AfterCall machine Tried) → Asked machine (terms_in w index) time (length out) (condition_in w index) r
         → r.answer ≡ answered (sent packet sequence) → FirstGoes w id time packet sequence
     unfolding condition_of
     first_goes index n _ (asked_early t) e = clash (cc)
@@ -85,7 +87,7 @@ module _ (w : World) (id time : ℕ) (out : List ℕ) where
   k = terms_in w (index_in w id)
 
   module _ (out' : List ℕ) (w' : World) where
-    read_over : (count : ByteCount) (packet : List ℕ) (sequence : Sequence) → FirstGoes w id time packet sequence → ReadBack k id packet sequence (NextAnswer.Sent count) out'
+    read_over : (count : ByteCount) (packet : List ℕ) (sequence : Option FlowSequence) → FirstGoes w id time packet sequence → ReadBack k id packet sequence (Ok (NextAnswer.Sent count)) out'
         → out' ≡ over (message_bytes k sequence packet) out → length (message_bytes k sequence packet) ≡ count.0 → HandedOver w id time count out out'
     read_over count packet sequence f back bytes long =
         let size : back.size ≡ count.0 = cc back.counted in
@@ -106,7 +108,7 @@ module _ (w : World) (id time : ℕ) (out : List ℕ) where
         }
 
     -- WHAT NEXT HANDS OVER
-    pub handed_over_lem : (count : ByteCount) → Performed (on id (next time out)) w (of_channel (asked (NextAnswer.Sent count) out')) w' → HandedOver w id time count out out'
+    pub handed_over_lem : (count : ByteCount) → Performed (on id (next time out)) w (of_channel (asked (Ok (NextAnswer.Sent count)) out')) w' → HandedOver w id time count out out'
     handed_over_lem count h = go (calling id (next time out) w).answer refl
       where
         go : (a : Answer Tried) → (calling id (next time out) w).answer ≡ a → HandedOver w id time count out out'
@@ -116,12 +118,12 @@ module _ (w : World) (id time : ℕ) (out : List ℕ) where
         go (answered window_shut) e = clash (cc (rw e at h.reply_is))
         go (answered (sent packet sequence)) e =
             let message = message_bytes k sequence packet in
-            let counted : NextAnswer.Sent count ≡ NextAnswer.Sent (record { 0 = length message }) = cc (rw e at h.reply_is) in
+            let counted : ◌≡◌ {A = Result NextAnswer Refusal} (Ok (NextAnswer.Sent count)) (Ok (NextAnswer.Sent (record { 0 = length message }))) = cc (rw e at h.reply_is) in
             let bytes : out' ≡ over message out = cc (rw e at h.reply_is) in
-            read_over count packet sequence (first_judged packet sequence (judged id (next time out) w) e) (reads_back w id time out packet sequence e (NextAnswer.Sent count) out' w' h) bytes (cc counted)
+            read_over count packet sequence (first_judged packet sequence (judged id (next time out) w) e) (reads_back w id time out packet sequence e (Ok (NextAnswer.Sent count)) out' w' h) bytes (cc counted)
 
     -- "The answers otherwise .. leave the output's bytes as they stood.", and refusals do
-    pub nothing_over : (answer : NextAnswer) → ((count : ByteCount) → answer ≡ NextAnswer.Sent count → ⊥) → Performed (on id (next time out)) w (of_channel (asked answer out')) w' → out' ≡ out
+    pub nothing_over : (answer : Result NextAnswer Refusal) → ((count : ByteCount) → answer ≡ Ok (NextAnswer.Sent count) → ⊥) → Performed (on id (next time out)) w (of_channel (asked answer out')) w' → out' ≡ out
     nothing_over answer not h = go (calling id (next time out) w).answer refl
       where
         go : (a : Answer Tried) → (calling id (next time out) w).answer ≡ a → out' ≡ out
@@ -130,5 +132,5 @@ module _ (w : World) (id time : ℕ) (out : List ℕ) where
         go (answered not_operational) e = cc (rw e at h.reply_is)
         go (answered window_shut) e = cc (rw e at h.reply_is)
         go (answered (sent packet sequence)) e =
-            let counted : answer ≡ NextAnswer.Sent (record { 0 = length (message_bytes k sequence packet) }) = cc (rw e at h.reply_is) in
+            let counted : answer ≡ Ok (NextAnswer.Sent (record { 0 = length (message_bytes k sequence packet) })) = cc (rw e at h.reply_is) in
             absurd (not _ counted)

@@ -1,13 +1,13 @@
 -- A channel's latest time, status and flow state after any run of calls as they should be on a state, by their answers, the radio control messages accepted and the
 -- silences.
 -- Assumes nothing.
+use Rattle.std.specs.Prelude.{Option, Some, None}
 use Prim.Native.Nat.{ℕ, ◌<◌}
 use mathlib.Core.Bool.{Bool, true, false, cond}
 use mathlib.Core.List.{List, [], ◌∷◌, ◌++◌, map, map-append}
 use mathlib.Core.Path.{◌≡◌, refl, sym, ap, ap₂, ◌∙◌}
 use lib.ListN.{length}
 use lib.Dec.{eqb}
-use Rattle.meaning.specs.declared.message.Status.{Status}
 use Rattle.meaning.specs.declared.message.Window.{Window}
 use Rattle.meaning.specs.declared.message.Control.{Control}
 use Rattle.flow.specs.declared.Flow.{Flow}
@@ -77,7 +77,7 @@ time_told k withdraw (refused number) = refl
 time_told k withdraw (answered emptied) = refl
 
 -- ---- what the radio said last, by the rules: `from` is what a message states of the channel
-module _ {A : Type 0} (from : Status → Window → A) where
+module _ {A : Type 0} (from : Option ℕ → Option Window → A) where
   abbrev said_in : List Event → List A
   said_in [] = []
   said_in (rules.call c ∷ es) = said_in es
@@ -93,7 +93,7 @@ module _ {A : Type 0} (from : Status → Window → A) where
   -- what is said to a channel by an accepted message, and by a silence
   abbrev said_by : ℕ → News → A
   said_by own (message m) = from (status_in m own) (window_in m own)
-  said_by own silence = from Status.Absent Window.Empty
+  said_by own silence = from None (Some Window.Empty)
 
   said_heard : (own : ℕ) (ms : List Control) (es : List Event) → said_in (map (part_of own) ms ++ es) ≡ map (said_by own) (map message ms) ++ said_in es
   said_heard own [] es = refl
@@ -124,10 +124,10 @@ module _ {A : Type 0} (from : Status → Window → A) where
     said_last (rules.call c ∷ es) st = said_last es _ ∙ ap (λ (a : A). last_or a (said_in es)) (law (rules.call c) st)
     said_last (rules.radio status window ∷ es) st = said_last es _ ∙ ap (λ (a : A). last_or a (said_in es)) (law (rules.radio status window) st)
 
-abbrev stated : Status → Window → Status
+abbrev stated : Option ℕ → Option Window → Option ℕ
 stated status window = status
 
-abbrev flowing : Status → Window → Flow
+abbrev flowing : Option ℕ → Option Window → Flow
 flowing status window = flow_for window
 
 map_same : {A B : Type 0} {f g : A → B} → ((x : A) → f x ≡ g x) → (xs : List A) → map f xs ≡ map g xs
@@ -150,10 +150,10 @@ status_step k (sends t w f) = refl
 status_step k clears = refl
 status_step k hears = refl
 
-flow_is : (window : Window) → flow_after window ≡ flow_for window
-flow_is Window.Absent = refl
-flow_is Window.Empty = refl
-flow_is (Window.Given window) = refl
+flow_is : (window : Option Window) → flow_after window ≡ flow_for window
+flow_is None = refl
+flow_is (Some Window.Empty) = refl
+flow_is (Some (Window.Given window)) = refl
 
 flow_step : (k : Terms) → k.controlled ≡ true → {e : Event} {st : Condition machine} {h : Happened} {st' : Condition machine} → Leaves machine k e st h st'
     → st'.counting.flow ≡ last_or st.counting.flow (said_in flowing (e ∷ []))
@@ -195,7 +195,7 @@ module _ (k : Configuration) (fits : configuration_taken k ≡ true) (index : �
       sym (condition_fields (channel_in last index) (store_in last index)).1
       ∙ ap (λ (st : Condition machine). st.status) at_end
       ∙ said_last stated (ruled k index) (λ st. st.status) (λ e st. status_step (ruled k index) (leaves machine (ruled k index) e st)) (seen k index cs) (fresh_at k index)
-      ∙ ap (last_or Status.Absent) (said_is stated (id_at k index) cs (fresh_world k) ∙ map_same (status_said (id_at k index)) (news_all cs (fresh_world k)))
+      ∙ ap (last_or None) (said_is stated (id_at k index) cs (fresh_world k) ∙ map_same (status_said (id_at k index)) (news_all cs (fresh_world k)))
 
   -- and so is the flow state of a flow-controlled channel; "Plain channels are always free."
   pub flow_lasts : (channel_in last index).flow ≡ last_flow (start_at k index).setting.controlled (id_at k index) (news_all cs (fresh_world k))

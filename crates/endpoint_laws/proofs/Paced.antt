@@ -1,4 +1,6 @@
 -- Each answer of the pacer, and 21 of a radio message, given exactly when: in literal numbers. Assumes nothing.
+use Rattle.std.specs.Prelude.{Result, Err}
+use Rattle.quantity.specs.declared.refusal.Refusal.{Refusal}
 use Prim.Native.Nat.{ℕ, ◌≤◌, ◌<◌}
 use mathlib.Core.Bool.{Bool, true, false}
 use mathlib.Core.List.{List, []}
@@ -38,7 +40,7 @@ module _ (s : State) (time : ℕ) where
   answered within in-time false d true e = pace_silent within in-time (leb-false _ _ d) (leb-true _ _ e)
   answered within in-time false d false e = pace_quiet within in-time (leb-false _ _ d) (leb-false _ _ e)
 
-  pace_when : {a : PaceAnswer} → Paced s time a → PaceGiven s time a
+  pace_when : {a : Result PaceAnswer Refusal} → Paced s time a → PaceGiven s time a
   pace_when (asked_outside f) = pace_19 (λ within. clash (sym f ∙ within_fits s within))
   pace_when (asked_earlier f l) = pace_21 (fits_within s f) l
   pace_when (asked_in_time f l) = answered (fits_within s f) l (is_due time s.pacer) refl (is_silent time s.pacer) refl
@@ -47,7 +49,7 @@ module _ (s : State) (time : ℕ) where
       → pace_answer time s ≡ answer_of due silent
   told within in-time d e = pace_answered s time (within_fits s within) in-time ∙ rw (d, e)
 
-  pace_then : {x : PaceAnswer} → PaceGiven s time x → pace_answer time s ≡ x
+  pace_then : {x : Result PaceAnswer Refusal} → PaceGiven s time x → pace_answer time s ≡ x
   pace_then (pace_19 not) = pace_unfit s time (outside s not)
   pace_then (pace_21 within l) = pace_earlier s time (within_fits s within) l
   pace_then (pace_quiet within l d e) = told within l (lt-leb _ _ d) (lt-leb _ _ e)
@@ -56,14 +58,14 @@ module _ (s : State) (time : ℕ) where
   pace_then (pace_due_silent within l d e) = told within l (le-leb _ _ d) (le-leb _ _ e)
 
   -- what the pacer answers
-  pub pace_exactly : {answer : PaceAnswer} {s' : State} → PerformedWithAny (pace time) s (of_pace answer) s' → (x : PaceAnswer) → (answer ≡ x) ↔ PaceGiven s time x
+  pub pace_exactly : {answer : Result PaceAnswer Refusal} {s' : State} → PerformedWithAny (pace time) s (of_pace answer) s' → (x : Result PaceAnswer Refusal) → (answer ≡ x) ↔ PaceGiven s time x
   pace_exactly {answer} h x =
       let is : answer ≡ pace_answer time s = cc (h []).reply_is in
       (λ e. subst (PaceGiven s time) (sym is ∙ e) (pace_when (paced s time)), λ g. is ∙ pace_then g)
 
   -- "21, pacer time earlier than its latest, tested right after 19", whatever the datagram is
-  pub radio_earlier_exactly : (datagram : List ℕ) {answer : RadioAnswer} {s' : State} → PerformedWithAny (radio time datagram) s (of_radio answer) s'
-      → (answer ≡ RadioAnswer.Refused (record { number = 21; place = 0 })) ↔ (WithinLimits s × (time < s.pacer.clock))
+  pub radio_earlier_exactly : (datagram : List ℕ) {answer : Result RadioAnswer Refusal} {s' : State} → PerformedWithAny (radio time datagram) s (of_radio answer) s'
+      → (answer ≡ Err (record { number = 21; place = 0 })) ↔ (WithinLimits s × (time < s.pacer.clock))
   radio_earlier_exactly datagram {answer} h =
       let is = (radio_handed h).0 in (
         λ e. let f = (radio_twenty_one s time datagram).0 (_, sym is ∙ e, refl) in (fits_within s f.0, f.1),

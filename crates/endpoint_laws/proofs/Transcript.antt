@@ -1,4 +1,7 @@
 -- The account and the window, of a run of calls as they should be on a state: the packets that its outputs carry are those that the ledger has as sent. Assumes nothing.
+use Rattle.std.specs.Prelude.{Option, Result}
+use Rattle.quantity.specs.declared.count.FlowSequence.{FlowSequence}
+use Rattle.quantity.specs.declared.refusal.Refusal.{Refusal}
 use Prim.Native.Nat.{ℕ, ◌+◌, ◌^◌, ◌<◌}
 use mathlib.Core.Bool.{Bool, true, false, cond}
 use mathlib.Core.List.{List, [], ◌∷◌, ◌++◌, map}
@@ -11,10 +14,8 @@ use lib.Signed.{◌≤ℤ◌}
 use Rattle.quantity.specs.declared.count.FlowWindow.{FlowWindow}
 use Rattle.quantity.specs.Window.{standing_at}
 use Rattle.quantity.proofs.Window.{stands_one, standing_stands}
-use Rattle.meaning.specs.declared.message.Status.{Status}
 use Rattle.meaning.specs.declared.message.Window.{Window}
 use Rattle.meaning.specs.declared.message.Control.{Control}
-use Rattle.meaning.specs.declared.message.Sequence.{Sequence}
 use Rattle.store.specs.Waiting.{packets_of}
 use Rattle.flow.specs.declared.Flow.{Flow}
 use Rattle.ips_channel_rules.specs.Rules as rules
@@ -50,7 +51,7 @@ use Rattle.endpoint_laws.specs.Transcript.{taken_from, if_sent, sent_from, of_ow
 
 -- ---- what a reply tells is what happened by the rules: for anything `from` that is read out of replies, and is `of` what happened
 module _ {A : Type 0} (from : ChannelCall → Reply → List A) (of : Happened → List A) (of_all : List Happened → List A)
-    (none : of_all [] ≡ []) (some : (h : Happened) (hs : List Happened) → of_all (h ∷ hs) ≡ of h ++ of_all hs) (silent : (status : Status) (window : Window) → of (heard status window) ≡ [])
+    (none : of_all [] ≡ []) (some : (h : Happened) (hs : List Happened) → of_all (h ∷ hs) ≡ of h ++ of_all hs) (silent : (status : Option ℕ) (window : Option Window) → of (heard status window) ≡ [])
     (same : (w : World) (id : ℕ) (c : ChannelCall)
     → from c (reply_to (terms_in w (index_in w id)) c (calling id c w).answer) ≡ of (called c (calling id c w).answer)) where
   unheard : (own : ℕ) (messages : List Control) (hs : List Happened) → of_all (map (part_heard own) messages ++ hs) ≡ of_all hs
@@ -91,7 +92,7 @@ taken_told k withdraw (refused number) = refl
 taken_told k withdraw (answered emptied) = refl
 
 -- ---- the packets that outputs carry
-carried_in : {k : Terms} {id : ℕ} {packet : List ℕ} {sequence : Sequence} {answer : NextAnswer} {out : List ℕ} → ReadBack k id packet sequence answer out → if_sent answer out ≡ packet ∷ []
+carried_in : {k : Terms} {id : ℕ} {packet : List ℕ} {sequence : Option FlowSequence} {answer : Result NextAnswer Refusal} {out : List ℕ} → ReadBack k id packet sequence answer out → if_sent answer out ≡ packet ∷ []
 carried_in back = rw (back.counted, back.carries)
 
 module _ (w : World) (id : ℕ) where
@@ -194,13 +195,13 @@ module _ (k : Configuration) (fits : configuration_taken k ≡ true) (index : �
       rest time es b = b.1
 
       -- the first reply of a run that begins with an ask
-      first_reply : (time : ℕ) (es : List Call) (answer : PaceAnswer) (zs : List EndpointReply) → ds ≡ pace time ∷ es → ys ≡ of_pace answer ∷ zs → answer ≡ pace_answer time w.state
+      first_reply : (time : ℕ) (es : List Call) (answer : Result PaceAnswer Refusal) (zs : List EndpointReply) → ds ≡ pace time ∷ es → ys ≡ of_pace answer ∷ zs → answer ≡ pace_answer time w.state
       first_reply time es answer zs is replied =
           let all : of_pace answer ∷ zs ≡ replies_of (pace time ∷ es) w = sym replied ∙ ran_replies since ∙ ap (λ (l : List Call). replies_of l w) is in
           cc
 
       -- from an ask that is answered silent to the next accepted radio control message no output carries a packet, whatever else is called, further silences too
-      pub ran_silence : (time : ℕ) (es : List Call) (answer : PaceAnswer) (zs : List EndpointReply) → ds ≡ pace time ∷ es → ys ≡ of_pace answer ∷ zs → says_silent answer ≡ true
+      pub ran_silence : (time : ℕ) (es : List Call) (answer : Result PaceAnswer Refusal) (zs : List EndpointReply) → ds ≡ pace time ∷ es → ys ≡ of_pace answer ∷ zs → says_silent answer ≡ true
           → accepted_all es (after (pace time) w) ≡ [] → packets_sent (id_at k index) ds ys ≡ []
       ran_silence time es answer zs is replied says none =
           let world = ran_world before in

@@ -1,11 +1,10 @@
 -- What lasts over any run: "Latest time is each channel's own: 0 when fresh, then that of its last accepted Offer or Next."; "Radio control message accepted: .."; document 02, §1: a silence.
-use Rattle.std.specs.Prelude.{ℕ, Bool, true, false, List, [], ◌∷◌, ◌++◌, map, get_or}
-use Rattle.meaning.specs.declared.message.Status.{Status}
+use Rattle.quantity.specs.declared.refusal.Refusal.{Refusal}
+use Rattle.std.specs.Prelude.{ℕ, Bool, true, false, List, [], ◌∷◌, ◌++◌, map, get_or, Option, Some, None, Result, Ok, Err}
 use Rattle.meaning.specs.declared.message.Window.{Window}
 use Rattle.meaning.specs.declared.message.Control.{Control}
 use Rattle.flow.specs.declared.Flow.{Flow}
 use Rattle.ips_channel_rules.specs.Rules.{ChannelCall, offer, next, withdraw}
-use Rattle.ips_channel_calls.specs.declared.offering.OfferAnswer.{OfferAnswer}
 use Rattle.ips_channel_calls.specs.declared.asking.NextAnswer.{NextAnswer}
 use Rattle.ips_channel_calls.specs.Calls.{Reply, offered, asked, withdrawn}
 use Rattle.ips_state.specs.Memory.{World}
@@ -15,16 +14,16 @@ use Rattle.ips_calls.specs.Replies.{EndpointReply}
 use Rattle.endpoint_laws.specs.Transcript.{of_all_own}
 
 -- ---- the time of an Offer or a Next that was not refused
-abbrev pub offer_time : OfferAnswer → ℕ → List ℕ
-offer_time OfferAnswer.Taken time = time ∷ []
-offer_time (OfferAnswer.Refused refusal) time = []
+abbrev pub offer_time : Result (Unit {0}) Refusal → ℕ → List ℕ
+offer_time (Ok tt) time = time ∷ []
+offer_time (Err refusal) time = []
 
-abbrev pub next_time : NextAnswer → ℕ → List ℕ
-next_time (NextAnswer.Sent count) time = time ∷ []
-next_time NextAnswer.NothingWaiting time = time ∷ []
-next_time NextAnswer.NotOperational time = time ∷ []
-next_time NextAnswer.WindowShut time = time ∷ []
-next_time (NextAnswer.Refused refusal) time = []
+abbrev pub next_time : Result NextAnswer Refusal → ℕ → List ℕ
+next_time (Ok (NextAnswer.Sent count)) time = time ∷ []
+next_time (Ok NextAnswer.NothingWaiting) time = time ∷ []
+next_time (Ok NextAnswer.NotOperational) time = time ∷ []
+next_time (Ok NextAnswer.WindowShut) time = time ∷ []
+next_time (Err refusal) time = []
 
 abbrev pub time_from : ChannelCall → Reply → List ℕ
 time_from (offer packet time) (offered answer) = offer_time answer time
@@ -57,22 +56,22 @@ news_all (c ∷ cs) w = news_by c w ++ news_all cs (after c w)
 -- ---- the status and the flow state of the channel of an ID, by these, in order
 
 -- "a configured channel that it names takes its Status; one that it doesn't name is not reported"; at a silence "every channel becomes not reported"
-abbrev pub status_given : ℕ → News → Status
-status_given id (message m) = (get_or m.statuses id (record { status = Status.Absent })).status
-status_given id silence = Status.Absent
+abbrev pub status_given : ℕ → News → Option ℕ
+status_given id (message m) = (get_or m.statuses id None)
+status_given id silence = None
 
-abbrev pub last_status : ℕ → List News → Status
-last_status id news = last_or Status.Absent (map (status_given id) news)
+abbrev pub last_status : ℕ → List News → Option ℕ
+last_status id news = last_or None (map (status_given id) news)
 
 -- "no Flow Window option makes it free; one without a window leaves it with no window; one with a window puts that in force, smaller than before or not"
-abbrev pub flow_for : Window → Flow
-flow_for Window.Absent = Flow.Free
-flow_for Window.Empty = Flow.NoWindow
-flow_for (Window.Given window) = Flow.InForce window
+abbrev pub flow_for : Option Window → Flow
+flow_for None = Flow.Free
+flow_for (Some Window.Empty) = Flow.NoWindow
+flow_for (Some (Window.Given window)) = Flow.InForce window
 
 -- at a silence "every flow-controlled one has no window"
 abbrev pub flow_given : ℕ → News → Flow
-flow_given id (message m) = flow_for (get_or m.windows id (record { window = Window.Absent })).window
+flow_given id (message m) = flow_for (get_or m.windows id None)
 flow_given id silence = Flow.NoWindow
 
 -- "Plain channels are always free. Fresh flow-controlled channels have no window."

@@ -1,10 +1,10 @@
 -- Demand 3, as a caller sees it: "Every packet taken in is, at each moment, exactly one of sent, expired, withdrawn or waiting, and those sent on a channel leave in
 -- the order they came." What was taken in and what was sent is read out of the run's replies and outputs.
-use Rattle.std.specs.Prelude.{ℕ, cond, List, [], ◌∷◌, ◌++◌, take, eqb}
+use Rattle.quantity.specs.declared.refusal.Refusal.{Refusal}
+use Rattle.std.specs.Prelude.{ℕ, cond, List, [], ◌∷◌, ◌++◌, take, eqb, Result, Ok, Err}
 use Rattle.reader.specs.Readings.{packet_of}
 use Rattle.store.specs.Packets.{Packet}
 use Rattle.ips_channel_rules.specs.Rules.{ChannelCall, offer, next, withdraw}
-use Rattle.ips_channel_calls.specs.declared.offering.OfferAnswer.{OfferAnswer}
 use Rattle.ips_channel_calls.specs.declared.asking.NextAnswer.{NextAnswer}
 use Rattle.ips_channel_calls.specs.Calls.{Reply, offered, asked, withdrawn}
 use Rattle.ips_run.specs.Run.{Call, on, radio, pace, query}
@@ -13,9 +13,9 @@ use Rattle.ips_calls.specs.Replies.{EndpointReply, of_channel, of_radio, of_pace
 -- ---- of one call on a channel
 
 -- the packet of an Offer that answered that it was taken
-abbrev pub if_taken : OfferAnswer → Packet → List Packet
-if_taken OfferAnswer.Taken packet = packet ∷ []
-if_taken (OfferAnswer.Refused refusal) packet = []
+abbrev pub if_taken : Result (Unit {0}) Refusal → Packet → List Packet
+if_taken (Ok tt) packet = packet ∷ []
+if_taken (Err refusal) packet = []
 
 abbrev pub taken_from : ChannelCall → Reply → List Packet
 taken_from (offer packet time) (offered answer) = if_taken answer packet
@@ -25,12 +25,12 @@ taken_from (next time out) x = []
 taken_from withdraw x = []
 
 -- the packet that a reader finds in as many first bytes of the output as Next answered
-abbrev pub if_sent : NextAnswer → List ℕ → List (List ℕ)
-if_sent (NextAnswer.Sent count) out = packet_of (take count.0 out) ∷ []
-if_sent NextAnswer.NothingWaiting out = []
-if_sent NextAnswer.NotOperational out = []
-if_sent NextAnswer.WindowShut out = []
-if_sent (NextAnswer.Refused refusal) out = []
+abbrev pub if_sent : Result NextAnswer Refusal → List ℕ → List (List ℕ)
+if_sent (Ok (NextAnswer.Sent count)) out = packet_of (take count.0 out) ∷ []
+if_sent (Ok NextAnswer.NothingWaiting) out = []
+if_sent (Ok NextAnswer.NotOperational) out = []
+if_sent (Ok NextAnswer.WindowShut) out = []
+if_sent (Err refusal) out = []
 
 abbrev pub sent_from : ChannelCall → Reply → List (List ℕ)
 sent_from c (offered answer) = []

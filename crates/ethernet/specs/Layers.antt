@@ -1,5 +1,5 @@
 -- Where Ethernet, IPv4 (RFC 791, section 3.1) and UDP (RFC 768) keep what is asked of a record. A byte that isn't there counts as 0.
-use Rattle.std.specs.Prelude.{Bool, not, ◌||◌, List, ℕ, ◌+◌, ◌*◌, ◌/◌, ◌%◌, eqb, length, get_or, drop}
+use Rattle.std.specs.Prelude.{Bool, not, ◌||◌, List, ℕ, ◌+◌, ◌*◌, ◌/◌, ◌%◌, eqb, get_or, drop}
 use Rattle.octets.specs.Bytes.{slice}
 
 -- a number of two bytes, the higher first

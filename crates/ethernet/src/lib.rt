@@ -54,10 +54,7 @@ pub enum Kind {
 fn byte(bytes: &[u8], at: usize) -> u8
     ensures { result ≡ get_or bytes.now at 0 }
 {
-    if at < bytes.len() {
-        return bytes[at];
-    }
-    0
+    bytes.get(at).copied().unwrap_or(0)
 }
 
 // A number of two bytes, the higher first.
@@ -65,23 +62,17 @@ fn word(bytes: &[u8], at: usize) -> usize
     requires { at < 256 }
     ensures { result ≡ word_at at bytes.now }
 {
-    byte(bytes, at) as usize * 256 + byte(bytes, at + 1) as usize
+    usize::from(byte(bytes, at)) * 256 + usize::from(byte(bytes, at + 1))
 }
 
 // The bytes from an index up to another, as far as there are any.
 fn part(bytes: &[u8], from: usize, to: usize) -> &[u8]
     ensures { result.now ≡ slice from to bytes.now }
 {
-    if to <= bytes.len() {
-        if from <= to {
-            return &bytes[from..to];
-        }
-        return &bytes[0..0];
+    match bytes.get(from..to.min(bytes.len())) {
+        Some(part) => part,
+        None => &[],
     }
-    if from <= bytes.len() {
-        return &bytes[from..];
-    }
-    &bytes[0..0]
 }
 
 // What stands behind the header of Ethernet.
@@ -95,10 +86,11 @@ fn packet(frame: &[u8]) -> &[u8]
 fn header_size(packet: &[u8]) -> usize
     ensures { result ≡ header_size packet.now }
 {
-    byte(packet, 0) as usize % 16 * 4
+    usize::from(byte(packet, 0)) % 16 * 4
 }
 
 // What IPv4 carries: behind its header, up to its total length.
+#[tactic(auto, unfolding(crate::specs::Layers::carried_of))]
 fn carried(packet: &[u8]) -> &[u8]
     ensures { result.now ≡ carried_of packet.now }
 {
@@ -106,45 +98,39 @@ fn carried(packet: &[u8]) -> &[u8]
 }
 
 // Whether more fragments follow, or some came before.
+#[tactic(auto, unfolding(crate::specs::Layers::is_fragment))]
 fn is_fragment(packet: &[u8]) -> bool
     ensures { result ≡ is_fragment packet.now }
 {
     let field = word(packet, 6);
-    if field / 8192 % 2 == 1 {
-        return true;
-    }
-    field % 8192 != 0
+    field / 8192 % 2 == 1 || field % 8192 != 0
 }
 
 // The kind by what IPv4 carries.
+#[tactic(auto, unfolding(crate::specs::Kinds::udp_kind))]
 fn udp_kind(carried: &[u8], ports: Ports) -> Kind
     ensures { result ≡ udp_kind ports carried.now }
 {
     let size = word(carried, 4);
-    if size < UDP_HEADER {
-        return Kind::UdpLength;
-    }
-    if carried.len() < size {
+    if size < UDP_HEADER || carried.len() < size {
         return Kind::UdpLength;
     }
     let port = word(carried, 2);
     if port == ports.radio {
-        return Kind::Ips;
+        Kind::Ips
+    } else if port == ports.ips {
+        Kind::Radio
+    } else {
+        Kind::OtherPort
     }
-    if port == ports.ips {
-        return Kind::Radio;
-    }
-    Kind::OtherPort
 }
 
 // The kind by what stands behind the header of Ethernet.
+#[tactic(auto, unfolding(crate::specs::Kinds::ipv4_kind))]
 fn ipv4_kind(packet: &[u8], ports: Ports) -> Kind
     ensures { result ≡ ipv4_kind ports packet.now }
 {
-    if packet.len() < IPV4_HEADER {
-        return Kind::NotIpv4;
-    }
-    if byte(packet, 0) / 16 != 4 {
+    if packet.len() < IPV4_HEADER || byte(packet, 0) / 16 != 4 {
         return Kind::NotIpv4;
     }
     if is_fragment(packet) {
@@ -154,20 +140,15 @@ fn ipv4_kind(packet: &[u8], ports: Ports) -> Kind
         return Kind::OtherProtocol;
     }
     let header = header_size(packet);
-    if header < IPV4_HEADER {
-        return Kind::Ipv4Length;
-    }
     let total = word(packet, 2);
-    if total < header {
-        return Kind::Ipv4Length;
-    }
-    if packet.len() < total {
+    if header < IPV4_HEADER || total < header || packet.len() < total {
         return Kind::Ipv4Length;
     }
     udp_kind(carried(packet), ports)
 }
 
 // The kind of a record, by how many bytes there were, the bytes that were kept, and the ports.
+#[tactic(auto, unfolding(crate::specs::Kinds::kind_of))]
 pub fn kind_of(frame: &[u8], original: usize, ports: Ports) -> Kind
     ensures { result ≡ kind_of ports original frame.now }
 {
@@ -185,6 +166,7 @@ pub fn kind_of(frame: &[u8], original: usize, ports: Ports) -> Kind
 
 // The datagram of a record of the two last kinds, as that stretch of the record: behind the header of UDP, up to its
 // length. What stands behind it, padding too, is left out.
+#[tactic(auto, unfolding(crate::specs::Layers::datagram_of))]
 pub fn datagram(frame: &[u8]) -> &[u8]
     ensures { result.now ≡ datagram_of frame.now }
 {

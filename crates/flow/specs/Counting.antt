@@ -1,9 +1,8 @@
 -- Document 01, "Counting", as the code counts: in words of 32 bits.
-use Rattle.std.specs.Prelude.{Bool, true, false, cond}
+use Rattle.std.specs.Prelude.{Bool, true, false, cond, Option, Some, None}
 use Rattle.quantity.specs.declared.count.FlowSequence.{FlowSequence}
 use Rattle.quantity.specs.declared.count.ByteCount.{ByteCount}
 use Rattle.quantity.specs.Distance.{fits_of, advance_of}
-use Rattle.meaning.specs.declared.message.Sequence.{Sequence}
 use Rattle.meaning.specs.declared.message.Window.{Window}
 use Rattle.flow.specs.declared.Flow.{Flow}
 
@@ -20,16 +19,16 @@ sequence_on Flow.NoWindow sequence bytes = sequence
 sequence_on (Flow.InForce window) sequence bytes = advance_of sequence bytes
 
 -- ".. and the message carries the sum": "Flow Sequence if a window is in force"
-abbrev pub carried_by : Flow → FlowSequence → Sequence
-carried_by Flow.Free sequence = Sequence.Absent
-carried_by Flow.NoWindow sequence = Sequence.Absent
-carried_by (Flow.InForce window) sequence = Sequence.Given sequence
+abbrev pub carried_by : Flow → FlowSequence → Option FlowSequence
+carried_by Flow.Free sequence = None
+carried_by Flow.NoWindow sequence = None
+carried_by (Flow.InForce window) sequence = Some sequence
 
 -- "no Flow Window option makes it free; one without a window leaves it with no window; one with a window puts that in force, smaller than before or not"
-abbrev pub flow_after : Window → Flow
-flow_after Window.Absent = Flow.Free
-flow_after Window.Empty = Flow.NoWindow
-flow_after (Window.Given window) = Flow.InForce window
+abbrev pub flow_after : Option Window → Flow
+flow_after None = Flow.Free
+flow_after (Some Window.Empty) = Flow.NoWindow
+flow_after (Some (Window.Given window)) = Flow.InForce window
 
 -- "Plain channels are always free. Fresh flow-controlled channels have no window."
 abbrev pub first_flow : Bool → Flow

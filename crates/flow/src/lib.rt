@@ -4,11 +4,11 @@
 ghost use Rattle.std.specs.Prelude.{◌≡◌, cond};
 ghost use Rattle.flow.specs.Counting.{first_flow, may_go, sequence_on, carried_by, flow_after};
 
-use meaning::message::{Sequence, Window};
+use meaning::message::Window;
 use quantity::count;
 use quantity::count::{ByteCount, FlowSequence, FlowWindow};
 
-// One of: free; no window; a window in force.
+// One of: free; no window; a window in force. An enum with the window in its third case is document 01's form.
 #[derive(Clone, Copy)]
 pub enum Flow {
     Free,
@@ -50,29 +50,29 @@ pub fn counted(flow: Flow, sequence: FlowSequence, bytes: ByteCount) -> FlowSequ
 }
 
 // The Flow Sequence of the message: only if a window is in force.
-pub fn carried(flow: Flow, sequence: FlowSequence) -> Sequence
+pub fn carried(flow: Flow, sequence: FlowSequence) -> Option<FlowSequence>
     ensures { result ≡ carried_by flow sequence }
 {
     match flow {
-        Flow::Free => Sequence::Absent,
-        Flow::NoWindow => Sequence::Absent,
-        Flow::InForce(_) => Sequence::Given(sequence),
+        Flow::Free => None,
+        Flow::NoWindow => None,
+        Flow::InForce(_) => Some(sequence),
     }
 }
 
 // The flow state that a Flow Window option leaves, or its absence: the old one plays no part.
-fn stated(window: Window) -> Flow
+fn stated(window: Option<Window>) -> Flow
     ensures { result ≡ flow_after window }
 {
     match window {
-        Window::Absent => Flow::Free,
-        Window::Empty => Flow::NoWindow,
-        Window::Given(number) => Flow::InForce(number),
+        None => Flow::Free,
+        Some(Window::Empty) => Flow::NoWindow,
+        Some(Window::Given(number)) => Flow::InForce(number),
     }
 }
 
 // The flow state after an accepted radio control message: a plain channel's stays free.
-pub fn heard(controlled: bool, before: Flow, window: Window) -> Flow
+pub fn heard(controlled: bool, before: Flow, window: Option<Window>) -> Flow
     ensures { result ≡ cond controlled (flow_after window) before }
 {
     if controlled { stated(window) } else { before }

@@ -1,4 +1,5 @@
 -- One packet of a handful offered, where 19 has been tested: the world that it leaves fits again. Assumes nothing.
+use Rattle.std.specs.Prelude.{Result, Ok, Err}
 use Prim.Native.Nat.{ℕ}
 use mathlib.Core.Bool.{true, false, and-eq-true_iff}
 use mathlib.Core.Logic.{⊎_elim}
@@ -19,7 +20,6 @@ use Rattle.ips_run.proofs.Exact.{named, judged}
 use Rattle.ips_run.proofs.Ordered.{in_order, order_fits, called_order}
 use Rattle.ips_words.specs.Words.{state_in}
 use Rattle.ips_words_survey.specs.declared.place.Found.{Found}
-use Rattle.ips_words_survey.specs.declared.place.Place.{Place}
 use Rattle.ips_words_survey.specs.Places.{place_of}
 use Rattle.ips_words_survey.proofs.Finding.{Finds, place_found, place_refused}
 use Rattle.endpoint.specs.Lent.{Lent, world_in, after_in}
@@ -58,31 +58,31 @@ module _ (l : Lent) (fits : world_fits (world_in l) ≡ true) where
   unfolding memory_fits
   memory_long = eqb-true (length l.memory) (sizes s.channels) parts.1
 
-  module _ (id : ℕ) (place : Place) (is : place ≡ place_of s id (sizes s.channels)) where
+  module _ (id : ℕ) (place : Result Found ℕ) (is : place ≡ place_of s id (sizes s.channels)) where
     place_is : place_of s id (length l.memory) ≡ place
     place_is = rw memory_long (sym is)
 
-    pub one_finds : (found : Found) → place ≡ Place.At found → Finds w id found
+    pub one_finds : (found : Found) → place ≡ Ok found → Finds w id found
     one_finds found e = place_found w id found (place_is ∙ e)
 
-    pub one_lost : (number : ℕ) → place ≡ Place.Refused number → place_of s id (length l.memory) ≡ Place.Refused number
+    pub one_lost : (number : ℕ) → place ≡ Err number → place_of s id (length l.memory) ≡ Err number
     one_lost number e = place_is ∙ e
 
-    none_known : (number : ℕ) → place ≡ Place.Refused number → is_configured w id ≡ false
+    none_known : (number : ℕ) → place ≡ Err number → is_configured w id ≡ false
     none_known number e =
         ⊎_elim (λ (h : (world_fits w ≡ false) × (number ≡ OUTSIDE-LIMITS)). clash (sym h.0 ∙ fits))
         (λ (h : (world_fits w ≡ true) × (is_configured w id ≡ false) × (number ≡ NO-CHANNEL)). h.1)
         (place_refused w id number (one_lost number e))
 
 -- ---- the bytes that it moves
-module _ (l : Lent) (fits : world_fits (world_in l) ≡ true) (time : ℕ) (o : Offer) (place : Place) (is : place ≡ place_of (state_in l.words) o.id (sizes (state_in l.words).channels)) where
-  pub one_moved : (found : Found) → place ≡ Place.At found → (moved : ByteCount) → MovedAt (offer o.packet time) (world_in l) found.index moved
+module _ (l : Lent) (fits : world_fits (world_in l) ≡ true) (time : ℕ) (o : Offer) (place : Result Found ℕ) (is : place ≡ place_of (state_in l.words) o.id (sizes (state_in l.words).channels)) where
+  pub one_moved : (found : Found) → place ≡ Ok found → (moved : ByteCount) → MovedAt (offer o.packet time) (world_in l) found.index moved
       → moved ≡ record { 0 = moved_in time o (world_in l) }
   unfolding moved_in
   one_moved found e moved h =
       let f = one_finds l fits o.id place is found e in
       h ∙ rw (named (world_in l) found.index o.id f.located.within f.named, f.at_index)
 
-  pub one_still : (number : ℕ) → place ≡ Place.Refused number → ◌≡◌ {A = ByteCount} (record { 0 = 0 }) (record { 0 = moved_in time o (world_in l) })
+  pub one_still : (number : ℕ) → place ≡ Err number → ◌≡◌ {A = ByteCount} (record { 0 = 0 }) (record { 0 = moved_in time o (world_in l) })
   unfolding moved_in
   one_still number e = rw (none_known l fits o.id place is number e)

@@ -1,4 +1,6 @@
 -- The packets of a handful offered one after the other: what holds before a packet, where it starts, goes on and ends. Assumes nothing.
+use Rattle.quantity.specs.declared.refusal.Refusal.{Refusal}
+use Rattle.std.specs.Prelude.{Result}
 use Prim.Native.Nat.{ℕ, ◌+◌, ◌-◌, ◌*◌, ◌≤◌, ◌<◌}
 use mathlib.Core.Bool.{true, and-eq-true_iff}
 use mathlib.Core.List.{List, [], ◌∷◌, ◌++◌, map, append_assoc, append-nil}
@@ -11,7 +13,6 @@ use lib.ListN.{length, take, drop, get_or, set, length-set, drop_of_length-le}
 use lib.Seq.{drop-cons, drop-drop, take_all, take-suc-set}
 use Rattle.quantity.specs.declared.count.ByteCount.{ByteCount}
 use Rattle.quantity.specs.Limits.{LARGEST-STORE, MOST-AT-ONCE}
-use Rattle.ips_channel_calls.specs.declared.offering.OfferAnswer.{OfferAnswer}
 use Rattle.ips_channel_calls.specs.Calls.{offered, number_of}
 use Rattle.ips_state.specs.Memory.{world_fits}
 use Rattle.ips_calls.specs.Replies.{of_channel}
@@ -95,7 +96,7 @@ module _ (h : Handful) (first : Lent) (given : List ℕ) (tested : Tested h firs
       coming =
           rw (drop-cons h.channels at 0 inside, drop-cons h.expiries at 0 within_lists.0, drop-cons h.lengths at 0 within_lists.1, add-one at, ← drop-drop (get_or h.lengths at 0) from h.packets)
 
-      module _ (answer : OfferAnswer) (one : ByteCount) (l' : Lent) (performed : PerformedIn (call_of h.time (offer_at h from at)) l (of_channel (offered answer)) l')
+      module _ (answer : Result (Unit {0}) Refusal) (one : ByteCount) (l' : Lent) (performed : PerformedIn (call_of h.time (offer_at h from at)) l (of_channel (offered answer)) l')
           (counted : one ≡ record { 0 = moved_in h.time (offer_at h from at) (world_in l) }) where
         answer_is : answer ≡ answer_to h.time (offer_at h from at) (world_in l)
         answer_is = cc performed.reply_is
@@ -120,7 +121,7 @@ module _ (h : Handful) (first : Lent) (given : List ℕ) (tested : Tested h firs
             }
 
       -- the same of the stretch as the code lends it
-      module _ (n : ℕ) (n-is : n ≡ get_or h.lengths at 0) (answer : OfferAnswer) (one : ByteCount) (l' : Lent)
+      module _ (n : ℕ) (n-is : n ≡ get_or h.lengths at 0) (answer : Result (Unit {0}) Refusal) (one : ByteCount) (l' : Lent)
           (performed : PerformedIn (call_of h.time (offer_for (get_or h.channels at 0) (get_or h.expiries at 0) (take (from + n - from) (drop from h.packets)))) l (of_channel (offered answer)) l')
           (counted : one ≡ record { 0 = moved_in h.time (offer_for (get_or h.channels at 0) (get_or h.expiries at 0) (take (from + n - from) (drop from h.packets))) (world_in l) }) where
         long_is : from + n - from ≡ get_or h.lengths at 0

@@ -1,17 +1,16 @@
 -- Document 02, §5, "Offers by the handful": "up to 32 packets at once, end to end in one buffer, with a length for each .. with their channels and expiries, one
 -- time for all", and "an answer for each. Answers, stores and state equal those of offering one by one in that order, refused ones included."
-use Rattle.std.specs.Prelude.{ℕ, ◌+◌, Bool, cond, ◌&&◌, List, [], ◌∷◌, map, ◌≡◌, eqb, leb, length, take, drop}
+use Rattle.quantity.specs.declared.refusal.Refusal.{Refusal}
+use Rattle.std.specs.Prelude.{ℕ, ◌+◌, Bool, cond, ◌&&◌, List, [], ◌∷◌, map, ◌≡◌, eqb, leb, length, take, drop, Result, Ok, Err}
 use Rattle.quantity.specs.Limits.{MOST-AT-ONCE}
 use Rattle.quantity.specs.Refusals.{OUTSIDE-LIMITS, NOT-A-HANDFUL}
 use Rattle.store.specs.Packets.{Packet, packet_for}
 use Rattle.ips_channel_rules.specs.Rules.{offer}
-use Rattle.ips_channel_calls.specs.declared.offering.OfferAnswer.{OfferAnswer}
 use Rattle.ips_channel_calls.specs.Calls.{offer_answer, number_of}
 use Rattle.ips_state.specs.Memory.{World, world_fits}
 use Rattle.ips_run.specs.Calling.{calling}
 use Rattle.ips_run.specs.Run.{Call, on}
 use Rattle.endpoint.specs.Lent.{Lent, world_in, after_in}
-use Rattle.handful.specs.declared.HandfulAnswer.{HandfulAnswer}
 
 -- what is delivered
 pub record Handful : Type 0 where
@@ -43,10 +42,10 @@ offers_of h = cut h.channels h.expiries h.lengths h.packets
 abbrev pub call_of : (time : ℕ) → Offer → Call
 call_of time o = on o.id (offer o.packet time)
 
-abbrev pub answer_to : (time : ℕ) → Offer → World → OfferAnswer
+abbrev pub answer_to : (time : ℕ) → Offer → World → Result (Unit {0}) Refusal
 answer_to time o w = offer_answer (calling o.id (offer o.packet time) w).answer
 
-abbrev pub answers_to : (time : ℕ) → List Offer → Lent → List OfferAnswer
+abbrev pub answers_to : (time : ℕ) → List Offer → Lent → List (Result (Unit {0}) Refusal)
 answers_to time [] l = []
 answers_to time (o ∷ os) l = answer_to time o (world_in l) ∷ answers_to time os (after_in (call_of time o) l)
 
@@ -65,12 +64,12 @@ is_handful h answers =
     && (eqb (length h.expiries) (length h.channels)
     && (eqb (length h.lengths) (length h.channels) && (eqb answers (length h.channels) && eqb (sum_of h.lengths) (length h.packets))))
 
-abbrev pub refused_handful : ℕ → HandfulAnswer
-refused_handful number = HandfulAnswer.Refused (record { number = number; place = 0 })
+abbrev pub refused_handful : ℕ → Result (Unit {0}) Refusal
+refused_handful number = Err (record { number = number; place = 0 })
 
 -- "right after 19"
-abbrev pub handful_answer : Handful → (answers : ℕ) → World → HandfulAnswer
-handful_answer h answers w = cond (world_fits w) (cond (is_handful h answers) HandfulAnswer.Offered (refused_handful NOT-A-HANDFUL)) (refused_handful OUTSIDE-LIMITS)
+abbrev pub handful_answer : Handful → (answers : ℕ) → World → Result (Unit {0}) Refusal
+handful_answer h answers w = cond (world_fits w) (cond (is_handful h answers) (Ok tt) (refused_handful NOT-A-HANDFUL)) (refused_handful OUTSIDE-LIMITS)
 
 -- the offers that it stands for: "with nothing taken" where it is refused
 abbrev pub stands_for : Handful → (answers : ℕ) → World → List Offer
@@ -81,7 +80,7 @@ abbrev pub answers_after : Handful → Lent → (answers : List ℕ) → List �
 answers_after h l answers = cond (world_fits (world_in l) && is_handful h (length answers)) (map number_of (answers_to h.time (offers_of h) l)) answers
 
 -- THE CONTRACT OF A HANDFUL
-pub record HandedIn (h : Handful) (l : Lent) (answers : List ℕ) (x : HandfulAnswer) (l' : Lent) (answers' : List ℕ) : Type 0 where
+pub record HandedIn (h : Handful) (l : Lent) (answers : List ℕ) (x : Result (Unit {0}) Refusal) (l' : Lent) (answers' : List ℕ) : Type 0 where
   pub answer_is : x ≡ handful_answer h (length answers) (world_in l)
   pub lent_is : l' ≡ left_by h.time (stands_for h (length answers) (world_in l)) l
   pub answers_are : answers' ≡ answers_after h l answers

@@ -6,7 +6,12 @@ use Rattle.ips_state.specs.Memory.{World, world_fits, is_configured, index_in}
 use Rattle.endpoint.specs.Lent.{Lent, world_in, after_in}
 use Rattle.endpoint.specs.Calls.{moved_at}
 use Rattle.ips_channel_calls.specs.Calls.{number_of}
+use Rattle.handful.specs.declared.judged.Handed.{Handed}
 use Rattle.handful.specs.Handful.{Handful, Offer, call_of, answers_to, left_by, offers_of, is_handful}
+
+-- what the code hands on
+abbrev pub handful_in : Handed → Handful
+handful_in h = record { channels = h.channels.now; expiries = h.expiries.now; lengths = h.lengths.now; packets = h.packets.now; time = h.time }
 
 -- ---- the bytes moved by one offer: within the store of its channel; none where it has no channel
 unfoldable pub moved_in : (time : ℕ) → Offer → World → ℕ

@@ -12,20 +12,15 @@ mod each;
 mod judged;
 mod place;
 
+use crate::judged::Handed;
 use ips_words_survey::survey;
 use quantity::refusal;
 use quantity::refusal::Refusal;
 
-#[derive(Clone, Copy)]
-pub enum HandfulAnswer {
-    Offered,
-    Refused(Refusal),
-}
-
-fn refused(number: u8) -> HandfulAnswer
+fn refused(number: u8) -> Result<(), Refusal>
     ensures { result ≡ refused_handful number }
 {
-    HandfulAnswer::Refused(Refusal { number, place: 0 })
+    Err(Refusal { number, place: 0 })
 }
 
 // 19, 24, then each packet as a single offer of it is answered.
@@ -38,28 +33,26 @@ pub fn offers(
     packets: &[u8],
     time: u64,
     answers: &mut [u8],
-) -> HandfulAnswer
+) -> Result<(), Refusal>
     ensures { HandedIn (record { channels = channels.entry.now; expiries = expiries.now; lengths = lengths.now; packets = packets.now; time = time }) (lent words.old memory.old) answers.old result (lent words.new memory.new) answers.new }
 {
-    let survey = survey::survey_words(words, 0);
-    if !survey.fits {
+    let Some(survey) = survey::survey_words(words, 0) else {
+        return refused(refusal::OUTSIDE_LIMITS);
+    };
+    if survey.total.0 != memory.len() {
         return refused(refusal::OUTSIDE_LIMITS);
     }
-    let total = survey.total;
-    if total.0 != memory.len() {
-        return refused(refusal::OUTSIDE_LIMITS);
-    }
-    if !judged::is_handful(
-        channels.len(),
-        expiries.len(),
+    // C lends each list by itself.
+    let handed = Handed {
+        channels,
+        expiries,
         lengths,
-        packets.len(),
-        answers.len(),
-    ) {
+        packets,
+        time,
+    };
+    if !judged::is_handful(handed, answers.len()) {
         return refused(refusal::NOT_A_HANDFUL);
     }
-    each::offer_each(
-        words, memory, channels, expiries, lengths, packets, time, answers,
-    );
-    HandfulAnswer::Offered
+    each::offer_each(words, memory, handed, answers);
+    Ok(())
 }

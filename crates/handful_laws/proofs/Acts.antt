@@ -1,4 +1,6 @@
 -- Demand 3 with handfuls among the calls: acts are the run of the calls that they stand for, so from a fresh start each channel is served as the simple channel is. Assumes nothing.
+use Rattle.quantity.specs.declared.refusal.Refusal.{Refusal}
+use Rattle.std.specs.Prelude.{Result, Ok, Err}
 use Prim.Native.Nat.{ℕ, zero, suc, ◌<◌}
 use mathlib.Core.Bool.{true, false}
 use mathlib.Core.List.{List, [], ◌∷◌, ◌++◌, map}
@@ -8,7 +10,6 @@ use lib.ListN.{length}
 use Rattle.facts.specs.Tables.{tabulate}
 use Rattle.facts.proofs.Tests.{clash}
 use Rattle.ips_state.specs.Memory.{world_fits}
-use Rattle.ips_state.specs.declared.StartAnswer.{StartAnswer}
 use Rattle.ips_run.specs.Run.{Call, after_all}
 use Rattle.ips_run.specs.Demand.{bytes_in, BytesIn}
 use Rattle.ips_run.proofs.Ordered.{order_fits}
@@ -24,7 +25,6 @@ use Rattle.endpoint.specs.Ran as calls
 use Rattle.endpoint.proofs.Simulating.{ran_in}
 use Rattle.endpoint.proofs.Refused.{calls_coincide_in}
 use Rattle.endpoint.proofs.Whole.{started_in, started_own_in}
-use Rattle.handful.specs.declared.HandfulAnswer.{HandfulAnswer}
 use Rattle.handful.specs.Handful.{Handful, call_of, stands_for, HandedIn}
 use Rattle.handful_laws.specs.Plain.{call_at, Faulty}
 use Rattle.handful_laws.specs.Acts.{Act, single, several, ActReply, one, each, RanActs, over, called, handed, calls_by, calls_of, replies_by, replies_in, BytesInActs}
@@ -37,10 +37,10 @@ ran_join : {l m last : Lent} {cs ds : List Call} {xs ys : List EndpointReply} �
 ran_join calls.over more = more
 ran_join (calls.ran h rest) more = calls.ran h (ran_join rest more)
 
-handed_ran : {h : Handful} {l l' : Lent} {answers answers' : List ℕ} (x : HandfulAnswer) → HandedIn h l answers x l' answers'
+handed_ran : {h : Handful} {l l' : Lent} {answers answers' : List ℕ} (x : Result (Unit {0}) Refusal) → HandedIn h l answers x l' answers'
     → RanIn l (calls_by (several h answers) (each x answers')) (replies_by (each x answers')) l'
-handed_ran HandfulAnswer.Offered h = handful_plain h
-handed_ran (HandfulAnswer.Refused refusal) h = rw (handful_keeps h).0 calls.over
+handed_ran (Ok tt) h = handful_plain h
+handed_ran (Err refusal) h = rw (handful_keeps h).0 calls.over
 
 -- ACTS ARE THE RUN OF THE CALLS THAT THEY STAND FOR: every law over `RanIn` holds of it
 pub acts_ran : {l last : Lent} {acts : List Act} {xs : List ActReply} → RanActs l acts xs last → RanIn l (calls_of acts xs) (replies_in xs) last
@@ -49,10 +49,10 @@ acts_ran (called h more) = calls.ran h (acts_ran more)
 acts_ran (handed {x = x} h more) = ran_join (handed_ran x h) (acts_ran more)
 
 -- the calls of a handful are those that the contract has it stand for
-pub calls_stand : {h : Handful} {l l' : Lent} {answers answers' : List ℕ} (x : HandfulAnswer) → HandedIn h l answers x l' answers'
+pub calls_stand : {h : Handful} {l l' : Lent} {answers answers' : List ℕ} (x : Result (Unit {0}) Refusal) → HandedIn h l answers x l' answers'
     → calls_by (several h answers) (each x answers') ≡ map (call_of h.time) (stands_for h (length answers) (world_in l))
-calls_stand {h} HandfulAnswer.Offered k = let t = offered_tested k in rw (t.0, t.1) (sym (offers_plain h (offered_proper k)))
-calls_stand {h} (HandfulAnswer.Refused refusal) k = sym (ap (map (call_of h.time)) (refused_stands_none k))
+calls_stand {h} (Ok tt) k = let t = offered_tested k in rw (t.0, t.1) (sym (offers_plain h (offered_proper k)))
+calls_stand {h} (Err refusal) k = sym (ap (map (call_of h.time)) (refused_stands_none k))
 
 -- acts come to one outcome
 pub acts_one : {l last last' : Lent} {acts : List Act} {xs ys : List ActReply} → RanActs l acts xs last → RanActs l acts ys last' → (xs ≡ ys) × (last ≡ last')
@@ -77,11 +77,11 @@ acts_bytes [] xs bytes = tt
 acts_bytes (act ∷ acts) [] bytes = tt
 acts_bytes (single c ∷ acts) (x ∷ xs) bytes = (bytes.0, acts_bytes acts xs bytes.1)
 acts_bytes (several h answers ∷ acts) (one x ∷ xs) bytes = acts_bytes acts xs bytes
-acts_bytes (several h answers ∷ acts) (each HandfulAnswer.Offered answers' ∷ xs) bytes = offers_bytes (length h.channels) (call_at h) (λ i. tt) (calls_of acts xs) (acts_bytes acts xs bytes)
-acts_bytes (several h answers ∷ acts) (each (HandfulAnswer.Refused refusal) answers' ∷ xs) bytes = acts_bytes acts xs bytes
+acts_bytes (several h answers ∷ acts) (each (Ok tt) answers' ∷ xs) bytes = offers_bytes (length h.channels) (call_at h) (λ i. tt) (calls_of acts xs) (acts_bytes acts xs bytes)
+acts_bytes (several h answers ∷ acts) (each (Err refusal) answers' ∷ xs) bytes = acts_bytes acts xs bytes
 
 -- ---- from a fresh start
-module _ {configuration words memory words' memory' : List ℕ} (begun : StartedIn configuration words memory StartAnswer.Started words' memory')
+module _ {configuration words memory words' memory' : List ℕ} (begun : StartedIn configuration words memory (Ok tt) words' memory')
     (acts : List Act) (bytes : BytesInActs acts) (xs : List ActReply) (last : Lent) (run : RanActs (lent words' memory') acts xs last) where
   -- THE STATEMENT: demand 3's sentence, with nothing asked of configuration, words, memory and handfuls
   pub started_acts : (index : ℕ) → index < length (configuration_in configuration).starts → ServedSimply (configuration_in configuration) index (calls_of acts xs) (replies_in xs) (world_in last)
@@ -96,11 +96,11 @@ module _ {configuration words memory words' memory' : List ℕ} (begun : Started
       ∙ order_fits (reached_fits (configuration_in configuration) (rw (left.configuration_fits_lem, left.waits_fit_lem)) (calls_of acts xs) calls-bytes).order
 
   -- so a handful is refused there by its own faults alone, and by 24
-  module _ {h : Handful} {answers answers' : List ℕ} {x : HandfulAnswer} {l' : Lent} (next : HandedIn h last answers x l' answers') where
-    pub acts_never_nineteen : x ≡ HandfulAnswer.Refused (record { number = 19; place = 0 }) → ⊥
+  module _ {h : Handful} {answers answers' : List ℕ} {x : Result (Unit {0}) Refusal} {l' : Lent} (next : HandedIn h last answers x l' answers') where
+    pub acts_never_nineteen : x ≡ Err (record { number = 19; place = 0 }) → ⊥
     acts_never_nineteen e = let z : true ≡ false = sym acts_fit ∙ (handful_exactly next).nineteen.0 e in clash (sym z)
 
-    pub fresh_exactly : ((x ≡ HandfulAnswer.Refused (record { number = 24; place = 0 })) ↔ Faulty h (length answers)) × ((x ≡ HandfulAnswer.Offered) ↔ (Faulty h (length answers) → ⊥))
+    pub fresh_exactly : ((x ≡ Err (record { number = 24; place = 0 })) ↔ Faulty h (length answers)) × ((x ≡ Ok tt) ↔ (Faulty h (length answers) → ⊥))
     fresh_exactly =
         let exact = handful_exactly next in
         ((λ e. (exact.twenty_four.0 e).1, λ f. exact.twenty_four.1 (acts_fit, f)), (λ e. (exact.otherwise.0 e).1, λ f. exact.otherwise.1 (acts_fit, f)))

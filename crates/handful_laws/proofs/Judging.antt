@@ -1,4 +1,5 @@
 -- 19, 24, and the offers otherwise: each answer of a handful exactly when it is given; refused, it leaves everything; and any two outcomes coincide. Assumes nothing.
+use Rattle.std.specs.Prelude.{Result, Ok, Err}
 use Prim.Native.Nat.{ℕ, ◌+◌}
 use mathlib.Core.Bool.{Bool, true, false, cond, ◌&&◌}
 use mathlib.Core.List.{List, [], ◌∷◌}
@@ -12,7 +13,6 @@ use Rattle.facts.proofs.Tests.{clash}
 use Rattle.quantity.specs.declared.refusal.Refusal.{Refusal}
 use Rattle.ips_state.specs.Memory.{world_fits}
 use Rattle.endpoint.specs.Lent.{Lent, world_in}
-use Rattle.handful.specs.declared.HandfulAnswer.{HandfulAnswer}
 use Rattle.handful.specs.Handful.{Handful, sum_of, is_handful, stands_for, HandedIn}
 use Rattle.handful.proofs.Turning.{Even, even}
 use Rattle.handful_laws.specs.Plain.{summed, Faulty, more_than_32, expiries_differ, lengths_differ, answers_differ, sum_differs, Proper, HandedExactly}
@@ -56,19 +56,19 @@ module _ (h : Handful) (answers : ℕ) where
   proper_faultless p (sum_differs f) = f p.whole
 
 -- the two refusals are two
-apart : {X : Type 0} → HandfulAnswer.Refused (record { number = 24; place = 0 }) ≡ HandfulAnswer.Refused (record { number = 19; place = 0 }) → X
+apart : {X : Type 0} → ◌≡◌ {A = Result (Unit {0}) Refusal} (Err (record { number = 24; place = 0 })) (Err (record { number = 19; place = 0 })) → X
 apart e =
     let same : ◌≡◌ {A = Refusal} (record { number = 24; place = 0 }) (record { number = 19; place = 0 }) = cc in
     let z : ◌≡◌ {A = ℕ} 24 19 = ap (λ (r : Refusal). r.number) same in
     absurd (omega arith)
 
 -- ---- EACH ANSWER, exactly when
-module _ {h : Handful} {l l' : Lent} {answers answers' : List ℕ} {x : HandfulAnswer} (handed : HandedIn h l answers x l' answers') where
+module _ {h : Handful} {l l' : Lent} {answers answers' : List ℕ} {x : Result (Unit {0}) Refusal} (handed : HandedIn h l answers x l' answers') where
   pub handful_exactly : HandedExactly h l (length answers) x
   handful_exactly = go (world_fits (world_in l)) refl (is_handful h (length answers)) refl handed.answer_is
     where
       go : (fits : Bool) → world_fits (world_in l) ≡ fits → (is : Bool) → is_handful h (length answers) ≡ is
-          → x ≡ cond fits (cond is HandfulAnswer.Offered (HandfulAnswer.Refused (record { number = 24; place = 0 }))) (HandfulAnswer.Refused (record { number = 19; place = 0 }))
+          → x ≡ cond fits (cond is (Ok tt) (Err (record { number = 24; place = 0 }))) (Err (record { number = 19; place = 0 }))
           → HandedExactly h l (length answers) x
       go false f is g e = record {
         nineteen = (λ u. f, λ u. e);
@@ -90,7 +90,7 @@ module _ {h : Handful} {l l' : Lent} {answers answers' : List ℕ} {x : HandfulA
       }
 
 -- so an accepted one has no fault
-pub offered_tested : {h : Handful} {l l' : Lent} {answers answers' : List ℕ} → HandedIn h l answers HandfulAnswer.Offered l' answers'
+pub offered_tested : {h : Handful} {l l' : Lent} {answers answers' : List ℕ} → HandedIn h l answers (Ok tt) l' answers'
     → (world_fits (world_in l) ≡ true) × (is_handful h (length answers) ≡ true)
 offered_tested {h} {l} {answers = answers} handed = go (world_fits (world_in l)) refl (is_handful h (length answers)) refl
   where
@@ -100,7 +100,7 @@ offered_tested {h} {l} {answers = answers} handed = go (world_fits (world_in l))
     go false f is g = clash (cc (rw f at handed.answer_is))
 
 -- and a refused one has not passed both tests
-module _ {h : Handful} {l l' : Lent} {answers answers' : List ℕ} {refusal : Refusal} (handed : HandedIn h l answers (HandfulAnswer.Refused refusal) l' answers') where
+module _ {h : Handful} {l l' : Lent} {answers answers' : List ℕ} {refusal : Refusal} (handed : HandedIn h l answers (Err refusal) l' answers') where
   not_passed : (world_fits (world_in l) && is_handful h (length answers)) ≡ false
   not_passed = go (world_fits (world_in l)) refl (is_handful h (length answers)) refl
     where
@@ -118,7 +118,7 @@ module _ {h : Handful} {l l' : Lent} {answers answers' : List ℕ} {refusal : Re
   handful_keeps = (handed.lent_is ∙ rw not_passed, handed.answers_are ∙ rw not_passed)
 
 -- ---- any two outcomes coincide
-pub handful_one : {h : Handful} {l l' l'' : Lent} {answers answers' answers'' : List ℕ} {x y : HandfulAnswer} → HandedIn h l answers x l' answers' → HandedIn h l answers y l'' answers''
+pub handful_one : {h : Handful} {l l' l'' : Lent} {answers answers' answers'' : List ℕ} {x y : Result (Unit {0}) Refusal} → HandedIn h l answers x l' answers' → HandedIn h l answers y l'' answers''
     → (x ≡ y) × (l' ≡ l'') × (answers' ≡ answers'')
 handful_one a b = (a.answer_is ∙ sym b.answer_is, a.lent_is ∙ sym b.lent_is, a.answers_are ∙ sym b.answers_are)
 

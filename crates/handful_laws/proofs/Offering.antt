@@ -1,4 +1,6 @@
 -- "Answers, stores and state equal those of offering one by one in that order, refused ones included": an accepted handful is the run of the single offers. Assumes nothing.
+use Rattle.quantity.specs.declared.refusal.Refusal.{Refusal}
+use Rattle.std.specs.Prelude.{Result, Ok}
 use Prim.Native.Nat.{ℕ, zero, suc, ◌≤◌, ◌<◌}
 use mathlib.Core.Bool.{true}
 use mathlib.Core.List.{List, [], ◌∷◌, map}
@@ -8,7 +10,6 @@ use native.Mathlib.Omega.{arith}
 use lib.ListN.{length, get_or, take}
 use Rattle.facts.specs.Tables.{tabulate}
 use Rattle.ips_channel_calls.specs.Calls.{offered, number_of, answer_of}
-use Rattle.ips_channel_calls.specs.declared.offering.OfferAnswer.{OfferAnswer}
 use Rattle.ips_state.specs.Memory.{world_fits}
 use Rattle.ips_run.specs.Run.{Call}
 use Rattle.ips_radio.proofs.Hearings.{take_map}
@@ -17,7 +18,6 @@ use Rattle.endpoint.specs.Lent.{Lent, world_in, after_in}
 use Rattle.endpoint.specs.Calls.{PerformedIn}
 use Rattle.endpoint.specs.Ran.{RanIn, over, ran}
 use Rattle.endpoint.proofs.Refused.{calls_coincide_in}
-use Rattle.handful.specs.declared.HandfulAnswer.{HandfulAnswer}
 use Rattle.handful.specs.Handful.{Handful, Offer, offers_of, call_of, answer_to, answers_to, left_by, HandedIn}
 use Rattle.handful.proofs.Offering.{after_fits}
 use Rattle.handful_laws.specs.Plain.{call_at, offers_in, said_by, Proper}
@@ -40,7 +40,7 @@ told byte = of_channel (offered (answer_of byte))
 offers_ran : (time : ℕ) (os : List Offer) (l : Lent) → RanIn l (map (call_of time) os) (map told (map number_of (answers_to time os l))) (left_by time os l)
 offers_ran time [] l = over
 offers_ran time (o ∷ os) l =
-    ran (record { reply_is = ap (λ (a : OfferAnswer). of_channel (offered a)) (numbers_say_lem time o (world_in l)); lent_is = refl }) (offers_ran time os (after_in (call_of time o) l))
+    ran (record { reply_is = ap (λ (a : Result (Unit {0}) Refusal). of_channel (offered a)) (numbers_say_lem time o (world_in l)); lent_is = refl }) (offers_ran time os (after_in (call_of time o) l))
 
 answers_count : (time : ℕ) (os : List Offer) (l : Lent) → length (map number_of (answers_to time os l)) ≡ length os
 answers_count time [] l = refl
@@ -63,7 +63,7 @@ take_tabulate (suc i) zero f le = absurd (omega arith)
 take_tabulate (suc i) (suc n) f le = ap (λ (ys : List _). f 0 ∷ ys) (take_tabulate i n (λ k. f (suc k)) (omega arith))
 
 -- ---- an accepted handful
-module _ {h : Handful} {l l' : Lent} {answers answers' : List ℕ} (handed : HandedIn h l answers HandfulAnswer.Offered l' answers') where
+module _ {h : Handful} {l l' : Lent} {answers answers' : List ℕ} (handed : HandedIn h l answers (Ok tt) l' answers') where
   pub offered_proper : Proper h (length answers)
   offered_proper = passed_proper h (length answers) (offered_tested handed).1
 
@@ -114,7 +114,7 @@ module _ {h : Handful} {l l' : Lent} {answers answers' : List ℕ} (handed : Han
         call.reply_is
         ∙ ap (λ (c : Call). reply_of c (world_in m)) (sym (offer_at_lem h offered_proper i among none))
         ∙ ap (λ (before : Lent). of_channel (offered (answer_to h.time o (world_in before)))) there
-        ∙ sym (ap (λ (a : OfferAnswer). of_channel (offered a)) (numbers_say_lem h.time o (world_in (left_by h.time (take i (offers_of h)) l))))
+        ∙ sym (ap (λ (a : Result (Unit {0}) Refusal). of_channel (offered a)) (numbers_say_lem h.time o (world_in (left_by h.time (take i (offers_of h)) l))))
         ∙ sym (said_is (get_or answers' i 0) ∙ ap told byte_at)
 
     -- 0, or 12 to 17: within an accepted handful nothing is refused by 19

@@ -1,4 +1,5 @@
 -- "An answer for each": what each byte says, and that it says the whole answer of the single offer. Assumes nothing.
+use Rattle.std.specs.Prelude.{Result, Ok, Err}
 use Prim.Native.Nat.{ℕ, zero, suc, ◌≤◌, ◌<◌}
 use mathlib.Core.Bool.{true}
 use mathlib.Core.Logic.{◌⊎◌, inl, inr}
@@ -9,11 +10,10 @@ use lib.Dec.{eqb-suc-zero}
 use Rattle.facts.proofs.Tests.{clash}
 use Rattle.quantity.specs.declared.refusal.Refusal.{Refusal}
 use Rattle.store.specs.Packets.{Packet}
-use Rattle.ips_channel_rules.specs.Rules.{offer, Taken, taken, Answer, refused, answered, Terms, Condition, Result}
+use Rattle.ips_channel_rules.specs.Rules.{offer, Taken, taken, Answer, refused, answered, Terms, Condition, AfterCall}
 use Rattle.ips_channel_rules.specs.Machine.{machine}
 use Rattle.ips_channel_rules.specs.Exactly.{Offered, offered_not_ipv6, offered_long, offered_early, offered_past, offered_full, offered_taken}
 use Rattle.ips_channel_rules.proofs.Exact as rules
-use Rattle.ips_channel_calls.specs.declared.offering.OfferAnswer.{OfferAnswer}
 use Rattle.ips_channel_calls.specs.Calls.{offer_answer, offered, number_of, answer_of}
 use Rattle.ips_state.specs.Memory.{World, world_fits, index_in}
 use Rattle.ips_run.specs.Calling.{terms_in, condition_in, WorldResult, Judged, outside, unknown, served}
@@ -23,10 +23,10 @@ use Rattle.handful.specs.Handful.{Offer, answer_to}
 use Rattle.handful_laws.specs.Plain.{Said, says_taken, says_number, says_nineteen, said_by}
 
 -- ---- the bytes in literal numbers
-pub byte_rows : (answer_of 0 ≡ OfferAnswer.Taken)
-    × (answer_of 12 ≡ OfferAnswer.Refused (record { number = 12; place = 0 })) × (answer_of 13 ≡ OfferAnswer.Refused (record { number = 13; place = 0 }))
-    × (answer_of 14 ≡ OfferAnswer.Refused (record { number = 14; place = 0 })) × (answer_of 15 ≡ OfferAnswer.Refused (record { number = 15; place = 0 }))
-    × (answer_of 16 ≡ OfferAnswer.Refused (record { number = 16; place = 0 })) × (answer_of 17 ≡ OfferAnswer.Refused (record { number = 17; place = 0 }))
+pub byte_rows : (answer_of 0 ≡ Ok tt)
+    × (answer_of 12 ≡ Err (record { number = 12; place = 0 })) × (answer_of 13 ≡ Err (record { number = 13; place = 0 }))
+    × (answer_of 14 ≡ Err (record { number = 14; place = 0 })) × (answer_of 15 ≡ Err (record { number = 15; place = 0 }))
+    × (answer_of 16 ≡ Err (record { number = 16; place = 0 })) × (answer_of 17 ≡ Err (record { number = 17; place = 0 }))
 unfolding answer_of
 byte_rows = (refl, refl, refl, refl, refl, refl, refl)
 
@@ -37,7 +37,7 @@ said_is zero = refl
 said_is (suc n) = rw (eqb-suc-zero n)
 
 -- ---- the answer of an offer, and the byte that it is told by
-offered_said : (k : Terms) (p : Packet) (time : ℕ) (st : Condition machine) {r : Result machine Taken} → Offered machine k p time st r
+offered_said : (k : Terms) (p : Packet) (time : ℕ) (st : Condition machine) {r : AfterCall machine Taken} → Offered machine k p time st r
     → Said (number_of (offer_answer r.answer)) (offer_answer r.answer)
 offered_said k p time st (offered_not_ipv6 v) = says_number 13 (omega arith) (omega arith)
 offered_said k p time st (offered_long v l) = says_number 14 (omega arith) (omega arith)
@@ -62,12 +62,12 @@ module _ (time : ℕ) (o : Offer) (w : World) where
   pub byte_small : number_of (answer_to time o w) < 256
   byte_small = go byte_said
     where
-      go : {n : ℕ} {a : OfferAnswer} → Said n a → n < 256
+      go : {n : ℕ} {a : Result (Unit {0}) Refusal} → Said n a → n < 256
       go says_taken = omega arith
       go (says_number n low high) = omega arith
       go says_nineteen = omega arith
 
-said_so : {n : ℕ} {a : OfferAnswer} → Said n a → answer_of n ≡ a
+said_so : {n : ℕ} {a : Result (Unit {0}) Refusal} → Said n a → answer_of n ≡ a
 unfolding answer_of
 said_so says_taken = refl
 said_so (says_number n low high) = rw (ne_eqb n 0 (λ e. omega arith))
@@ -78,7 +78,7 @@ pub numbers_say_lem : (time : ℕ) (o : Offer) (w : World) → answer_of (number
 numbers_say_lem time o w = said_so (byte_said time o w)
 
 -- ---- on words that 19 lets pass: 0, or 12 to 17
-told_nineteen : (a : Answer Taken) → offer_answer a ≡ OfferAnswer.Refused (record { number = 19; place = 0 }) → a ≡ refused 19
+told_nineteen : (a : Answer Taken) → offer_answer a ≡ Err (record { number = 19; place = 0 }) → a ≡ refused 19
 told_nineteen (refused n) e = let same : ◌≡◌ {A = Refusal} (record { number = n; place = 0 }) (record { number = 19; place = 0 }) = cc in ap (λ (r : Refusal). refused r.number) same
 told_nineteen (answered taken) e = clash (cc)
 
@@ -86,7 +86,7 @@ module _ (time : ℕ) (o : Offer) (w : World) (fits : world_fits w ≡ true) whe
   pub byte_fitting : (number_of (answer_to time o w) ≡ 0) ⊎ ((12 ≤ number_of (answer_to time o w)) × (number_of (answer_to time o w) ≤ 17))
   byte_fitting = go (byte_said time o w) (λ e. clash (sym ((exactly_nineteen o.id (offer o.packet time) w).0 (told_nineteen _ e)) ∙ fits))
     where
-      go : {n : ℕ} {a : OfferAnswer} → Said n a → (a ≡ OfferAnswer.Refused (record { number = 19; place = 0 }) → ⊥) → (n ≡ 0) ⊎ ((12 ≤ n) × (n ≤ 17))
+      go : {n : ℕ} {a : Result (Unit {0}) Refusal} → Said n a → (a ≡ Err (record { number = 19; place = 0 }) → ⊥) → (n ≡ 0) ⊎ ((12 ≤ n) × (n ≤ 17))
       go says_taken never = inl refl
       go (says_number n low high) never = inr (low, high)
       go says_nineteen never = absurd (never refl)

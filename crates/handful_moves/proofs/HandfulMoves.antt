@@ -1,4 +1,5 @@
 -- Of a handful each surviving byte of each store moves at most once: after a channel's first accepted offer nothing more is due there. Assumes nothing.
+use Rattle.std.specs.Prelude.{Ok}
 use Prim.Native.Nat.{ℕ, ◌+◌, ◌≤◌, ◌<◌}
 use mathlib.Core.Bool.{Bool, true, false, cond}
 use mathlib.Core.List.{List, [], ◌∷◌, ◌++◌, append_assoc, append-nil}
@@ -19,13 +20,12 @@ use Rattle.store.proofs.Moved.{displaced_within, displaced_unchanging}
 use Rattle.store_moves.specs.Moving.{Move, ToStart, Marked}
 use Rattle.store_moves.proofs.Waiting.{marked_expiring, marked_unchanging, staying_marked, joined_start, remaining_kept, marked_least}
 use Rattle.call_moves.specs.CallMoves.{joining_by}
-use Rattle.ips_channel_rules.specs.Rules.{offer, Taken, taken, Answer, refused, answered, Terms, Condition, Result}
+use Rattle.ips_channel_rules.specs.Rules.{offer, Taken, taken, Answer, refused, answered, Terms, Condition, AfterCall}
 use Rattle.ips_channel_rules.specs.Machine.{machine}
 use Rattle.ips_channel_rules.specs.Exactly.{Offered, offered_not_ipv6, offered_long, offered_early, offered_past, offered_full, offered_taken}
 use Rattle.ips_channel_rules.proofs.Exact.{offered}
 use Rattle.ips_channel.specs.declared.state.Channel.{Channel}
 use Rattle.ips_channel.specs.Channel.{condition_of}
-use Rattle.ips_channel_calls.specs.declared.offering.OfferAnswer.{OfferAnswer}
 use Rattle.ips_channel_calls.specs.Calls.{offer_answer, channel_after, store_after, leaving_by}
 use Rattle.ips_channel_calls.proofs.Again as calls
 use Rattle.ips_state.specs.Memory.{World, world_fits, is_configured, index_in, channel_in, store_in}
@@ -64,7 +64,7 @@ data Steps (time : ℕ) (p : Packet) : (waiting left joining : List Packet) (mov
 
 module _ (time : ℕ) where
   -- by the rules
-  by_offered : (k : Terms) (p : Packet) (c : Channel) (store : List ℕ) (r : Result machine Taken) → Offered machine k p time (condition_of c store) r
+  by_offered : (k : Terms) (p : Packet) (c : Channel) (store : List ℕ) (r : AfterCall machine Taken) → Offered machine k p time (condition_of c store) r
       → Steps time p (packets_of c.queue store) r.condition.keeping (joining_by (offer p time) r.answer) (displaced (leaving_by (offer p time) r.answer (packets_of c.queue store)))
   unfolding condition_of
   by_offered k p c store _ (offered_not_ipv6 v) = rw (displaced_unchanging (packets_of c.queue store)) stands
@@ -165,17 +165,17 @@ module _ (time : ℕ) where
 
 -- ---- after a channel's first accepted offer nothing more is due: whatever else is offered at that time, nothing more moves within that store
 module _ (time : ℕ) (o : Offer) where
-  joins_taken : (a : Answer Taken) → offer_answer a ≡ OfferAnswer.Taken → joining_by (offer o.packet time) a ≡ o.packet ∷ []
+  joins_taken : (a : Answer Taken) → offer_answer a ≡ Ok tt → joining_by (offer o.packet time) a ≡ o.packet ∷ []
   joins_taken (refused number) e = clash (cc)
   joins_taken (answered taken) e = refl
 
-  taken_served : {w : World} {r : WorldResult Taken} → Judged o.id (offer o.packet time) w r → offer_answer r.answer ≡ OfferAnswer.Taken
+  taken_served : {w : World} {r : WorldResult Taken} → Judged o.id (offer o.packet time) w r → offer_answer r.answer ≡ Ok tt
       → (world_fits w ≡ true) × (is_configured w o.id ≡ true)
   taken_served (outside f) e = clash (cc)
   taken_served (unknown f g) e = clash (cc)
   taken_served (served f g) e = (f, g)
 
-  pub nothing_more : (os : List Offer) (l : Lent) → answer_to time o (world_in l) ≡ OfferAnswer.Taken → moved_within (index_in (world_in l) o.id) time os (after_in (call_of time o) l) ≡ 0
+  pub nothing_more : (os : List Offer) (l : Lent) → answer_to time o (world_in l) ≡ Ok tt → moved_within (index_in (world_in l) o.id) time os (after_in (call_of time o) l) ≡ 0
   nothing_more os l e =
       let w = world_in l in
       let at = index_in w o.id in

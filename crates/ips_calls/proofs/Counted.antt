@@ -1,5 +1,8 @@
 -- A query states the count of each flow-controlled channel, whatever was called before, and is read back so; what Next hands over is read back as that packet, that
 -- channel and that Flow Sequence. Assumes nothing.
+use Rattle.meaning.specs.declared.message.Window.{Window}
+use Rattle.std.specs.Prelude.{Option, Some, None, Result, Ok}
+use Rattle.quantity.specs.declared.refusal.Refusal.{Refusal}
 use Prim.Native.Nat.{ℕ, zero, suc, ◌<◌, ◌≤◌, ◌^◌}
 use mathlib.Core.Bool.{Bool, true, false, cond, ◌&&◌, ◌||◌, and-eq-true_iff}
 use mathlib.Core.List.{List, [], ◌∷◌}
@@ -16,14 +19,9 @@ use Rattle.quantity.specs.Limits.{CHANNEL-IDS, RESERVED-CHANNEL, LONGEST-PACKET,
 use Rattle.quantity.specs.Window.{sequence_at}
 use Rattle.wire.specs.Options.{over}
 use Rattle.meaning.specs.declared.message.End.TheVariants as ends
-use Rattle.meaning.specs.declared.message.Sequence.{Sequence}
-use Rattle.meaning.specs.declared.message.SequenceCell.{SequenceCell}
-use Rattle.meaning.specs.declared.message.WindowCell.{WindowCell}
-use Rattle.meaning.specs.Cells.{no_status, no_window, no_sequence}
 use Rattle.reader.specs.Readings.{Verdict, read_control, read_data, packet_of}
 use Rattle.read_control.specs.Message.{control_accepted}
 use Rattle.writable.specs.Allowed.{control_allowed}
-use Rattle.writer.specs.declared.answer.WriteAnswer.{WriteAnswer}
 use Rattle.writer.specs.Written as writer
 use Rattle.writer.specs.Written.{no_room_of, control_written}
 use Rattle.roundtrip.specs.Values.{SequenceWord, WindowWord, ControlValue, DataValue}
@@ -34,7 +32,7 @@ use Rattle.store.proofs.Entries.{within_limits}
 use Rattle.store.proofs.Held.{Fit, fit_first}
 use Rattle.flow.specs.declared.Flow.{Flow}
 use Rattle.flow.specs.Counting.{sequence_on, carried_by}
-use Rattle.ips_channel_rules.specs.Rules.{next, Tried, sent, answered, Terms, Condition, Result, grown, final, message_of, message_bytes}
+use Rattle.ips_channel_rules.specs.Rules.{next, Tried, sent, answered, Terms, Condition, AfterCall, grown, final, message_of, message_bytes}
 use Rattle.ips_channel_rules.specs.Machine.{machine}
 use Rattle.ips_channel_rules.specs.Simple.{simple}
 use Rattle.ips_channel_rules.specs.Exactly.{Asked, asked_early, asked_nothing, asked_not_operational, asked_shut, asked_no_room, asked_sent}
@@ -92,14 +90,14 @@ module _ (k : Configuration) (fits : configuration_taken k ≡ true) (index : �
 
   -- the count of the simple channel, in its low 32 bits
   pub query_counts : (start_at k index).first.0 < 2 ^ 32 → (start_at k index).setting.controlled ≡ true
-      → stated_for s (id_at k index) ≡ Sequence.Given (sequence_at (final simple (ruled k index) (seen k index cs) (simply_at k index)).counting.count)
+      → stated_for s (id_at k index) ≡ Some (sequence_at (final simple (ruled k index) (seen k index cs) (simply_at k index)).counting.count)
   query_counts small controlled =
       let order = (reached_fits k fits cs bytes).order in
       let store = store_at s index (reached k cs).memory in
       stated_at ∙ sequence_controlled s order.state_fits_lem index within (controlled_is ∙ controlled)
-      ∙ ap Sequence.Given (sym (channel_sequence (channel_at s index) store) ∙ (whole_holds k fits index inside small cs bytes).sequence)
+      ∙ ap Some (sym (channel_sequence (channel_at s index) store) ∙ (whole_holds k fits index inside small cs bytes).sequence)
 
-  pub query_plain : (start_at k index).setting.controlled ≡ false → stated_for s (id_at k index) ≡ Sequence.Absent
+  pub query_plain : (start_at k index).setting.controlled ≡ false → stated_for s (id_at k index) ≡ None
   query_plain plain =
       let order = (reached_fits k fits cs bytes).order in
       stated_at ∙ sequence_plain s order.state_fits_lem index within (controlled_is ∙ plain)
@@ -116,7 +114,7 @@ unfolding sequence_for
 sequence_word id [] h = tt
 sequence_word id (c ∷ cs) h = go (c.setting.controlled && eqb c.setting.id id) (sequence_word id cs (λ m inside. h (suc m) (omega arith)))
   where
-    go : (b : Bool) → SequenceWord (sequence_for id cs) → SequenceWord (cond b (Sequence.Given c.sequence) (sequence_for id cs))
+    go : (b : Bool) → SequenceWord (sequence_for id cs) → SequenceWord (cond b (Some c.sequence) (sequence_for id cs))
     go true more = h 0 (omega arith)
     go false more = more
 
@@ -128,22 +126,22 @@ module _ (s : State) (words : SequenceWords s) where
   query_value : ControlValue (query_of s)
   unfolding query_of
   query_value = record {
-    statuses_long = length-replicate CHANNEL-IDS no_status;
+    statuses_long = length-replicate {A = Option ℕ} CHANNEL-IDS None;
     sequences_long = sequences_length s.channels;
-    windows_long = length-replicate CHANNEL-IDS no_window;
-    sequence_words = each_place (λ (cell : SequenceCell). SequenceWord cell.sequence) no_sequence tt (sequences_of s.channels) (λ n inside.
+    windows_long = length-replicate {A = Option Window} CHANNEL-IDS None;
+    sequence_words = each_place (λ (cell : Option FlowSequence). SequenceWord cell) None tt (sequences_of s.channels) (λ n inside.
         let place : n < CHANNEL-IDS = omega (arith, sequences_length s.channels) in
         rw (query_place s.channels n place) (sequence_word n s.channels words_at_lem));
-    window_words = each_place (λ (cell : WindowCell). WindowWord cell.window) no_window tt (replicate CHANNEL-IDS no_window) (λ n inside.
-        rw (get_or-replicate CHANNEL-IDS n no_window no_window (omega (arith, length-replicate CHANNEL-IDS no_window))) tt);
+    window_words = each_place (λ (cell : Option Window). WindowWord cell) None tt (replicate CHANNEL-IDS None) (λ n inside.
+        rw (get_or-replicate {A = Option Window} CHANNEL-IDS n None None (omega (arith, length-replicate {A = Option Window} CHANNEL-IDS None))) tt);
   }
 
   -- what a query wrote is read back with the query's meaning, by a reader configured with the state's Datalink ID
-  module _ (memory out : List ℕ) (r : WriteAnswer) (out' : List ℕ) (w' : World) (h : Performed (query out) (lending s memory) (of_query r out') w') where
+  module _ (memory out : List ℕ) (r : Result ByteCount Refusal) (out' : List ℕ) (w' : World) (h : Performed (query out) (lending s memory) (of_query r out') w') where
     query_outcome : state_fits s ≡ true → writer.Outcome (control_allowed ends.Ips (query_of s)) (control_written (query_of s)) out r out'
     query_outcome f = rw (query_allowed s) (record { answers = rw f at (query_gives h).0; bytes_are = rw f at (query_gives h).1 })
 
-    pub query_reads_back : (count : ByteCount) → r ≡ WriteAnswer.Wrote count → read_control ends.Ips s.datalink.id (take count.0 out') ≡ control_accepted (query_of s)
+    pub query_reads_back : (count : ByteCount) → r ≡ Ok count → read_control ends.Ips s.datalink.id (take count.0 out') ≡ control_accepted (query_of s)
     unfolding query_of
     query_reads_back count wrote = go (state_fits s) refl
       where
@@ -161,7 +159,7 @@ reached_words k fits small cs bytes index there =
 
 -- ---- the message that Next hands over
 -- what is sent goes on an unreserved channel, is a packet and a message of lengths within the limits, and carries a Flow Sequence of 32 bits, if any
-record Goes (k : Terms) (sequence : Sequence) (packet : List ℕ) : Type 0 where
+record Goes (k : Terms) (sequence : Option FlowSequence) (packet : List ℕ) : Type 0 where
   unreserved : k.id < RESERVED-CHANNEL
   packet_short : length packet ≤ LONGEST-PACKET
   message_short : length (message_bytes k sequence packet) ≤ LONGEST-DATAGRAM
@@ -181,8 +179,8 @@ room_short size room e = go (ltb room size) e
     go false h = ltb-false LONGEST-DATAGRAM size h
 
 module _ (k : Terms) (size : ℕ) (unreserved : k.id < RESERVED-CHANNEL) (time room : ℕ) (st : Condition machine) (fits : Fit size (alive time st.keeping))
-    (packet : List ℕ) (sequence : Sequence) where
-  goes : (r : Result machine Tried) → Asked machine k time room st r → r.answer ≡ answered (sent packet sequence) → Goes k sequence packet
+    (packet : List ℕ) (sequence : Option FlowSequence) where
+  goes : (r : AfterCall machine Tried) → Asked machine k time room st r → r.answer ≡ answered (sent packet sequence) → Goes k sequence packet
   goes _ (asked_early t) e = clash (cc)
   goes _ (asked_nothing t w) e = clash (cc)
   goes _ (asked_not_operational t w o) e = clash (cc)
@@ -199,7 +197,7 @@ module _ (k : Terms) (size : ℕ) (unreserved : k.id < RESERVED-CHANNEL) (time r
         word = rw (← carried) (carried_word st.counting.flow st.counting.sequence (record { 0 = length p.bytes }));
       }
 
-module _ (w : World) (id time : ℕ) (out : List ℕ) (packet : List ℕ) (sequence : Sequence) where
+module _ (w : World) (id time : ℕ) (out : List ℕ) (packet : List ℕ) (sequence : Option FlowSequence) where
   abbrev terms : Terms
   terms = terms_in w (index_in w id)
 
@@ -222,11 +220,11 @@ module _ (w : World) (id time : ℕ) (out : List ℕ) (packet : List ℕ) (seque
   sent_goes (unknown f g) e = clash (cc)
   sent_goes (served f g) e = let there = found w.state id g in (goes_at f (index_in w id) there.0 e, there.1)
 
-sent_value : (k : Terms) (sequence : Sequence) → SequenceWord sequence → DataValue (message_of k sequence)
-sent_value k Sequence.Absent word = record { sequence_word = tt; expiration_word = tt }
-sent_value k (Sequence.Given n) word = record { sequence_word = word; expiration_word = tt }
+sent_value : (k : Terms) (sequence : Option FlowSequence) → SequenceWord sequence → DataValue (message_of k sequence)
+sent_value k None word = record { sequence_word = tt; expiration_word = tt }
+sent_value k (Some n) word = record { sequence_word = word; expiration_word = tt }
 
-message_read : (k : Terms) (sequence : Sequence) (packet : List ℕ) → Goes k sequence packet → (message : List ℕ) → message ≡ message_bytes k sequence packet
+message_read : (k : Terms) (sequence : Option FlowSequence) (packet : List ℕ) → Goes k sequence packet → (message : List ℕ) → message ≡ message_bytes k sequence packet
     → (read_data ends.Ips k.datalink message ≡ record { verdict = Verdict.Accepted; message = message_of k sequence }) × (packet_of message ≡ packet)
 unfolding message_bytes
 message_read k sequence packet goes message is =
@@ -237,13 +235,13 @@ message_read k sequence packet goes message is =
     )
 
 -- what Next hands over on the channel of an ID, whatever the state and the memory
-pub reads_back : (w : World) (id time : ℕ) (out packet : List ℕ) (sequence : Sequence) → (calling id (next time out) w).answer ≡ answered (sent packet sequence)
-    → (answer : NextAnswer) (out' : List ℕ) (w' : World) → Performed (on id (next time out)) w (of_channel (asked answer out')) w' → ReadBack (terms_in w (index_in w id)) id packet sequence answer out'
+pub reads_back : (w : World) (id time : ℕ) (out packet : List ℕ) (sequence : Option FlowSequence) → (calling id (next time out) w).answer ≡ answered (sent packet sequence)
+    → (answer : Result NextAnswer Refusal) (out' : List ℕ) (w' : World) → Performed (on id (next time out)) w (of_channel (asked answer out')) w' → ReadBack (terms_in w (index_in w id)) id packet sequence answer out'
 reads_back w id time out packet sequence given answer out' w' h =
     let k = terms_in w (index_in w id) in
     let own = sent_goes w id time out packet sequence (judged id (next time out) w) given in
     let message = message_bytes k sequence packet in
-    let counted : answer ≡ NextAnswer.Sent (record { 0 = length message }) = cc (rw given at h.reply_is) in
+    let counted : answer ≡ Ok (NextAnswer.Sent (record { 0 = length message })) = cc (rw given at h.reply_is) in
     let bytes : out' ≡ over message out = cc (rw given at h.reply_is) in
     let here : take (length message) out' ≡ message = rw bytes (take_at message (drop (length message) out) (length message) refl) in
     let read = message_read k sequence packet own.0 (take (length message) out') here in

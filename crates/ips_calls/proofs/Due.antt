@@ -1,5 +1,8 @@
 -- "A mobility message is reported due when a Context comes that differs from the last Context received (in length or bytes), or is the first", and document 02 §2's
 -- "a Context that follows an accepted control message without one": over any calls from a fresh start. Assumes nothing.
+use Rattle.std.specs.Prelude.{Option, Ok, Result}
+use Rattle.meaning.specs.declared.message.ContextBytes.{ContextBytes}
+use Rattle.quantity.specs.declared.refusal.Refusal.{Refusal}
 use Prim.Native.Nat.{ℕ}
 use mathlib.Core.Bool.{Bool, true, false, cond}
 use mathlib.Core.List.{List, [], ◌∷◌}
@@ -7,7 +10,6 @@ use mathlib.Core.Logic.{◌↔◌}
 use mathlib.Core.Path.{◌≡◌, refl, sym, ap, ◌∙◌}
 use Rattle.facts.proofs.Tests.{clash}
 use Rattle.quantity.specs.declared.count.DatalinkId.{DatalinkId}
-use Rattle.meaning.specs.declared.message.Context.{Context}
 use Rattle.meaning.specs.declared.message.Control.{Control}
 use Rattle.ips_state.specs.State.{Configuration, State}
 use Rattle.ips_state.specs.Memory.{World}
@@ -21,12 +23,12 @@ use Rattle.ips_calls.specs.Radio.{AfterRadio, handed_in}
 use Rattle.ips_calls.proofs.Exactly.{Handed, outside, earlier, unread, heard, passed, handed, radio_heard}
 
 -- the answers to an accepted message
-due_true : (due : Bool) → cond due RadioAnswer.Due RadioAnswer.Accepted ≡ RadioAnswer.Due → due ≡ true
+due_true : (due : Bool) → cond {A = Result RadioAnswer Refusal} due (Ok RadioAnswer.Due) (Ok RadioAnswer.Accepted) ≡ Ok RadioAnswer.Due → due ≡ true
 due_true true e = refl
 due_true false e = clash (cc)
 
 module _ (s : State) (time : ℕ) (datagram : List ℕ) where
-  brought : {h : AfterRadio} → Handed s time datagram h → h.answer ≡ RadioAnswer.Due
+  brought : {h : AfterRadio} → Handed s time datagram h → h.answer ≡ Ok RadioAnswer.Due
       → (in_time time s ≡ true) × (m : Control) × (received_in s.datalink.id datagram ≡ stated m) × Comes s.context m.context
   brought (outside f) e = clash (cc)
   brought (earlier f l) e = clash (cc)
@@ -35,7 +37,7 @@ module _ (s : State) (time : ℕ) (datagram : List ℕ) where
   brought (passed f a) e = clash (cc)
 
   -- by the Context that the state keeps
-  pub due_by_state : (before : Context) → s.context ≡ before → ((handed_in time s datagram).answer ≡ RadioAnswer.Due)
+  pub due_by_state : (before : Option (ContextBytes × ℕ)) → s.context ≡ before → ((handed_in time s datagram).answer ≡ Ok RadioAnswer.Due)
       ↔ ((in_time time s ≡ true) × (m : Control) × (received_in s.datalink.id datagram ≡ stated m) × Comes before m.context)
   due_by_state before kept =
       rw (← kept) (
@@ -70,7 +72,7 @@ module _ (k : Configuration) (cs : List Call) where
   accepted = accepted_all cs (fresh_world k)
 
   -- by the control messages accepted before: document 01's condition, or a gap just before
-  pub due_exactly : (time : ℕ) (datagram : List ℕ) → ((handed_in time (reached k cs).state datagram).answer ≡ RadioAnswer.Due)
+  pub due_exactly : (time : ℕ) (datagram : List ℕ) → ((handed_in time (reached k cs).state datagram).answer ≡ Ok RadioAnswer.Due)
       ↔ ((m : Control) × (accepted_by (radio time datagram) (reached k cs) ≡ m ∷ []) × MobilityDue accepted m.context)
   due_exactly time datagram =
       let kept = due_by_state (reached k cs).state time datagram (context_before accepted) (whole_context k cs) in (

@@ -1,5 +1,6 @@
 -- Demand 3's sentence, of any calls as they should be on a state: each channel's own replies are those for the simple channel's answers, and what it holds is what
 -- the simple channel holds. The code's own outcomes are on words, in `endpoint`. Assumes nothing.
+use Rattle.std.specs.Prelude.{Ok}
 use Prim.Native.Nat.{ℕ, ◌^◌, ◌<◌}
 use mathlib.Core.Bool.{Bool, true, false, cond}
 use mathlib.Core.List.{List, [], ◌∷◌, ◌++◌, map}
@@ -20,7 +21,6 @@ use Rattle.ips_channel_calls.specs.ChannelRan.{replies_to}
 use Rattle.ips_state.specs.State.{Configuration, start_at}
 use Rattle.ips_state.specs.Limits.{waits_fit, configuration_taken}
 use Rattle.ips_state.specs.Memory.{World, channel_in, store_in}
-use Rattle.ips_state.specs.declared.StartAnswer.{StartAnswer}
 use Rattle.ips_run.specs.Calling.{calling}
 use Rattle.ips_run.specs.Run.{Call, on, radio, pace, query, if_own, if_silent, part_heard, accepted_by, silent_by, fresh_world, after, happens_all}
 use Rattle.ips_run.specs.Demand.{BytesIn, id_at, reached, ruled, seen, fresh_at, simply_at, RuledIn}
@@ -91,18 +91,18 @@ module _ (k : Configuration) (fits : configuration_taken k ≡ true) (index : �
       (record { replies = own_replies_lem cs bytes; holds = whole_holds k fits index inside small cs bytes; keeps = own_keeps cs bytes })
 
 -- a start that is answered so is one that neither 19 nor 22 refuses
-started_fits : (k : Configuration) (room : Bool) (w w' : World) → Started k room w StartAnswer.Started w' → starts k room w.memory ≡ true
+started_fits : (k : Configuration) (room : Bool) (w w' : World) → Started k room w (Ok tt) w' → starts k room w.memory ≡ true
 started_fits k room w w' h = go (start_fits_of k room w.memory) refl (waits_fit k) refl
   where
     go : (fits : Bool) → start_fits_of k room w.memory ≡ fits → (waits : Bool) → waits_fit k ≡ waits → starts k room w.memory ≡ true
     go true f true l = rw (f, l)
-    go true f false l = let refused : StartAnswer.Started ≡ not_started NO-WAIT = rw (f, l) at h.answer_is in clash (cc)
-    go false f waits l = let refused : StartAnswer.Started ≡ not_started OUTSIDE-LIMITS = rw f at h.answer_is in clash (cc)
+    go true f false l = let refused : Ok tt ≡ not_started NO-WAIT = rw (f, l) at h.answer_is in clash (cc)
+    go false f waits l = let refused : Ok tt ≡ not_started OUTSIDE-LIMITS = rw f at h.answer_is in clash (cc)
 
 -- "any sequence of calls from a fresh start", both as they should be on a state
-pub started_own : (k : Configuration) (room : Bool) (lent w : World) → Started k room lent StartAnswer.Started w
+pub started_own : (k : Configuration) (room : Bool) (lent w : World) → Started k room lent (Ok tt) w
     → (index : ℕ) → index < length k.starts → (start_at k index).first.0 < 2 ^ 32
     → (cs : List Call) → BytesIn cs → (xs : List EndpointReply) (last : World) → Ran w cs xs last → ServedSimply k index cs xs last
 started_own k room lent w begun index inside small cs bytes xs last run =
     let fits = started_fits k room lent w begun in
-    ran_own k (start_configured k room lent fits) index inside small cs bytes xs last (rw (begins k room lent fits StartAnswer.Started w begun) at run)
+    ran_own k (start_configured k room lent fits) index inside small cs bytes xs last (rw (begins k room lent fits (Ok tt) w begun) at run)

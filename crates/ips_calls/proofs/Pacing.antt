@@ -1,5 +1,7 @@
 -- The pacer by history, over any calls from a fresh start: a query is due exactly when HelloTime or more has passed since the last ask that was answered due, and it is
 -- silent exactly when the limit or more has passed since the last accepted radio control message; both waits first run from 0. Assumes nothing.
+use Rattle.std.specs.Prelude.{Result, Ok, Err}
+use Rattle.quantity.specs.declared.refusal.Refusal.{Refusal}
 use Prim.Native.Nat.{ℕ, ◌+◌, ◌≤◌}
 use mathlib.Core.Bool.{Bool, true, false, cond}
 use mathlib.Core.List.{List, [], ◌∷◌, map}
@@ -81,7 +83,7 @@ module _ (w : World) (time : ℕ) (datagram : List ℕ) where
   unfolding taken_times
   radio_taken = go (handed w.state time datagram)
     where
-      by_due : (due : Bool) → time ∷ [] ≡ cond (radio_refused (cond due RadioAnswer.Due RadioAnswer.Accepted)) [] (time ∷ [])
+      by_due : (due : Bool) → time ∷ [] ≡ cond (radio_refused (cond due (Ok RadioAnswer.Due) (Ok RadioAnswer.Accepted))) [] (time ∷ [])
       by_due true = refl
       by_due false = refl
 
@@ -108,11 +110,11 @@ module _ (k : Configuration) (fits : configuration_taken k ≡ true) (cs : List 
   abbrev s : State
   s = (reached k cs).state
 
-  abbrev answer : PaceAnswer
+  abbrev answer : Result PaceAnswer Refusal
   answer = pace_answer time (reached k cs).state
 
   -- the answer, where the time is not earlier than the clock; a refusal says neither
-  on_time : (says : PaceAnswer → Bool) → says (PaceAnswer.Refused (record { number = 21; place = 0 })) ≡ false → (is : Bool)
+  on_time : (says : Result PaceAnswer Refusal → Bool) → says (Err (record { number = 21; place = 0 })) ≡ false → (is : Bool)
       → says (answer_of (is_due time s.pacer) (is_silent time s.pacer)) ≡ is → (says answer ≡ true) ↔ ((s.pacer.clock ≤ time) × (is ≡ true))
   unfolding pace_answer_under
   on_time says refused is law = go (is_earlier time s.pacer) refl

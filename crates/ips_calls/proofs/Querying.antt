@@ -1,4 +1,7 @@
 -- The ways out of a query: what is asked is always allowed, so 20 is never given. Assumes nothing.
+use Rattle.std.specs.Prelude.{Result, Err}
+use Rattle.quantity.specs.declared.count.ByteCount.{ByteCount}
+use Rattle.quantity.specs.declared.refusal.Refusal.{Refusal}
 use Prim.Native.Nat.{ℕ}
 use mathlib.Core.Bool.{true, false}
 use mathlib.Core.List.{List}
@@ -7,7 +10,6 @@ use Rattle.quantity.specs.Refusals.{OUTSIDE-LIMITS}
 use Rattle.meaning.specs.declared.message.End.TheVariants as ends
 use Rattle.meaning.specs.declared.message.Control.{Control}
 use Rattle.writable.specs.Allowed.{control_allowed}
-use Rattle.writer.specs.declared.answer.WriteAnswer.{WriteAnswer}
 use Rattle.writer.specs.Written.{control_written, Outcome}
 use Rattle.ips_state.specs.State.{State}
 use Rattle.ips_state.specs.Limits.{state_fits}
@@ -19,12 +21,12 @@ use Rattle.ips_calls.specs.Query.{query_answer, query_out}
 use Rattle.ips_calls.specs.Replies.{of_query}
 use Rattle.ips_calls.specs.Calls.{lending, Performed}
 
-module _ (s : State) (out : List ℕ) (r : WriteAnswer) (memory : List ℕ) where
+module _ (s : State) (out : List ℕ) (r : Result ByteCount Refusal) (memory : List ℕ) where
   performed : (out' : List ℕ) → r ≡ query_answer s out → out' ≡ query_out s out → Performed (query out) (lending s memory) (of_query r out') (lending s memory)
   unfolding after_under
   performed out' answer_is out-is = record { reply_is = ap₂ of_query answer_is out-is; world_is = refl }
 
-  pub query_unfit : state_fits s ≡ false → r ≡ WriteAnswer.Refused (record { number = OUTSIDE-LIMITS; place = 0 }) → Performed (query out) (lending s memory) (of_query r out) (lending s memory)
+  pub query_unfit : state_fits s ≡ false → r ≡ Err (record { number = OUTSIDE-LIMITS; place = 0 }) → Performed (query out) (lending s memory) (of_query r out) (lending s memory)
   query_unfit e is = performed out (rw e is) (rw e)
 
   pub query_written_lem : state_fits s ≡ true → (message : Control) → message ≡ query_of s → (out' : List ℕ) → Outcome (control_allowed ends.Ips message) (control_written message) out r out'
@@ -35,5 +37,5 @@ module _ (s : State) (out : List ℕ) (r : WriteAnswer) (memory : List ℕ) wher
       performed out' (rw e allowed.answers) (rw e allowed.bytes_are)
 
 -- what its contract says of the answer and of the output
-pub query_gives : {w w' : World} {out : List ℕ} {r : WriteAnswer} {out' : List ℕ} → Performed (query out) w (of_query r out') w' → (r ≡ query_answer w.state out) × (out' ≡ query_out w.state out)
+pub query_gives : {w w' : World} {out : List ℕ} {r : Result ByteCount Refusal} {out' : List ℕ} → Performed (query out) w (of_query r out') w' → (r ≡ query_answer w.state out) × (out' ≡ query_out w.state out)
 query_gives h = (cc h.reply_is, cc h.reply_is)

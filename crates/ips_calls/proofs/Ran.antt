@@ -1,5 +1,8 @@
 -- Any calls as they should be on a state, one after the other, are a run of the rules: the world and every reply. The code's own run, on words, is `RanIn` of
 -- `endpoint`. Assumes nothing.
+use Rattle.std.specs.Prelude.{Result, Ok, Err}
+use Rattle.quantity.specs.declared.refusal.Refusal.{Refusal}
+use Rattle.meaning.specs.declared.message.Plane.{Plane}
 use Prim.Native.Nat.{ℕ}
 use mathlib.Core.Bool.{Bool, true, false, and-eq-true_iff}
 use mathlib.Core.List.{List, [], ◌∷◌}
@@ -9,14 +12,12 @@ use lib.Dec.{eqb}
 use lib.ListN.{length}
 use Rattle.meaning.specs.declared.message.End.TheVariants as ends
 use Rattle.reader.specs.Readings.{Verdict, read_control, read_data, plane_of}
-use Rattle.reader.specs.declared.answer.PlaneAnswer.{PlaneAnswer}
 use Rattle.pacer.specs.Pacing.{is_earlier}
 use Rattle.ips_state.specs.State.{Configuration, State, fresh_state}
 use Rattle.ips_state.specs.Limits.{sizes, state_fits, configuration_fits, waits_fit, configuration_taken}
 use Rattle.ips_state.specs.Memory.{World}
 use Rattle.ips_radio.specs.declared.RadioAnswer.{RadioAnswer}
 use Rattle.ips_run.specs.Run.{Call, radio, Received, carried, stated, if_accepted, received_in, received, after_under, after, after_all, fresh_world}
-use Rattle.ips_state.specs.declared.StartAnswer.{StartAnswer}
 use Rattle.ips_calls.specs.Radio.{AfterRadio, by_verdict, heard_control, passed_on, handed_in_under, handed_in}
 use Rattle.ips_calls.specs.Replies.{EndpointReply, of_radio}
 use Rattle.ips_calls.specs.Calls.{lending, PerformedWithAny}
@@ -34,19 +35,19 @@ handed_state : (w : World) (time : ℕ) (datagram : List ℕ) → (handed_in tim
 unfolding handed_in_under received_in after_under
 handed_state w time datagram = go (state_fits w.state) refl (is_earlier time w.state.pacer) refl (plane_of datagram) refl
   where
-    go : (fits : Bool) → state_fits w.state ≡ fits → (early : Bool) → is_earlier time w.state.pacer ≡ early → (plane : PlaneAnswer) → plane_of datagram ≡ plane
+    go : (fits : Bool) → state_fits w.state ≡ fits → (early : Bool) → is_earlier time w.state.pacer ≡ early → (plane : Result Plane Refusal) → plane_of datagram ≡ plane
         → (handed_in time w.state datagram).state ≡ (after (radio time datagram) w).state
     go false f early l plane p = rw f
     go true f true l plane p = rw (f, l)
-    go true f false l PlaneAnswer.Control p =
+    go true f false l (Ok Plane.Control) p =
         let reading = read_control ends.Radio w.state.datalink.id datagram in
         rw (f, l, p) (verdict_leaves reading.verdict time w.state (stated reading.message) (heard_control time reading.message w.state) refl)
-    go true f false l PlaneAnswer.Data p =
+    go true f false l (Ok Plane.Data) p =
         rw (f, l, p) (verdict_leaves (read_data ends.Radio w.state.datalink.id datagram).verdict time w.state carried (passed_on time w.state) refl)
-    go true f false l (PlaneAnswer.Refused refusal) p = rw (f, l, p)
+    go true f false l (Err refusal) p = rw (f, l, p)
 
 -- so a radio message handed in as it should be, with any memory, is answered and leaves a state as `handed_in` says: the laws over `handed_in` are laws of the call
-pub radio_handed : {s : State} {time : ℕ} {datagram : List ℕ} {answer : RadioAnswer} {s' : State} → PerformedWithAny (radio time datagram) s (of_radio answer) s'
+pub radio_handed : {s : State} {time : ℕ} {datagram : List ℕ} {answer : Result RadioAnswer Refusal} {s' : State} → PerformedWithAny (radio time datagram) s (of_radio answer) s'
     → (answer ≡ (handed_in time s datagram).answer) × (s' ≡ (handed_in time s datagram).state)
 radio_handed {s} {time} {datagram} h = (cc (h []).reply_is, ap (λ (w : World). w.state) (h []).world_is ∙ sym (handed_state (lending s []) time datagram))
 
@@ -72,6 +73,6 @@ module _ (k : Configuration) (room : Bool) (w : World) (begun : starts k room w.
   unfolding start_fits_of stores_of
   memory_length = eqb-true _ _ ((and-eq-true_iff (eqb (length w.memory) (stores_of k)) room).0 ((and-eq-true_iff (configuration_fits k) _).0 fits).1).0
 
-  pub begins : (answer : StartAnswer) (w' : World) → Started k room w answer w' → w' ≡ fresh_world k
+  pub begins : (answer : Result (Unit {0}) Refusal) (w' : World) → Started k room w answer w' → w' ≡ fresh_world k
   unfolding fresh_world
   begins answer w' h = h.world_is ∙ rw (begun, memory_length)

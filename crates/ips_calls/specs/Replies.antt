@@ -1,7 +1,8 @@
 -- What the caller sees of a call: its answer, and the bytes of the output after it.
-use Rattle.std.specs.Prelude.{ℕ, List, [], ◌∷◌, take}
+use Rattle.quantity.specs.declared.count.ByteCount.{ByteCount}
+use Rattle.quantity.specs.declared.refusal.Refusal.{Refusal}
+use Rattle.std.specs.Prelude.{ℕ, List, [], ◌∷◌, take, Result, Ok, Err}
 use Rattle.quantity.specs.Limits.{Limits, CURRENT-LIMITS}
-use Rattle.writer.specs.declared.answer.WriteAnswer.{WriteAnswer}
 use Rattle.ips_channel_calls.specs.declared.asking.NextAnswer.{NextAnswer}
 use Rattle.ips_channel_calls.specs.Calls.{Reply, offered, asked, withdrawn, reply_to}
 use Rattle.ips_state.specs.Memory.{World, index_in}
@@ -15,9 +16,9 @@ use Rattle.ips_calls.specs.Query.{query_answer_under, query_out_under}
 
 pub data EndpointReply : Type 0 where
   of_channel : Reply → EndpointReply
-  of_radio : RadioAnswer → EndpointReply
-  of_pace : PaceAnswer → EndpointReply
-  of_query : WriteAnswer → (out : List ℕ) → EndpointReply
+  of_radio : Result RadioAnswer Refusal → EndpointReply
+  of_pace : Result PaceAnswer Refusal → EndpointReply
+  of_query : Result ByteCount Refusal → (out : List ℕ) → EndpointReply
 
 abbrev pub reply_under : Limits → Call → World → EndpointReply
 reply_under limits (on id c) w = of_channel (reply_to (terms_in_under limits.packet w (index_in w id)) c (calling_under limits id c w).answer)
@@ -29,21 +30,21 @@ abbrev pub reply_of : Call → World → EndpointReply
 reply_of c w = reply_under CURRENT-LIMITS c w
 
 -- ---- which datagrams a reply hands over: of Next, and of a query, as many first bytes of the output as it answered
-abbrev pub if_sent : NextAnswer → (out : List ℕ) → List (List ℕ)
-if_sent (NextAnswer.Sent count) out = take count.0 out ∷ []
-if_sent NextAnswer.NothingWaiting out = []
-if_sent NextAnswer.NotOperational out = []
-if_sent NextAnswer.WindowShut out = []
-if_sent (NextAnswer.Refused refusal) out = []
+abbrev pub if_sent : Result NextAnswer Refusal → (out : List ℕ) → List (List ℕ)
+if_sent (Ok (NextAnswer.Sent count)) out = take count.0 out ∷ []
+if_sent (Ok NextAnswer.NothingWaiting) out = []
+if_sent (Ok NextAnswer.NotOperational) out = []
+if_sent (Ok NextAnswer.WindowShut) out = []
+if_sent (Err refusal) out = []
 
 abbrev pub of_reply : Reply → List (List ℕ)
 of_reply (offered answer) = []
 of_reply (asked answer out) = if_sent answer out
 of_reply (withdrawn answer) = []
 
-abbrev pub if_wrote : WriteAnswer → (out : List ℕ) → List (List ℕ)
-if_wrote (WriteAnswer.Wrote count) out = take count.0 out ∷ []
-if_wrote (WriteAnswer.Refused refusal) out = []
+abbrev pub if_wrote : Result ByteCount Refusal → (out : List ℕ) → List (List ℕ)
+if_wrote (Ok count) out = take count.0 out ∷ []
+if_wrote (Err refusal) out = []
 
 abbrev pub handed_out : EndpointReply → List (List ℕ)
 handed_out (of_channel x) = of_reply x

@@ -1,8 +1,7 @@
 -- The code's channel: from a channel and its store to a condition of the rules, and back; how it starts, and what it hears.
-use Rattle.std.specs.Prelude.{ℕ, cond, List, []}
+use Rattle.std.specs.Prelude.{ℕ, cond, List, [], Option, None}
 use Rattle.quantity.specs.declared.count.FlowSequence.{FlowSequence}
 use Rattle.quantity.specs.Limits.{LONGEST-PACKET}
-use Rattle.meaning.specs.declared.message.Status.{Status}
 use Rattle.meaning.specs.declared.message.Window.{Window}
 use Rattle.meaning.specs.Statuses.{DEFAULT-CODES}
 use Rattle.store.specs.declared.queue.Queue.{Queue}
@@ -40,11 +39,11 @@ unfoldable pub with_queue : Channel → Queue → ℕ → Channel
 with_queue c queue time = record { setting = c.setting; status = c.status; flow = c.flow; sequence = c.sequence; latest = time; queue = queue }
 
 -- a radio message touches neither queue nor store
-unfoldable pub heard_of : Channel → Status → Window → Channel
+unfoldable pub heard_of : Channel → Option ℕ → Option Window → Channel
 heard_of c status window =
     record { setting = c.setting; status = status; flow = cond c.setting.controlled (flow_after window) c.flow; sequence = c.sequence; latest = c.latest; queue = c.queue }
 
 -- "A channel has a status (fresh: not reported)"; "Latest time is .. 0 when fresh"
 unfoldable pub fresh_channel : Setting → FlowSequence → Channel
 fresh_channel setting first =
-    record { setting = setting; status = Status.Absent; flow = first_flow setting.controlled; sequence = first; latest = 0; queue = queue_of [] }
+    record { setting = setting; status = None; flow = first_flow setting.controlled; sequence = first; latest = 0; queue = queue_of [] }

@@ -1,7 +1,6 @@
 -- Document 01, "A channel's life": a fresh channel, written out.
-use Rattle.std.specs.Prelude.{replicate}
+use Rattle.std.specs.Prelude.{replicate, None}
 use Rattle.quantity.specs.declared.count.FlowSequence.{FlowSequence}
-use Rattle.meaning.specs.declared.message.Status.{Status}
 use Rattle.flow.specs.declared.Flow.{Flow}
 use Rattle.ips_channel.specs.declared.state.Setting.{Setting}
 use Rattle.ips_channel.specs.declared.state.Channel.{Channel}
@@ -11,7 +10,7 @@ use Rattle.ips_channel.specs.declared.state.Channel.{Channel}
 abbrev pub fresh_with : Flow → Setting → FlowSequence → Channel
 fresh_with flow setting first = record {
   setting = setting;
-  status = Status.Absent;
+  status = None;
   flow = flow;
   sequence = first;
   latest = 0;

@@ -3,7 +3,6 @@ ghost use Rattle.std.specs.Prelude.{◌≡◌};
 ghost use Rattle.ips_channel.specs.Channel.{fresh_channel, with_queue};
 
 use flow::Flow;
-use meaning::message::Status;
 use meaning::status::StatusCodes;
 use quantity::count::{ByteCount, DatalinkId, FlowSequence};
 use store::queue;
@@ -30,8 +29,8 @@ pub struct Setting {
 #[derive(Clone, Copy)]
 pub struct Channel {
     pub setting: Setting,
-    // `Absent` while it is not reported.
-    pub status: Status,
+    // `None` while it is not reported.
+    pub status: Option<u8>,
     pub flow: Flow,
     pub sequence: FlowSequence,
     pub latest: u64,
@@ -39,6 +38,7 @@ pub struct Channel {
 }
 
 // A channel that starts: not reported, its first sequence, time 0, nothing waiting.
+#[tactic(auto, unfolding(crate::specs::Channel::fresh_channel))]
 pub fn fresh(setting: Setting, first: FlowSequence) -> Channel
     ensures { result ≡ fresh_channel setting first }
 {
@@ -46,7 +46,7 @@ pub fn fresh(setting: Setting, first: FlowSequence) -> Channel
     let queue = queue::empty();
     Channel {
         setting,
-        status: Status::Absent,
+        status: None,
         flow,
         sequence: first,
         latest: 0,
@@ -55,11 +55,13 @@ pub fn fresh(setting: Setting, first: FlowSequence) -> Channel
 }
 
 // The channel with what waits on it now, and a time that was accepted.
+#[tactic(auto, unfolding(crate::specs::Channel::with_queue))]
 pub fn with_queue(channel: Channel, queue: Queue, time: u64) -> Channel
     ensures { result ≡ with_queue channel queue time }
 {
-    let mut left = channel;
-    left.queue = queue;
-    left.latest = time;
-    left
+    Channel {
+        queue,
+        latest: time,
+        ..channel
+    }
 }

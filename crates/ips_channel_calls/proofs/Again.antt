@@ -1,5 +1,6 @@
 -- After each call the channel and its store are in the condition that the rules leave, and ready for the next call; any two outcomes of one contract coincide.
 -- Assumes nothing.
+use Rattle.std.specs.Prelude.{Option, Ok}
 use Prim.Native.Nat.{ℕ, ◌+◌, ◌≤◌}
 use mathlib.Core.Bool.{Bool, true, false, cond, ◌&&◌, and-eq-true_iff}
 use mathlib.Core.Path.{◌≡◌, refl, sym, ◌∙◌}
@@ -9,14 +10,13 @@ use lib.Dec.{leb, eqb}
 use lib.ListN.{length}
 use Rattle.quantity.specs.declared.count.FlowSequence.{FlowSequence}
 use Rattle.quantity.specs.Limits.{SHORTEST-PACKET, LONGEST-PACKET}
-use Rattle.meaning.specs.declared.message.Status.{Status}
 use Rattle.meaning.specs.declared.message.Window.{Window}
 use Rattle.ipv6.specs.Ipv6.{is_ipv6, version_in, payload_length}
 use Rattle.store.specs.Packets.{Packet, alive}
 use Rattle.store.specs.Waiting.{packets_of, queue_of, store_of, Holds, within, cut}
 use Rattle.store.proofs.Held.{Fit, packets_of_lem, waiting_of, holds_well, holds_length, fit_none, fit_tail, fit_join}
 use Rattle.flow.specs.Counting.{flow_after}
-use Rattle.ips_channel_rules.specs.Rules.{ChannelCall, offer, next, withdraw, Taken, Tried, Terms, Condition, Result, radio_at}
+use Rattle.ips_channel_rules.specs.Rules.{ChannelCall, offer, next, withdraw, Taken, Tried, Terms, Condition, AfterCall, radio_at}
 use Rattle.ips_channel_rules.specs.Machine.{WordCounter, machine, fresh_machine}
 use Rattle.ips_channel_rules.specs.Exactly.{Offered, offered_not_ipv6, offered_long, offered_early, offered_past, offered_full, offered_taken, Asked, asked_early, asked_nothing, asked_not_operational, asked_shut, asked_no_room, asked_sent}
 use Rattle.ips_channel_rules.proofs.Exact.{offered, asked, withdraw_is}
@@ -25,10 +25,9 @@ use Rattle.ips_channel.specs.declared.state.DatalinkSetting.{DatalinkSetting}
 use Rattle.ips_channel.specs.declared.state.Setting.{Setting}
 use Rattle.ips_channel.specs.declared.state.Channel.{Channel}
 use Rattle.ips_channel.specs.Channel.{no_datalink, terms_of, condition_of, with_condition, heard_of, fresh_channel}
-use Rattle.ips_channel_calls.specs.declared.offering.OfferOutcome.{OfferOutcome}
-use Rattle.ips_channel_calls.specs.declared.offering.WithdrawAnswer.{WithdrawAnswer}
+use Rattle.ips_channel_calls.specs.declared.outcome.CallOutcome.{CallOutcome}
 use Rattle.ips_channel_calls.specs.declared.offering.WithdrawOutcome.{WithdrawOutcome}
-use Rattle.ips_channel_calls.specs.declared.asking.NextOutcome.{NextOutcome}
+use Rattle.ips_channel_calls.specs.declared.asking.NextAnswer.{NextAnswer}
 use Rattle.ips_channel_calls.specs.Calls as replies
 use Rattle.ips_channel_calls.specs.Calls.{Reply, channel_after, store_after, Ready, result_of, Serves, ServesAnywhere, Moves, MovesAnywhere}
 use Rattle.ips_channel_calls.proofs.Leaving.{ready_alive}
@@ -45,12 +44,12 @@ unfolding condition_of with_condition
 condition_again c st = rw (packets_of_lem c.setting.size.0 st.keeping)
 
 -- a plain channel's flow state stands still
-heard_counting : (controlled : Bool) (window : Window) (x : WordCounter)
+heard_counting : (controlled : Bool) (window : Option Window) (x : WordCounter)
     → ◌≡◌ {A = WordCounter} (record { flow = cond controlled (flow_after window) x.flow; sequence = x.sequence }) (cond controlled (machine.hear window x) x)
 heard_counting true window x = refl
 heard_counting false window x = refl
 
-pub heard_condition : (datalink : DatalinkSetting) (c : Channel) (store : List ℕ) (status : Status) (window : Window)
+pub heard_condition : (datalink : DatalinkSetting) (c : Channel) (store : List ℕ) (status : Option ℕ) (window : Option Window)
     → condition_of (heard_of c status window) store ≡ radio_at machine (terms_of datalink c.setting) status window (condition_of c store)
 unfolding condition_of heard_of radio_at
 heard_condition datalink c store status window = rw (heard_counting c.setting.controlled window (record { flow = c.flow; sequence = c.sequence }))
@@ -86,11 +85,11 @@ module _ (c : Channel) (store : List ℕ) (ready : Ready c store) where
   alive_fit time = ready_alive c store ready time
 
   -- what a result leaves
-  Left : {A : Type 0} → Result machine A → Type 0
+  Left : {A : Type 0} → AfterCall machine A → Type 0
   Left r = Again c r.condition (channel_after c r) (store_after c store r)
 
   module _ (k : Terms) (longest : k.longest ≡ LONGEST-PACKET) (sized : k.size ≡ c.setting.size.0) where
-    by_offer : {p : Packet} {time : ℕ} (r : Result machine Taken) → Offered machine k p time (condition_of c store) r → Left r
+    by_offer : {p : Packet} {time : ℕ} (r : AfterCall machine Taken) → Offered machine k p time (condition_of c store) r → Left r
     unfolding Left channel_after store_after
     by_offer _ (offered_not_ipv6 v) = unchanged
     by_offer _ (offered_long v l) = unchanged
@@ -100,7 +99,7 @@ module _ (c : Channel) (store : List ℕ) (ready : Ready c store) where
     by_offer {p} {time} _ (offered_taken v l t x f) =
         changed _ (fit_join c.setting.size.0 (alive time (condition_of c store).keeping) p (alive_fit time) (offered_within p v (rw longest at (short_both machine machine_limited k _ l).0)) (rw sized at f))
 
-    by_next : {time room : ℕ} (r : Result machine Tried) → Asked machine k time room (condition_of c store) r → Left r
+    by_next : {time room : ℕ} (r : AfterCall machine Tried) → Asked machine k time room (condition_of c store) r → Left r
     unfolding Left channel_after store_after
     by_next _ (asked_early t) = unchanged
     by_next {time} _ (asked_nothing t w) = changed _ (alive_fit time)
@@ -121,7 +120,7 @@ module _ (c : Channel) (store : List ℕ) (ready : Ready c store) where
         → Again c (result_of datalink call c store).condition c' store'
     after_call {call} s = rw (s.channel_is, s.store_is) (after call)
 
-    pub after_hear_lem : (status : Status) (window : Window) (r : Channel) → r ≡ heard_of c status window
+    pub after_hear_lem : (status : Option ℕ) (window : Option Window) (r : Channel) → r ≡ heard_of c status window
         → Again c (radio_at machine (terms_of datalink c.setting) status window (condition_of c store)) r store
     unfolding heard_of
     after_hear_lem status window r e =
@@ -139,7 +138,7 @@ serves_one h k = (h.reply_is ∙ sym k.reply_is, h.channel_is ∙ sym k.channel_
 
 -- and so do the results of Offer, of Withdraw and of Next, as the code has them
 module _ {call : ChannelCall} {c : Channel} {store s s' : List ℕ} where
-  pub offers_one : (r r' : OfferOutcome) → ServesAnywhere call c store (replies.offered r.answer) r.channel s
+  pub offers_one : (r r' : CallOutcome (Unit {0})) → ServesAnywhere call c store (replies.offered r.answer) r.channel s
       → ServesAnywhere call c store (replies.offered r'.answer) r'.channel s' → MovesAnywhere call c store r.moved → MovesAnywhere call c store r'.moved
       → (r ≡ r') × (s ≡ s')
   offers_one r r' h k m n =
@@ -150,8 +149,8 @@ module _ {call : ChannelCall} {c : Channel} {store s s' : List ℕ} where
       let same : record { answer = r.answer; channel = r.channel; moved = r.moved } ≡ r' = rw (answers, one.1, moves) in
       (same, one.2)
 
-  pub withdraws_one : (r r' : WithdrawOutcome) → ServesAnywhere call c store (replies.withdrawn WithdrawAnswer.Withdrawn) r.channel s
-      → ServesAnywhere call c store (replies.withdrawn WithdrawAnswer.Withdrawn) r'.channel s' → MovesAnywhere call c store r.moved → MovesAnywhere call c store r'.moved
+  pub withdraws_one : (r r' : WithdrawOutcome) → ServesAnywhere call c store (replies.withdrawn (Ok tt)) r.channel s
+      → ServesAnywhere call c store (replies.withdrawn (Ok tt)) r'.channel s' → MovesAnywhere call c store r.moved → MovesAnywhere call c store r'.moved
       → (r ≡ r') × (s ≡ s')
   withdraws_one r r' h k m n =
       let one = serves_one (h no_datalink) (k no_datalink) in
@@ -159,7 +158,7 @@ module _ {call : ChannelCall} {c : Channel} {store s s' : List ℕ} where
       let same : record { channel = r.channel; moved = r.moved } ≡ r' = rw (one.1, moves) in
       (same, one.2)
 
-  pub asks_one : {datalink : DatalinkSetting} {out out' : List ℕ} (r r' : NextOutcome) → Serves datalink call c store (replies.asked r.answer out) r.channel s
+  pub asks_one : {datalink : DatalinkSetting} {out out' : List ℕ} (r r' : CallOutcome NextAnswer) → Serves datalink call c store (replies.asked r.answer out) r.channel s
       → Serves datalink call c store (replies.asked r'.answer out') r'.channel s' → Moves datalink call c store r.moved → Moves datalink call c store r'.moved
       → (r ≡ r') × (s ≡ s') × (out ≡ out')
   asks_one r r' h k m n =

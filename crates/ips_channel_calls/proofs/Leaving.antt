@@ -1,4 +1,5 @@
 -- What a channel and a store that are ready give, and what the functions behind the calls leave. Assumes nothing.
+use Rattle.std.specs.Prelude.{Ok}
 use Prim.Native.Nat.{ℕ}
 use mathlib.Core.Path.{◌≡◌}
 use mathlib.Core.List.{List, []}
@@ -15,7 +16,6 @@ use Rattle.ips_channel_rules.specs.Machine.{machine}
 use Rattle.ips_channel_rules.proofs.Exact.{withdraw_is}
 use Rattle.ips_channel.specs.declared.state.Channel.{Channel}
 use Rattle.ips_channel.specs.Channel.{terms_of, condition_of, with_condition, with_queue}
-use Rattle.ips_channel_calls.specs.declared.offering.WithdrawAnswer.{WithdrawAnswer}
 use Rattle.ips_channel_calls.specs.Calls.{withdrawn, channel_after, store_after, Ready, ServesAnywhere, MovesAnywhere, LeftWith}
 
 module _ (c : Channel) (store : List ℕ) (ready : Ready c store) where
@@ -44,7 +44,7 @@ module _ (c : Channel) (store : List ℕ) (ready : Ready c store) where
   withdraw_moves moved e datalink = rw (withdraw_is machine (terms_of datalink c.setting) (condition_of c store), displaced_withdrawing (packets_of c.queue store)) e
 
   pub withdraws : (q : Queue) (store' : List ℕ) (r : Channel) → Holds (length store) [] q store' → r ≡ with_queue c q c.latest
-      → ServesAnywhere withdraw c store (withdrawn WithdrawAnswer.Withdrawn) r store'
+      → ServesAnywhere withdraw c store (withdrawn (Ok tt)) r store'
   unfolding condition_of channel_after store_after
   withdraws q store' r h e datalink =
       let l = left_with [] q store' c.latest r h e in

@@ -1,5 +1,5 @@
 -- What a call on one channel and its store does, by the rules of a channel's life: the reply, the channel and every byte of the store.
-use Rattle.std.specs.Prelude.{ℕ, ◌<◌, true, cond, List, ◌≡◌, eqb, length}
+use Rattle.std.specs.Prelude.{ℕ, ◌<◌, true, cond, List, ◌≡◌, eqb, length, Result, Ok, Err}
 use Rattle.quantity.specs.declared.count.ByteCount.{ByteCount}
 use Rattle.quantity.specs.declared.count.FlowSequence.{FlowSequence}
 use Rattle.quantity.specs.declared.refusal.Refusal.{Refusal}
@@ -8,15 +8,13 @@ use Rattle.wire.specs.Options.{over}
 use Rattle.store.specs.Packets.{Packet}
 use Rattle.store.specs.Moves.{Stretch, displaced, expiring, sending, withdrawing, unchanging}
 use Rattle.store.specs.Waiting.{packets_of, store_of, well_formed}
-use Rattle.ips_channel_rules.specs.Rules.{ChannelCall, offer, next, withdraw, Taken, taken, Tried, nothing_waiting, not_operational, window_shut, sent, Emptied, emptied, Says, Answer, refused, answered, unless_refused, Terms, longest_on, Result, message_bytes, call_at}
+use Rattle.ips_channel_rules.specs.Rules.{ChannelCall, offer, next, withdraw, Taken, taken, Tried, nothing_waiting, not_operational, window_shut, sent, Emptied, emptied, Says, Answer, refused, answered, unless_refused, Terms, longest_on, AfterCall, message_bytes, call_at}
 use Rattle.ips_channel_rules.specs.Machine.{machine}
 use Rattle.ips_channel.specs.declared.state.DatalinkSetting.{DatalinkSetting}
 use Rattle.ips_channel.specs.declared.state.Channel.{Channel}
 use Rattle.ips_channel.specs.Channel.{terms_under, terms_of, condition_of, with_condition}
-use Rattle.ips_channel_calls.specs.declared.offering.OfferAnswer.{OfferAnswer}
-use Rattle.ips_channel_calls.specs.declared.offering.WithdrawAnswer.{WithdrawAnswer}
 use Rattle.ips_channel_calls.specs.declared.asking.NextAnswer.{NextAnswer}
-use Rattle.ips_channel_calls.specs.declared.asking.NextOutcome.{NextOutcome}
+use Rattle.ips_channel_calls.specs.declared.outcome.CallOutcome.{CallOutcome}
 
 -- ---- each answer of the rules as the code gives it
 
@@ -24,29 +22,29 @@ use Rattle.ips_channel_calls.specs.declared.asking.NextOutcome.{NextOutcome}
 abbrev pub refused_with : ℕ → Refusal
 refused_with number = record { number = number; place = 0 }
 
-abbrev pub offer_answer : Answer Taken → OfferAnswer
-offer_answer (refused number) = OfferAnswer.Refused (refused_with number)
-offer_answer (answered taken) = OfferAnswer.Taken
+abbrev pub offer_answer : Answer Taken → Result (Unit {0}) Refusal
+offer_answer (refused number) = Err (refused_with number)
+offer_answer (answered taken) = Ok tt
 
 -- the same as a byte (document 02, §5): 0 where the packet is taken, else its number of refusal
-abbrev pub number_of : OfferAnswer → ℕ
-number_of OfferAnswer.Taken = 0
-number_of (OfferAnswer.Refused refusal) = refusal.number
+abbrev pub number_of : Result (Unit {0}) Refusal → ℕ
+number_of (Ok tt) = 0
+number_of (Err refusal) = refusal.number
 
 -- and the answer that such a byte says
-unfoldable pub answer_of : ℕ → OfferAnswer
-answer_of number = cond (eqb number 0) OfferAnswer.Taken (OfferAnswer.Refused (refused_with number))
+unfoldable pub answer_of : ℕ → Result (Unit {0}) Refusal
+answer_of number = cond (eqb number 0) (Ok tt) (Err (refused_with number))
 
-abbrev pub next_answer : Terms → Answer Tried → NextAnswer
-next_answer k (refused number) = NextAnswer.Refused (refused_with number)
-next_answer k (answered nothing_waiting) = NextAnswer.NothingWaiting
-next_answer k (answered not_operational) = NextAnswer.NotOperational
-next_answer k (answered window_shut) = NextAnswer.WindowShut
-next_answer k (answered (sent packet sequence)) = NextAnswer.Sent (record { 0 = length (message_bytes k sequence packet) })
+abbrev pub next_answer : Terms → Answer Tried → Result NextAnswer Refusal
+next_answer k (refused number) = Err (refused_with number)
+next_answer k (answered nothing_waiting) = Ok NextAnswer.NothingWaiting
+next_answer k (answered not_operational) = Ok NextAnswer.NotOperational
+next_answer k (answered window_shut) = Ok NextAnswer.WindowShut
+next_answer k (answered (sent packet sequence)) = Ok (NextAnswer.Sent (record { 0 = length (message_bytes k sequence packet) }))
 
-abbrev pub withdraw_answer : Answer Emptied → WithdrawAnswer
-withdraw_answer (refused number) = WithdrawAnswer.Refused (refused_with number)
-withdraw_answer (answered emptied) = WithdrawAnswer.Withdrawn
+abbrev pub withdraw_answer : Answer Emptied → Result (Unit {0}) Refusal
+withdraw_answer (refused number) = Err (refused_with number)
+withdraw_answer (answered emptied) = Ok tt
 
 -- the message over the output's first bytes; all other answers "leave the output's bytes as they stood"
 abbrev pub output_after : Terms → Answer Tried → List ℕ → List ℕ
@@ -58,9 +56,9 @@ output_after k (answered (sent packet sequence)) out = over (message_bytes k seq
 
 -- ---- what the caller gets: the answer, and of Next the output after it
 pub data Reply : Type 0 where
-  offered : OfferAnswer → Reply
-  asked : NextAnswer → (out : List ℕ) → Reply
-  withdrawn : WithdrawAnswer → Reply
+  offered : Result (Unit {0}) Refusal → Reply
+  asked : Result NextAnswer Refusal → (out : List ℕ) → Reply
+  withdrawn : Result (Unit {0}) Refusal → Reply
 
 abbrev pub reply_to : Terms → (call : ChannelCall) → Answer (Says call) → Reply
 reply_to k (offer packet time) answer = offered (offer_answer answer)
@@ -68,10 +66,10 @@ reply_to k (next time out) answer = asked (next_answer k answer) (output_after k
 reply_to k withdraw answer = withdrawn (withdraw_answer answer)
 
 -- ---- what a result leaves of the channel and of its store; a refusal "changes no state and no lent byte"
-unfoldable pub channel_after : {A : Type 0} → Channel → Result machine A → Channel
+unfoldable pub channel_after : {A : Type 0} → Channel → AfterCall machine A → Channel
 channel_after c r = unless_refused r.answer c (with_condition c r.condition)
 
-unfoldable pub store_after : {A : Type 0} → Channel → List ℕ → Result machine A → List ℕ
+unfoldable pub store_after : {A : Type 0} → Channel → List ℕ → AfterCall machine A → List ℕ
 store_after c store r = unless_refused r.answer store (store_of c.setting.size.0 r.condition.keeping)
 
 -- ---- what the calls require and do: number 19 has been tested
@@ -85,10 +83,10 @@ abbrev pub IsLongest : (size longest : ℕ) → Type 0
 IsLongest size longest = (k : Terms) → k.longest ≡ LONGEST-PACKET → k.size ≡ size → longest_on k ≡ longest
 
 -- by the rules
-abbrev pub result_under : (longest : ℕ) → DatalinkSetting → (call : ChannelCall) → Channel → List ℕ → Result machine (Says call)
+abbrev pub result_under : (longest : ℕ) → DatalinkSetting → (call : ChannelCall) → Channel → List ℕ → AfterCall machine (Says call)
 result_under longest datalink call c store = call_at machine (terms_under longest datalink c.setting) call (condition_of c store)
 
-abbrev pub result_of : DatalinkSetting → (call : ChannelCall) → Channel → List ℕ → Result machine (Says call)
+abbrev pub result_of : DatalinkSetting → (call : ChannelCall) → Channel → List ℕ → AfterCall machine (Says call)
 result_of datalink call c store = result_under LONGEST-PACKET datalink call c store
 
 pub record Serves (datalink : DatalinkSetting) (call : ChannelCall) (c : Channel) (store : List ℕ) (reply : Reply) (c' : Channel) (store' : List ℕ) : Type 0 where
@@ -127,7 +125,7 @@ pub record LeftWith (c : Channel) (ps : List Packet) (sequence : FlowSequence) (
   pub store_is : store' ≡ store_of c.setting.size.0 ps
 
 -- with the answer, and the bytes moved where these packets leave
-pub record AnsweredWith (c : Channel) (answer : NextAnswer) (ps : List Packet) (sequence : FlowSequence) (time : ℕ) (stretches : List Stretch) (r : NextOutcome) (store' : List ℕ) : Type 0 where
+pub record AnsweredWith (c : Channel) (answer : Result NextAnswer Refusal) (ps : List Packet) (sequence : FlowSequence) (time : ℕ) (stretches : List Stretch) (r : CallOutcome NextAnswer) (store' : List ℕ) : Type 0 where
   pub answer_is : r.answer ≡ answer
   pub left : LeftWith c ps sequence time r.channel store'
   pub moved_is : r.moved ≡ record { 0 = displaced stretches }

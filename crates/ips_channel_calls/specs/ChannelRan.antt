@@ -1,6 +1,5 @@
 -- One channel with its own store, as the code is called: any calls and radio messages, one after the other, each with whatever outcome its contract allows.
-use Rattle.std.specs.Prelude.{ℕ, ◌≡◌, List, [], ◌∷◌}
-use Rattle.meaning.specs.declared.message.Status.{Status}
+use Rattle.std.specs.Prelude.{ℕ, ◌≡◌, List, [], ◌∷◌, Option}
 use Rattle.meaning.specs.declared.message.Window.{Window}
 use Rattle.ips_channel_rules.specs.Rules.{ChannelCall, Event, call, radio, Happened, called, heard, Terms}
 use Rattle.ips_channel.specs.declared.state.DatalinkSetting.{DatalinkSetting}
@@ -13,7 +12,7 @@ pub data ChannelRan (datalink : DatalinkSetting) : Channel → List ℕ → List
   over : {c : Channel} {store : List ℕ} → ChannelRan datalink c store [] [] c store
   served : {c c' d : Channel} {store store' last : List ℕ} {es : List Event} {replies : List Reply} {x : ChannelCall} {reply : Reply}
       → Serves datalink x c store reply c' store' → ChannelRan datalink c' store' es replies d last → ChannelRan datalink c store (call x ∷ es) (reply ∷ replies) d last
-  told : {c c' d : Channel} {store last : List ℕ} {es : List Event} {replies : List Reply} {status : Status} {window : Window} → c' ≡ heard_of c status window
+  told : {c c' d : Channel} {store last : List ℕ} {es : List Event} {replies : List Reply} {status : Option ℕ} {window : Option Window} → c' ≡ heard_of c status window
       → ChannelRan datalink c' store es replies d last → ChannelRan datalink c store (radio status window ∷ es) replies d last
 
 -- the replies to what happened by the rules; nobody gets one for a radio message

@@ -1,4 +1,5 @@
 -- The channel that counts in words of 32 bits and keeps only what waits agrees with the simple one, whatever is called. Assumes nothing.
+use Rattle.std.specs.Prelude.{Option, Some, None}
 use Prim.Native.Nat.{ℕ, ◌^◌, ◌<◌}
 use mathlib.Core.Bool.{Bool, true, false, cond}
 use mathlib.Core.List.{List, [], ◌∷◌, ◌++◌, map, tail}
@@ -10,7 +11,6 @@ use Rattle.quantity.specs.declared.count.FlowSequence.{FlowSequence}
 use Rattle.quantity.specs.declared.count.ByteCount.{ByteCount}
 use Rattle.quantity.specs.Window.{sequence_at}
 use Rattle.quantity.proofs.Window.{fits_is, stands_on, standing_stands, advance_is, sequence_start}
-use Rattle.meaning.specs.declared.message.Status.{Status}
 use Rattle.meaning.specs.declared.message.Window.{Window}
 use Rattle.store.specs.Packets.{Packet, lasts_at, lasting, alive, is_full}
 use Rattle.flow.specs.declared.Flow.{Flow}
@@ -49,10 +49,10 @@ carried_flow c _ _ both_none = refl
 carried_flow c _ _ (both_in_force h) = refl
 
 -- "the number a window stands for is fixed when the window arrives"
-hear_flow : (c : ℕ) (w : Window) → SameFlow c (flow_after w) (limit_at c w)
-hear_flow c Window.Absent = both_free
-hear_flow c Window.Empty = both_none
-hear_flow c (Window.Given w) = both_in_force (standing_stands c w)
+hear_flow : (c : ℕ) (w : Option Window) → SameFlow c (flow_after w) (limit_at c w)
+hear_flow c None = both_free
+hear_flow c (Some Window.Empty) = both_none
+hear_flow c (Some (Window.Given w)) = both_in_force (standing_stands c w)
 
 module _ (m : WordCounter) (x : Counter) (h : Counts m x) where
   fits_counts : (n : ByteCount) → machine.fits m n ≡ simple.fits x n
@@ -64,7 +64,7 @@ module _ (m : WordCounter) (x : Counter) (h : Counts m x) where
   carried_counts : machine.carried m ≡ simple.carried x
   carried_counts = rw h.sequence (carried_flow x.count _ _ h.flow)
 
-  hear_counts : (w : Window) → Counts (machine.hear w m) (simple.hear w x)
+  hear_counts : (w : Option Window) → Counts (machine.hear w m) (simple.hear w x)
   hear_counts w = record { sequence = h.sequence; flow = hear_flow x.count w }
 
 -- ---- what waits
@@ -114,7 +114,7 @@ agrees _ _ (related m r) = record { sequence = m.sequence; flow = m.flow; waitin
 
 agreed : (c : Condition machine) (s : Condition simple) → Agrees c s → Related alike c s
 agreed c s h =
-    subst (λ (y : Status). Related alike c (record { counting = s.counting; keeping = s.keeping; status = y; latest = s.latest })) h.status
+    subst (λ (y : Option ℕ). Related alike c (record { counting = s.counting; keeping = s.keeping; status = y; latest = s.latest })) h.status
     (subst (λ (t : ℕ). Related alike c (record { counting = s.counting; keeping = s.keeping; status = c.status; latest = t })) h.latest
     (related (record { sequence = h.sequence; flow = h.flow }) h.waiting))
 

@@ -1,4 +1,6 @@
 -- Two channels of alike parts answer alike, whatever is called. Assumes nothing.
+use Rattle.std.specs.Prelude.{Option}
+use Rattle.quantity.specs.declared.count.FlowSequence.{FlowSequence}
 use Prim.Native.Nat.{ℕ}
 use mathlib.Core.Bool.{Bool, true, false, cond, not}
 use mathlib.Core.List.{List, [], ◌∷◌}
@@ -7,14 +9,12 @@ use lib.ListN.{length}
 use lib.Dec.{leb, ltb}
 use borrow.Author.Tests.{not-false}
 use Rattle.quantity.specs.declared.count.ByteCount.{ByteCount}
-use Rattle.meaning.specs.declared.message.Status.{Status}
-use Rattle.meaning.specs.declared.message.Sequence.{Sequence}
 use Rattle.meaning.specs.declared.message.Window.{Window}
 use Rattle.meaning.specs.Statuses.{operational}
 use Rattle.writer.specs.Written.{no_room_of}
 use Rattle.store.specs.Packets.{Packet}
 use Rattle.ipv6.specs.Ipv6.{is_ipv6}
-use Rattle.ips_channel_rules.specs.Rules.{ChannelCall, offer, next, withdraw, sent, answered, Event, call, radio, called, Terms, ChannelParts, Condition, Result, message_bytes, offer_at, try_first, next_at, withdraw_at, radio_at, call_at, step, happens, history, final}
+use Rattle.ips_channel_rules.specs.Rules.{ChannelCall, offer, next, withdraw, sent, answered, Event, call, radio, called, Terms, ChannelParts, Condition, AfterCall, message_bytes, offer_at, try_first, next_at, withdraw_at, radio_at, call_at, step, happens, history, final}
 
 -- a relation of how the two count and one of what they keep, which every part keeps up; what is counted is alike where it might go
 pub record Alike (A B : ChannelParts) : Type 1 where
@@ -23,7 +23,7 @@ pub record Alike (A B : ChannelParts) : Type 1 where
   pub fits_same : (x : A.Counting) (y : B.Counting) → Counts x y → (n : ByteCount) → A.fits x n ≡ B.fits y n
   pub grow_on : (x : A.Counting) (y : B.Counting) → Counts x y → (n : ByteCount) → A.fits x n ≡ true → Counts (A.grow n x) (B.grow n y)
   pub carried_same : (x : A.Counting) (y : B.Counting) → Counts x y → A.carried x ≡ B.carried y
-  pub hear_on : (x : A.Counting) (y : B.Counting) → Counts x y → (w : Window) → Counts (A.hear w x) (B.hear w y)
+  pub hear_on : (x : A.Counting) (y : B.Counting) → Counts x y → (w : Option Window) → Counts (A.hear w x) (B.hear w y)
   pub waiting_same : (a : A.Keeping) (b : B.Keeping) → Keeps a b → A.waiting a ≡ B.waiting b
   pub expire_on : (a : A.Keeping) (b : B.Keeping) → Keeps a b → (time : ℕ) → Keeps (A.expire time a) (B.expire time b)
   pub join_on : (a : A.Keeping) (b : B.Keeping) → Keeps a b → (p : Packet) → Keeps (A.join p a) (B.join p b)
@@ -35,20 +35,20 @@ pub record Alike (A B : ChannelParts) : Type 1 where
 module _ {A B : ChannelParts} (L : Alike A B) where
   -- the parts are related, status and latest time the same
   pub data Related : Condition A → Condition B → Type 0 where
-    related : {x : A.Counting} {y : B.Counting} {a : A.Keeping} {b : B.Keeping} {status : Status} {latest : ℕ} → L.Counts x y → L.Keeps a b
+    related : {x : A.Counting} {y : B.Counting} {a : A.Keeping} {b : B.Keeping} {status : Option ℕ} {latest : ℕ} → L.Counts x y → L.Keeps a b
         → Related (record { counting = x; keeping = a; status = status; latest = latest }) (record { counting = y; keeping = b; status = status; latest = latest })
 
-  pub record Same {X : Type 0} (r : Result A X) (q : Result B X) : Type 0 where
+  pub record Same {X : Type 0} (r : AfterCall A X) (q : AfterCall B X) : Type 0 where
     pub answer : r.answer ≡ q.answer
     pub condition : Related r.condition q.condition
 
   -- both go by one test
-  cond_same : {X : Type 0} (t : Bool) {u v : Result A X} {u' v' : Result B X} → Same u u' → Same v v' → Same (cond t u v) (cond t u' v')
+  cond_same : {X : Type 0} (t : Bool) {u v : AfterCall A X} {u' v' : AfterCall B X} → Same u u' → Same v v' → Same (cond t u v) (cond t u' v')
   cond_same true p q = p
   cond_same false p q = q
 
   -- each goes by its own test, and the two tests tell the same
-  cond_alike : {X : Type 0} (t t' : Bool) → t ≡ t' → {u v : Result A X} {u' v' : Result B X} → Same u u' → (t ≡ false → Same v v') → Same (cond t u v) (cond t' u' v')
+  cond_alike : {X : Type 0} (t t' : Bool) → t ≡ t' → {u v : AfterCall A X} {u' v' : AfterCall B X} → Same u u' → (t ≡ false → Same v v') → Same (cond t u v) (cond t' u' v')
   cond_alike t t' e {u} {v} {u'} {v'} p q = subst (λ (k : Bool). Same (cond t u v) (cond k u' v')) e (by t q)
     where
       by : (k : Bool) → (k ≡ false → Same v v') → Same (cond k u v) (cond k u' v')
@@ -56,7 +56,7 @@ module _ {A B : ChannelParts} (L : Alike A B) where
       by false f = f refl
 
   module _ (k : Terms) where
-    module _ (x : A.Counting) (y : B.Counting) (a : A.Keeping) (b : B.Keeping) (status : Status) (latest : ℕ) (m : L.Counts x y) (r : L.Keeps a b) where
+    module _ (x : A.Counting) (y : B.Counting) (a : A.Keeping) (b : B.Keeping) (status : Option ℕ) (latest : ℕ) (m : L.Counts x y) (r : L.Keeps a b) where
       abbrev here : Condition A
       here = record { counting = x; keeping = a; status = status; latest = latest }
 
@@ -85,8 +85,8 @@ module _ {A B : ChannelParts} (L : Alike A B) where
           (cond_alike _ _ (ap not (L.fits_same x y m n)) (record { answer = refl; condition = related m gone })
           (λ f. let grown = L.grow_on x y m n (not-false _ f) in
           let c = L.carried_same _ _ grown in
-          cond_alike _ _ (ap (λ (q : Sequence). no_room_of (length (message_bytes k q p.bytes)) room) c) (record { answer = refl; condition = related m r })
-          (λ g. record { answer = ap (λ (q : Sequence). answered (sent p.bytes q)) c; condition = related grown (L.send_on _ _ gone) })))
+          cond_alike _ _ (ap (λ (q : Option FlowSequence). no_room_of (length (message_bytes k q p.bytes)) room) c) (record { answer = refl; condition = related m r })
+          (λ g. record { answer = ap (λ (q : Option FlowSequence). answered (sent p.bytes q)) c; condition = related grown (L.send_on _ _ gone) })))
 
       tried_same : (time room : ℕ)
           → Same (try_first A k (A.waiting (A.expire time a)) time room here) (try_first B k (B.waiting (B.expire time b)) time room there)
@@ -96,7 +96,7 @@ module _ {A B : ChannelParts} (L : Alike A B) where
       unfolding next_at
       next_same time room = cond_same (ltb time latest) (record { answer = refl; condition = related m r }) (tried_same time room)
 
-      heard_same : (controlled : Bool) (w : Window) → L.Counts (cond controlled (A.hear w x) x) (cond controlled (B.hear w y) y)
+      heard_same : (controlled : Bool) (w : Option Window) → L.Counts (cond controlled (A.hear w x) x) (cond controlled (B.hear w y) y)
       heard_same true w = L.hear_on x y m w
       heard_same false w = m
 

@@ -1,4 +1,5 @@
 -- What Offer and Next do, case by case in the order of the tests, in plain numbers, of whatever parts a channel is made of. Assumes nothing.
+use Rattle.std.specs.Prelude.{Option, Some, None}
 use Prim.Native.Nat.{ℕ, ◌+◌, ◌≤◌, ◌<◌}
 use mathlib.Core.Bool.{Bool, true, false, or-true}
 use mathlib.Core.List.{List, [], ◌∷◌}
@@ -9,7 +10,6 @@ use lib.ListN.{length, length-append}
 use lib.Dec.{ltb}
 use borrow.Author.Tests.{lt-ltb, le-ltb}
 use Rattle.quantity.specs.declared.count.FlowSequence.{FlowSequence}
-use Rattle.meaning.specs.declared.message.Sequence.{Sequence}
 use Rattle.meaning.specs.StatusKinds.{MaySend}
 use Rattle.meaning.proofs.StatusKinds.{operational_exactly}
 use Rattle.wire.specs.Numbers.{bytes_of}
@@ -18,7 +18,7 @@ use Rattle.writer.specs.Written.{data_options, data_written, no_room_of}
 use Rattle.store.specs.Packets.{Packet}
 use Rattle.ipv6.specs.FixedHeader.{FixedHeader}
 use Rattle.ipv6.proofs.FixedHeader.{ipv6_exactly}
-use Rattle.ips_channel_rules.specs.Rules.{taken, Tried, nothing_waiting, not_operational, window_shut, sent, Terms, ChannelParts, Condition, Result, message_bytes, refusal, left, grown, offer_at, next_at}
+use Rattle.ips_channel_rules.specs.Rules.{taken, Tried, nothing_waiting, not_operational, window_shut, sent, Terms, ChannelParts, Condition, AfterCall, message_bytes, refusal, left, grown, offer_at, next_at}
 use Rattle.ips_channel_rules.specs.Limits.{NoPlace, TooLong, Limited}
 use Rattle.ips_channel_rules.specs.FlowCases.{IsFree, IsShut, IsUnder}
 use Rattle.ips_channel_rules.proofs.Limits.{both_short, place_empty}
@@ -63,11 +63,11 @@ module _ (P : ChannelParts) (limited : Limited P) (k : Terms) (p : Packet) (time
           offer_where_none_waits w = offer_joins (place_empty P limited k p time st w room)
 
 -- ---- how long Next's message is: the header of 1 byte, Datalink Identifier and Channel Identifier of 4 each, and 3 before the packet; a Flow Sequence takes 8 more
-pub size_free : (k : Terms) (packet : List ℕ) → length (message_bytes k Sequence.Absent packet) ≡ 12 + length packet
+pub size_free : (k : Terms) (packet : List ℕ) → length (message_bytes k None packet) ≡ 12 + length packet
 unfolding message_bytes data_written data_options bytes option_bytes bytes_of
 size_free k packet = simp length-append (omega arith)
 
-pub size_under : (k : Terms) (s : FlowSequence) (packet : List ℕ) → length (message_bytes k (Sequence.Given s) packet) ≡ 20 + length packet
+pub size_under : (k : Terms) (s : FlowSequence) (packet : List ℕ) → length (message_bytes k (Some s) packet) ≡ 20 + length packet
 unfolding message_bytes data_written data_options bytes option_bytes bytes_of
 size_under k s packet = simp length-append (omega arith)
 
@@ -85,7 +85,7 @@ module _ (P : ChannelParts) (k : Terms) (time room : ℕ) (st : Condition P) whe
   next_fifteen = next_early P k time room st
 
   -- the packets stay that aren't due, and this is answered
-  abbrev keeps : Tried → Result P Tried
+  abbrev keeps : Tried → AfterCall P Tried
   keeps says = left P says st.counting (P.expire time st.keeping) time st
 
   module _ (t : st.latest ≤ time) where
@@ -99,10 +99,10 @@ module _ (P : ChannelParts) (k : Terms) (time room : ℕ) (st : Condition P) whe
 
       module _ (up : MaySend k.codes.0 st.status) where
         -- the first packet goes, with this Flow Sequence or none, and this is counted
-        abbrev goes : Sequence → P.Counting → Result P Tried
+        abbrev goes : Option FlowSequence → P.Counting → AfterCall P Tried
         goes sequence counted = left P (sent p.bytes sequence) counted (P.send (P.expire time st.keeping)) time st
 
-        module _ (sequence : Sequence) (counted : P.Counting) (size : ℕ) (fits : P.fits st.counting (record { 0 = length p.bytes }) ≡ true)
+        module _ (sequence : Option FlowSequence) (counted : P.Counting) (size : ℕ) (fits : P.fits st.counting (record { 0 = length p.bytes }) ≡ true)
             (counts : grown P p.bytes st ≡ counted) (carries : P.carried counted ≡ sequence) (long : length (message_bytes k sequence p.bytes) ≡ size) where
           with_room : size ≤ room → size ≤ 65507 → next_at P k time room st ≡ goes sequence counted
           with_room h i =
@@ -115,7 +115,7 @@ module _ (P : ChannelParts) (k : Terms) (time room : ℕ) (st : Condition P) whe
 
         -- free: any packet goes, if the output has 12 bytes more than it
         module _ (free : IsFree P st.counting) where
-          pub next_free : 12 + length p.bytes ≤ room → 12 + length p.bytes ≤ 65507 → next_at P k time room st ≡ goes Sequence.Absent st.counting
+          pub next_free : 12 + length p.bytes ≤ room → 12 + length p.bytes ≤ 65507 → next_at P k time room st ≡ goes None st.counting
           next_free = with_room _ _ _ (free.goes _) (free.counted _) free.carried (size_free k p.bytes)
 
           pub next_free_eighteen : (room < 12 + length p.bytes) ⊎ (65507 < 12 + length p.bytes) → next_at P k time room st ≡ refusal P 18 st
@@ -128,7 +128,7 @@ module _ (P : ChannelParts) (k : Terms) (time room : ℕ) (st : Condition P) whe
         -- under a window: a packet goes exactly when it may, if the output has 20 bytes more than it
         module _ (May : Type 0) (counted : P.Counting) (word : ℕ) (under : IsUnder P st.counting (length p.bytes) May counted word) where
           pub next_under : May → 20 + length p.bytes ≤ room → 20 + length p.bytes ≤ 65507
-              → next_at P k time room st ≡ goes (Sequence.Given (record { 0 = word })) counted
+              → next_at P k time room st ≡ goes (Some (record { 0 = word })) counted
           next_under may = with_room _ _ _ (under.goes.1 may) under.counted under.carried (size_under k (record { 0 = word }) p.bytes)
 
           pub next_under_eighteen : May → (room < 20 + length p.bytes) ⊎ (65507 < 20 + length p.bytes) → next_at P k time room st ≡ refusal P 18 st

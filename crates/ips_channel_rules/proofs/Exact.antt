@@ -1,5 +1,6 @@
 -- Each answer is given exactly when the paper says so, for any parts that a channel is made of: given the conditions, in the order of the tests, the whole result;
 -- and the other way, `exactly`: given a result, the conditions. Assumes nothing.
+use Rattle.std.specs.Prelude.{Option}
 use Prim.Native.Nat.{ℕ, ◌≤◌, ◌<◌}
 use mathlib.Core.Bool.{Bool, true, false, cond}
 use mathlib.Core.List.{List, [], ◌∷◌}
@@ -7,13 +8,12 @@ use mathlib.Core.Path.{◌≡◌, refl}
 use lib.ListN.{length}
 use borrow.Author.Tests.{ltb-true, ltb-false, leb-true, leb-false, not-true, not-false, lt-ltb, le-ltb, le-leb, lt-leb}
 use Rattle.quantity.specs.Refusals.{NOT-IPV6, LONG-PACKET, EARLIER-TIME, EXPIRY-PAST, FULL, NO-ROOM}
-use Rattle.meaning.specs.declared.message.Status.{Status}
 use Rattle.meaning.specs.declared.message.Window.{Window}
 use Rattle.meaning.specs.Statuses.{operational}
 use Rattle.writer.specs.Written.{no_room_of}
 use Rattle.store.specs.Packets.{Packet}
 use Rattle.ipv6.specs.Ipv6.{is_ipv6}
-use Rattle.ips_channel_rules.specs.Rules.{ChannelCall, offer, next, withdraw, Taken, taken, Tried, nothing_waiting, not_operational, window_shut, sent, emptied, Terms, ChannelParts, Condition, Result, message_bytes, refusal, left, grown, offer_at, try_first, next_at, withdraw_at, radio_at, call_at}
+use Rattle.ips_channel_rules.specs.Rules.{ChannelCall, offer, next, withdraw, Taken, taken, Tried, nothing_waiting, not_operational, window_shut, sent, emptied, Terms, ChannelParts, Condition, AfterCall, message_bytes, refusal, left, grown, offer_at, try_first, next_at, withdraw_at, radio_at, call_at}
 use Rattle.ips_channel_rules.specs.Exactly.{Offered, offered_not_ipv6, offered_long, offered_early, offered_past, offered_full, offered_taken, Asked, asked_early, asked_nothing, asked_not_operational, asked_shut, asked_no_room, asked_sent, Exactly}
 
 module _ (P : ChannelParts) (k : Terms) where
@@ -104,7 +104,7 @@ module _ (P : ChannelParts) (k : Terms) where
   withdraw_is st = refl
 
   -- "a configured channel that it names takes its Status; one that it doesn't name is not reported"
-  pub radio_is : (status : Status) (window : Window) (st : Condition P)
+  pub radio_is : (status : Option ℕ) (window : Option Window) (st : Condition P)
       → radio_at P k status window st
       ≡ record { counting = cond k.controlled (P.hear window st.counting) st.counting; keeping = st.keeping; status = status; latest = st.latest }
   unfolding radio_at
@@ -114,7 +114,7 @@ module _ (P : ChannelParts) (k : Terms) where
 
   module _ (p : Packet) (time : ℕ) (st : Condition P) where
     -- a test, with what it tells in each case
-    offered_by : (t : Bool) {u v : Result P Taken} → (t ≡ true → Offered P k p time st u) → (t ≡ false → Offered P k p time st v) → Offered P k p time st (cond t u v)
+    offered_by : (t : Bool) {u v : AfterCall P Taken} → (t ≡ true → Offered P k p time st u) → (t ≡ false → Offered P k p time st v) → Offered P k p time st (cond t u v)
     offered_by true f g = f refl
     offered_by false f g = g refl
 
@@ -129,7 +129,7 @@ module _ (P : ChannelParts) (k : Terms) where
         (λ f. offered_taken (not-false _ v) (ltb-false _ _ l) (ltb-false _ _ t) (leb-false _ _ x) f)))))
 
   module _ (time room : ℕ) (st : Condition P) where
-    asked_by_lem : (t : Bool) {u v : Result P Tried} → (t ≡ true → Asked P k time room st u) → (t ≡ false → Asked P k time room st v) → Asked P k time room st (cond t u v)
+    asked_by_lem : (t : Bool) {u v : AfterCall P Tried} → (t ≡ true → Asked P k time room st u) → (t ≡ false → Asked P k time room st v) → Asked P k time room st (cond t u v)
     asked_by_lem true f g = f refl
     asked_by_lem false f g = g refl
 

@@ -5,7 +5,7 @@ use mathlib.Core.List.{List, [], ◌∷◌, ◌++◌, map, append-nil}
 use mathlib.Core.Path.{refl, subst}
 use lib.ListN.{length}
 use Rattle.store.specs.Packets.{Packet}
-use Rattle.ips_channel_rules.specs.Rules.{ChannelCall, offer, next, withdraw, Taken, Tried, refused, answered, Event, call, radio, Happened, called, heard, Terms, Condition, Result, withdraw_at, radio_at, step, happens, final}
+use Rattle.ips_channel_rules.specs.Rules.{ChannelCall, offer, next, withdraw, Taken, Tried, refused, answered, Event, call, radio, Happened, called, heard, Terms, Condition, AfterCall, withdraw_at, radio_at, step, happens, final}
 use Rattle.ips_channel_rules.specs.Simple as simples
 use Rattle.ips_channel_rules.specs.Simple.{Fate, waits, expired, withdrawn, Entry, is_waiting, become, due, send_first, simple}
 use Rattle.ips_channel_rules.specs.Fates.{by_time, becomes, comes, Settled, behind, had, gets, goes, Settles}
@@ -47,7 +47,7 @@ settled_clear =
     (λ p es h first. gets refl (h (first && true))) (λ p es h first. had refl (h first)) (λ p es h first. had refl (h first)) (λ p es h first. had refl (h first))
 
 module _ (k : Terms) where
-  settled_offer : (p : Packet) (time : ℕ) (st : Condition simple) (r : Result simple Taken) → Offered simple k p time st r
+  settled_offer : (p : Packet) (time : ℕ) (st : Condition simple) (r : AfterCall simple Taken) → Offered simple k p time st r
       → Settles (called (offer p time) r.answer) st.keeping r.condition.keeping
   settled_offer p time st _ (offered_not_ipv6 v) = refl
   settled_offer p time st _ (offered_long v l) = refl
@@ -56,7 +56,7 @@ module _ (k : Terms) where
   settled_offer p time st _ (offered_full v l t x f) = refl
   settled_offer p time st _ (offered_taken v l t x f) = settled_join (offer p time) (due time) (due_by_time time) (entry p waits ∷ []) (refl, x) st.keeping true
 
-  settled_next : (time : ℕ) (out : List ℕ) (st : Condition simple) (r : Result simple Tried) → Asked simple k time (length out) st r
+  settled_next : (time : ℕ) (out : List ℕ) (st : Condition simple) (r : AfterCall simple Tried) → Asked simple k time (length out) st r
       → Settles (called (next time out) r.answer) st.keeping r.condition.keeping
   settled_next time out st _ (asked_early t) = refl
   settled_next time out st _ (asked_nothing t w) = settled_aged time out st.keeping true

@@ -1,4 +1,5 @@
 -- The three flow states case by case, for the code's parts and for the simple ones; what a Flow Window option makes of them; what fresh is. Assumes nothing.
+use Rattle.std.specs.Prelude.{Option, None}
 use Prim.Native.Nat.{ℕ, suc, ◌+◌, ◌-◌, ◌%◌, ◌^◌, ◌≤◌, ◌<◌}
 use mathlib.Core.Bool.{true, false}
 use mathlib.Core.List.{[]}
@@ -13,8 +14,6 @@ use Rattle.quantity.specs.declared.count.FlowSequence.{FlowSequence}
 use Rattle.quantity.specs.declared.count.FlowWindow.{FlowWindow}
 use Rattle.quantity.specs.Distance.{ahead_of, distance_of, fits_of}
 use Rattle.quantity.specs.Window.{sequence_at, standing_at}
-use Rattle.meaning.specs.declared.message.Status.{Status}
-use Rattle.meaning.specs.declared.message.Status.TheVariants as statuses
 use Rattle.meaning.specs.declared.message.Window.{Window}
 use Rattle.flow.specs.declared.Flow.{Flow}
 use Rattle.ips_channel_rules.specs.Rules.{Terms, ChannelParts, Condition, radio_at}
@@ -118,15 +117,15 @@ number_simple c w z h = by_le 2147483648 m (behind z h) (ahead z h)
 
 -- ---- what a radio control message makes of it
 
-module _ (k : Terms) (controlled : k.controlled ≡ true) (status : Status) where
-  pub heard_words_lem : (window : Window) (flow : Flow) → MakesFlow window flow
+module _ (k : Terms) (controlled : k.controlled ≡ true) (status : Option ℕ) where
+  pub heard_words_lem : (window : Option Window) (flow : Flow) → MakesFlow window flow
       → (st : Condition machine) → radio_at machine k status window st ≡ heard_as machine status (record { flow = flow; sequence = st.counting.sequence }) st
   unfolding radio_at
   heard_words_lem _ _ absent_frees st = rw controlled
   heard_words_lem _ _ empty_shuts st = rw controlled
   heard_words_lem _ _ given_in_force st = rw controlled
 
-  pub heard_simple : (st : Condition simple) (window : Window) (limit : Limit) → MakesLimit st.counting.count window limit
+  pub heard_simple : (st : Condition simple) (window : Option Window) (limit : Limit) → MakesLimit st.counting.count window limit
       → radio_at simple k status window st ≡ heard_as simple status (record { count = st.counting.count; limit = limit }) st
   unfolding radio_at
   heard_simple st _ _ absent_unlimits = rw controlled
@@ -134,7 +133,7 @@ module _ (k : Terms) (controlled : k.controlled ≡ true) (status : Status) wher
   heard_simple st _ _ (given_limits {window = w} {number = z} h) = rw (controlled, number_simple st.counting.count w z h)
 
 -- "Plain channels are always free.": of a plain one it makes nothing else
-pub heard_plain : (P : ChannelParts) (k : Terms) → k.controlled ≡ false → (status : Status) (window : Window) (st : Condition P)
+pub heard_plain : (P : ChannelParts) (k : Terms) → k.controlled ≡ false → (status : Option ℕ) (window : Option Window) (st : Condition P)
     → radio_at P k status window st ≡ heard_as P status st.counting st
 unfolding radio_at
 heard_plain P k plain status window st = rw plain
@@ -142,12 +141,12 @@ heard_plain P k plain status window st = rw plain
 -- ---- "fresh: not reported", "Plain channels are always free. Fresh flow-controlled channels have no window.", "Latest time .. 0 when fresh"
 
 pub fresh_words_lem : (first : FlowSequence)
-    → (fresh_machine true first ≡ record { counting = record { flow = Flow.NoWindow; sequence = first }; keeping = []; status = statuses.Absent; latest = 0 })
-    × (fresh_machine false first ≡ record { counting = record { flow = Flow.Free; sequence = first }; keeping = []; status = statuses.Absent; latest = 0 })
+    → (fresh_machine true first ≡ record { counting = record { flow = Flow.NoWindow; sequence = first }; keeping = []; status = None; latest = 0 })
+    × (fresh_machine false first ≡ record { counting = record { flow = Flow.Free; sequence = first }; keeping = []; status = None; latest = 0 })
 fresh_words_lem first = (refl, refl)
 
 -- "The count that never wraps starts as the configured first sequence"
 pub fresh_simple_lem : (first : FlowSequence)
-    → (fresh_simple true first ≡ record { counting = record { count = first.0; limit = none }; keeping = []; status = statuses.Absent; latest = 0 })
-    × (fresh_simple false first ≡ record { counting = record { count = first.0; limit = free }; keeping = []; status = statuses.Absent; latest = 0 })
+    → (fresh_simple true first ≡ record { counting = record { count = first.0; limit = none }; keeping = []; status = None; latest = 0 })
+    × (fresh_simple false first ≡ record { counting = record { count = first.0; limit = free }; keeping = []; status = None; latest = 0 })
 fresh_simple_lem first = (refl, refl)

@@ -1,14 +1,14 @@
 -- What a step leaves, with less of the reason: the cases of `Offered` and `Asked`, and the other events, that a law of the ledger or of the count has to tell apart. Assumes
 -- nothing.
+use Rattle.std.specs.Prelude.{Option}
 use Prim.Native.Nat.{ℕ, ◌≤◌, ◌<◌}
 use mathlib.Core.Bool.{true, cond}
 use mathlib.Core.List.{List, [], ◌∷◌, ◌++◌}
 use mathlib.Core.Path.{◌≡◌, refl}
 use lib.ListN.{length}
-use Rattle.meaning.specs.declared.message.Status.{Status}
 use Rattle.meaning.specs.declared.message.Window.{Window}
 use Rattle.store.specs.Packets.{Packet}
-use Rattle.ips_channel_rules.specs.Rules.{ChannelCall, offer, next, withdraw, Taken, taken, Tried, sent, emptied, refused, answered, Event, call, radio, Happened, called, heard, Terms, ChannelParts, Condition, Result, left, grown, withdraw_at, radio_at, step, happens, final}
+use Rattle.ips_channel_rules.specs.Rules.{ChannelCall, offer, next, withdraw, Taken, taken, Tried, sent, emptied, refused, answered, Event, call, radio, Happened, called, heard, Terms, ChannelParts, Condition, AfterCall, left, grown, withdraw_at, radio_at, step, happens, final}
 use Rattle.ips_channel_rules.specs.Account.{sent_by}
 use Rattle.ips_channel_rules.specs.Exactly.{Offered, offered_not_ipv6, offered_long, offered_early, offered_past, offered_full, offered_taken, Asked, asked_early, asked_nothing, asked_not_operational, asked_shut, asked_no_room, asked_sent}
 use Rattle.ips_channel_rules.proofs.Exact.{offered, asked}
@@ -29,11 +29,11 @@ module _ (P : ChannelParts) (k : Terms) where
         (left P emptied (grown P p.bytes st) (P.send (P.expire time st.keeping)) time st).condition
     clears : {st : Condition P}
         → Leaves (call withdraw) st (called withdraw (answered emptied)) (left P emptied st.counting (P.clear st.keeping) st.latest st).condition
-    hears : {status : Status} {window : Window} {st : Condition P}
+    hears : {status : Option ℕ} {window : Option Window} {st : Condition P}
         → Leaves (radio status window) st (heard status window)
         (record { counting = cond k.controlled (P.hear window st.counting) st.counting; keeping = st.keeping; status = status; latest = st.latest })
 
-  by_offer : (p : Packet) (time : ℕ) (st : Condition P) (r : Result P Taken) → Offered P k p time st r
+  by_offer : (p : Packet) (time : ℕ) (st : Condition P) (r : AfterCall P Taken) → Offered P k p time st r
       → Leaves (call (offer p time)) st (called (offer p time) r.answer) r.condition
   by_offer p time st _ (offered_not_ipv6 v) = stays
   by_offer p time st _ (offered_long v l) = stays
@@ -42,7 +42,7 @@ module _ (P : ChannelParts) (k : Terms) where
   by_offer p time st _ (offered_full v l t x f) = stays
   by_offer p time st _ (offered_taken v l t x f) = joins t x
 
-  by_next : (time : ℕ) (out : List ℕ) (st : Condition P) (r : Result P Tried) → Asked P k time (length out) st r
+  by_next : (time : ℕ) (out : List ℕ) (st : Condition P) (r : AfterCall P Tried) → Asked P k time (length out) st r
       → Leaves (call (next time out)) st (called (next time out) r.answer) r.condition
   by_next time out st _ (asked_early t) = stays
   by_next time out st _ (asked_nothing t w) = looks refl t

@@ -10,7 +10,7 @@ use lib.Dec.{leb}
 use borrow.Author.Tests.{ltb-true, le-leb, lt-leb, lt-ltb}
 use Rattle.facts.proofs.Tests.{by_le}
 use Rattle.store.specs.Packets.{Packet, joined, is_full}
-use Rattle.ips_channel_rules.specs.Rules.{offer, Taken, refused, Terms, ChannelParts, Condition, Result, call_at}
+use Rattle.ips_channel_rules.specs.Rules.{offer, Taken, refused, Terms, ChannelParts, Condition, AfterCall, call_at}
 use Rattle.ips_channel_rules.specs.Machine.{machine}
 use Rattle.ips_channel_rules.specs.Simple.{simple, is_waiting, having}
 use Rattle.ips_channel_rules.specs.Limits.{waiting_bytes, NoPlace, TooLong, Limited}
@@ -77,7 +77,7 @@ module _ (P : ChannelParts) (limited : Limited P) (k : Terms) (n : ℕ) where
 
 module _ (P : ChannelParts) (limited : Limited P) (k : Terms) (p : Packet) (time : ℕ) (st : Condition P) where
   -- what 17 tells: no longer than the longest, and no place
-  full_when : (r : Result P Taken) → Offered P k p time st r → r.answer ≡ refused 17 → (length p.bytes ≤ P.longest k) × (P.full k (P.expire time st.keeping) p ≡ true)
+  full_when : (r : AfterCall P Taken) → Offered P k p time st r → r.answer ≡ refused 17 → (length p.bytes ≤ P.longest k) × (P.full k (P.expire time st.keeping) p ≡ true)
   full_when _ (offered_not_ipv6 v) e = let is : ◌≡◌ {A = ℕ} 13 17 = cc in absurd (omega arith)
   full_when _ (offered_long v l) e = let is : ◌≡◌ {A = ℕ} 14 17 = cc in absurd (omega arith)
   full_when _ (offered_early v l t) e = let is : ◌≡◌ {A = ℕ} 15 17 = cc in absurd (omega arith)

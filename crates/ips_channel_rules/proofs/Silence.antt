@@ -1,15 +1,15 @@
 -- A silence, in the words of document 02, §1: what it changes of a channel, what it leaves, and that nothing goes after it. Assumes nothing.
+use Rattle.std.specs.Prelude.{Some, None}
 use Prim.Native.Nat.{ℕ}
 use mathlib.Core.Bool.{Bool, true, false, cond}
 use mathlib.Core.List.{List, [], ◌∷◌}
 use mathlib.Core.Path.{◌≡◌, refl}
 use lib.ListN.{length}
 use Rattle.facts.proofs.Tests.{clash}
-use Rattle.meaning.specs.declared.message.Status.{Status}
 use Rattle.meaning.specs.declared.message.Window.{Window}
 use Rattle.store.specs.Packets.{Packet}
 use Rattle.flow.specs.declared.Flow.{Flow}
-use Rattle.ips_channel_rules.specs.Rules.{offer, next, withdraw, Taken, taken, Tried, Emptied, emptied, Answer, refused, answered, Event, call, radio, silence, called, Happened, Terms, ChannelParts, Condition, Result, offer_at, withdraw_at, radio_at, step, happens, history}
+use Rattle.ips_channel_rules.specs.Rules.{offer, next, withdraw, Taken, taken, Tried, Emptied, emptied, Answer, refused, answered, Event, call, radio, silence, called, Happened, Terms, ChannelParts, Condition, AfterCall, offer_at, withdraw_at, radio_at, step, happens, history}
 use Rattle.ips_channel_rules.specs.Machine.{machine}
 use Rattle.ips_channel_rules.specs.Simple.{simple}
 use Rattle.ips_channel_rules.specs.Account.{handed_by, handed_over, is_quiet, Quiet}
@@ -20,17 +20,17 @@ use Rattle.ips_channel_rules.proofs.Leaves.{Leaves, stays, joins, looks, sends, 
 module _ (P : ChannelParts) (k : Terms) where
   -- "every channel becomes not reported"; "Packets stay waiting"; "a channel's own clock is untouched"
   module _ (st : Condition P) where
-    pub silence_leaves : ((step P k silence st).status ≡ Status.Absent) × ((step P k silence st).keeping ≡ st.keeping) × ((step P k silence st).latest ≡ st.latest)
+    pub silence_leaves : ((step P k silence st).status ≡ None) × ((step P k silence st).keeping ≡ st.keeping) × ((step P k silence st).latest ≡ st.latest)
     unfolding radio_at
     silence_leaves = (refl, refl, refl)
 
     -- "every flow-controlled one has no window", and plain ones stay as they are
-    pub silence_counting : (step P k silence st).counting ≡ cond k.controlled (P.hear Window.Empty st.counting) st.counting
+    pub silence_counting : (step P k silence st).counting ≡ cond k.controlled (P.hear (Some Window.Empty) st.counting) st.counting
     unfolding radio_at
     silence_counting = refl
 
   -- ---- nothing goes while a channel is not reported
-  next_hands : (time : ℕ) (out : List ℕ) (st : Condition P) (r : Result P Tried) → Asked P k time (length out) st r → st.status ≡ Status.Absent
+  next_hands : (time : ℕ) (out : List ℕ) (st : Condition P) (r : AfterCall P Tried) → Asked P k time (length out) st r → st.status ≡ None
       → handed_by (called (next time out) r.answer) ≡ []
   next_hands time out st _ (asked_early t) e = refl
   next_hands time out st _ (asked_nothing t w) e = refl
@@ -47,13 +47,13 @@ module _ (P : ChannelParts) (k : Terms) where
   withdraw_hands (refused number) = refl
   withdraw_hands (answered emptied) = refl
 
-  hands_none : (e : Event) (st : Condition P) → st.status ≡ Status.Absent → handed_by (happens P k e st) ≡ []
+  hands_none : (e : Event) (st : Condition P) → st.status ≡ None → handed_by (happens P k e st) ≡ []
   hands_none (call (offer p time)) st e = offer_hands p time (offer_at P k p time st).answer
   hands_none (call (next time out)) st e = next_hands time out st _ (asked P k time (length out) st) e
   hands_none (call withdraw) st e = withdraw_hands (withdraw_at P k st).answer
   hands_none (radio status window) st e = refl
 
-  stays_unreported : {e : Event} {st : Condition P} {h : Happened} {st' : Condition P} → Leaves P k e st h st' → is_quiet e → st.status ≡ Status.Absent → st'.status ≡ Status.Absent
+  stays_unreported : {e : Event} {st : Condition P} {h : Happened} {st' : Condition P} → Leaves P k e st h st' → is_quiet e → st.status ≡ None → st'.status ≡ None
   stays_unreported stays q e = e
   stays_unreported (joins t x) q e = e
   stays_unreported (looks n t) q e = e
@@ -61,7 +61,7 @@ module _ (P : ChannelParts) (k : Terms) where
   stays_unreported clears q e = e
   stays_unreported hears q e = q
 
-  pub quiet_sends : (es : List Event) → Quiet es → (st : Condition P) → st.status ≡ Status.Absent → handed_over (history P k es st) ≡ []
+  pub quiet_sends : (es : List Event) → Quiet es → (st : Condition P) → st.status ≡ None → handed_over (history P k es st) ≡ []
   quiet_sends [] q st e = refl
   quiet_sends (v ∷ es) q st e = rw (hands_none v st e) (quiet_sends es q.1 (step P k v st) (stays_unreported (leaves P k v st) q.0 e))
 
@@ -79,7 +79,7 @@ module _ (k : Terms) (st : Condition machine) where
   unfolding radio_at
   silence_sequence = go k.controlled
     where
-      go : (b : Bool) → (cond b (machine.hear Window.Empty st.counting) st.counting).sequence ≡ st.counting.sequence
+      go : (b : Bool) → (cond b (machine.hear (Some Window.Empty) st.counting) st.counting).sequence ≡ st.counting.sequence
       go true = refl
       go false = refl
 
@@ -87,7 +87,7 @@ pub silence_count : (k : Terms) (st : Condition simple) → (step simple k silen
 unfolding radio_at
 silence_count k st = go k.controlled
   where
-    go : (b : Bool) → (cond b (simple.hear Window.Empty st.counting) st.counting).count ≡ st.counting.count
+    go : (b : Bool) → (cond b (simple.hear (Some Window.Empty) st.counting) st.counting).count ≡ st.counting.count
     go true = refl
     go false = refl
 

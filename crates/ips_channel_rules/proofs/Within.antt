@@ -1,4 +1,5 @@
 -- "While a window is in force no packet goes past it", and what a window is until the next radio control message. Assumes nothing.
+use Rattle.std.specs.Prelude.{Option, Some}
 use Prim.Native.Nat.{ℕ, ◌+◌, ◌^◌, ◌<◌}
 use mathlib.Core.Bool.{true, false}
 use mathlib.Core.List.{List, [], ◌∷◌, ◌++◌}
@@ -16,7 +17,6 @@ use Rattle.quantity.specs.declared.count.ByteCount.{ByteCount}
 use Rattle.quantity.specs.Distance.{fits_of}
 use Rattle.quantity.specs.Window.{sequence_at, Stands, standing_at}
 use Rattle.quantity.proofs.Window.{fits_is}
-use Rattle.meaning.specs.declared.message.Status.{Status}
 use Rattle.meaning.specs.declared.message.Window.{Window}
 use Rattle.flow.specs.declared.Flow.{Flow}
 use Rattle.flow.specs.Counting.{flow_after}
@@ -70,7 +70,7 @@ module _ (P : ChannelParts) (k : Terms) where
       rw s.nothing (nothing_goes es q.1 _ (λ n. rw s.counting (c n)))
 
 -- ---- "the number a window stands for is fixed when the window arrives"
-module _ (k : Terms) (controlled : k.controlled ≡ true) (status : Status) (window : Window) (fs : List Event) (calls : NoRadio fs) where
+module _ (k : Terms) (controlled : k.controlled ≡ true) (status : Option ℕ) (window : Option Window) (fs : List Event) (calls : NoRadio fs) where
   -- no option: free; one without a window: none; one with a window: up to the number that it stands for at the count when it came. Whatever was before is
   -- never used again, and this stays until the next radio message
   pub fixed : (st : Condition simple) → (final simple k (radio status window ∷ fs) st).counting.limit ≡ limit_at st.counting.count window
@@ -147,12 +147,12 @@ fits_within count sequence w number bytes e h (inr l) = inr (rw (e, fits_is coun
 
 module _ (k : Terms) (w : FlowWindow) (fs : List Event) (calls : NoRadio fs) where
   -- a window arrives: what goes until the next radio message never passes the number that it stands for at the count when it came
-  pub from_arrival : k.controlled ≡ true → (status : Status) (c : Condition machine) (s : Condition simple) → Agrees c s
-      → Under s.counting.count (standing_at s.counting.count w) (bytes_over (handed_over (history machine k (radio status (Window.Given w) ∷ fs) c)))
-      (final simple k (radio status (Window.Given w) ∷ fs) s).counting
+  pub from_arrival : k.controlled ≡ true → (status : Option ℕ) (c : Condition machine) (s : Condition simple) → Agrees c s
+      → Under s.counting.count (standing_at s.counting.count w) (bytes_over (handed_over (history machine k (radio status (Some (Window.Given w)) ∷ fs) c)))
+      (final simple k (radio status (Some (Window.Given w)) ∷ fs) s).counting
   unfolding radio_at
   from_arrival controlled status c s h =
-      rw (agrees_history k fs _ _ (agrees_step k (radio status (Window.Given w)) c s h)) (no_past k (standing_at s.counting.count w) fs calls s.counting.count _ (rw controlled))
+      rw (agrees_history k fs _ _ (agrees_step k (radio status (Some (Window.Given w))) c s h)) (no_past k (standing_at s.counting.count w) fs calls s.counting.count _ (rw controlled))
 
   -- "While a window is in force no packet goes past it": from any states that agree
   pub within_from : (c : Condition machine) (s : Condition simple) → Agrees c s → c.counting.flow ≡ Flow.InForce w

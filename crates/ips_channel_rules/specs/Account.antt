@@ -1,7 +1,6 @@
 -- Demand 3: "Every packet taken in is, at each moment, exactly one of sent, expired, withdrawn or waiting, and those sent on a channel leave in the order they
 -- came." "While a window is in force no packet goes past it."
-use Rattle.std.specs.Prelude.{ℕ, ◌+◌, ◌<◌, ◌≤◌, List, [], ◌∷◌, ◌++◌, map, ◌≡◌, length}
-use Rattle.meaning.specs.declared.message.Status.{Status}
+use Rattle.std.specs.Prelude.{ℕ, ◌+◌, ◌<◌, ◌≤◌, List, [], ◌∷◌, ◌++◌, map, ◌≡◌, length, None}
 use Rattle.store.specs.Packets.{Packet}
 use Rattle.ips_channel_rules.specs.Rules.{offer, next, withdraw, taken, Tried, nothing_waiting, not_operational, window_shut, sent, emptied, refused, answered, Event, call, radio, Happened, called, heard}
 use Rattle.ips_channel_rules.specs.Simple as simples
@@ -86,7 +85,7 @@ NoRadio (e ∷ es) = is_call e × NoRadio es
 -- ---- from a silence to the next radio message that names the channel: its calls, and what leaves it not reported
 abbrev pub is_quiet : Event → Type 0
 is_quiet (call c) = Unit {0}
-is_quiet (radio status window) = status ≡ Status.Absent
+is_quiet (radio status window) = status ≡ None
 
 abbrev pub Quiet : List Event → Type 0
 Quiet [] = Unit {0}

@@ -6,11 +6,11 @@ use Rattle.meaning.specs.Statuses.{operational}
 use Rattle.writer.specs.Written.{no_room_of}
 use Rattle.store.specs.Packets.{Packet}
 use Rattle.ipv6.specs.Ipv6.{is_ipv6}
-use Rattle.ips_channel_rules.specs.Rules.{ChannelCall, offer, next, withdraw, Says, Taken, taken, Tried, nothing_waiting, not_operational, window_shut, sent, emptied, Terms, ChannelParts, Condition, Result, message_bytes, refusal, left, grown}
+use Rattle.ips_channel_rules.specs.Rules.{ChannelCall, offer, next, withdraw, Says, Taken, taken, Tried, nothing_waiting, not_operational, window_shut, sent, emptied, Terms, ChannelParts, Condition, AfterCall, message_bytes, refusal, left, grown}
 
 module _ (P : ChannelParts) (k : Terms) where
   -- "offering a packet: 12, 13, 14, 15, 16, 17"
-  pub data Offered (p : Packet) (time : ℕ) (st : Condition P) : Result P Taken → Type 0 where
+  pub data Offered (p : Packet) (time : ℕ) (st : Condition P) : AfterCall P Taken → Type 0 where
     offered_not_ipv6 : is_ipv6 p.bytes ≡ false → Offered p time st (refusal P NOT-IPV6 st)
     offered_long : is_ipv6 p.bytes ≡ true → P.longest k < length p.bytes → Offered p time st (refusal P LONG-PACKET st)
     offered_early : is_ipv6 p.bytes ≡ true → length p.bytes ≤ P.longest k → time < st.latest → Offered p time st (refusal P EARLIER-TIME st)
@@ -22,7 +22,7 @@ module _ (P : ChannelParts) (k : Terms) where
         → Offered p time st (left P taken st.counting (P.join p (P.expire time st.keeping)) time st)
 
   -- "Asking for the next: 12, 15, 18."
-  pub data Asked (time room : ℕ) (st : Condition P) : Result P Tried → Type 0 where
+  pub data Asked (time room : ℕ) (st : Condition P) : AfterCall P Tried → Type 0 where
     asked_early : time < st.latest → Asked time room st (refusal P EARLIER-TIME st)
     asked_nothing : st.latest ≤ time → P.waiting (P.expire time st.keeping) ≡ []
         → Asked time room st (left P nothing_waiting st.counting (P.expire time st.keeping) time st)
@@ -40,7 +40,7 @@ module _ (P : ChannelParts) (k : Terms) where
         → Asked time room st (left P (sent p.bytes (P.carried (grown P p.bytes st))) (grown P p.bytes st) (P.send (P.expire time st.keeping)) time st)
 
   -- Withdraw is never refused: "all packets waiting on the channel are withdrawn"
-  abbrev pub Exactly : (c : ChannelCall) → Condition P → Result P (Says c) → Type 0
+  abbrev pub Exactly : (c : ChannelCall) → Condition P → AfterCall P (Says c) → Type 0
   Exactly (offer packet time) st result = Offered packet time st result
   Exactly (next time out) st result = Asked time (length out) st result
   Exactly withdraw st result = result ≡ left P emptied st.counting (P.clear st.keeping) st.latest st

@@ -1,9 +1,7 @@
 -- Document 01, "A channel's life", "Counting" and "Examples": short lives of one channel, as rows of one table: what was called and heard, with each answer.
-use Rattle.std.specs.Prelude.{ℕ, ◌*◌, ◌-◌, ◌/◌, ◌%◌, Bool, true, false, List, [], ◌∷◌, ◌++◌, map, ◌≡◌, replicate}
+use Rattle.std.specs.Prelude.{ℕ, ◌*◌, ◌-◌, ◌/◌, ◌%◌, Bool, true, false, List, [], ◌∷◌, ◌++◌, map, ◌≡◌, replicate, Option, Some, None}
 use Rattle.quantity.specs.declared.count.FlowSequence.{FlowSequence}
 use Rattle.quantity.specs.Limits.{LONGEST-PACKET}
-use Rattle.meaning.specs.declared.message.Status.TheVariants as statuses
-use Rattle.meaning.specs.declared.message.Sequence.{Sequence}
 use Rattle.meaning.specs.declared.message.Window.{Window}
 use Rattle.ips_channel_rules.specs.Rules.{offer, next, withdraw, Taken, taken, Tried, nothing_waiting, not_operational, window_shut, sent, emptied, Answer, refused, answered, Event, call, radio, Happened, called, heard, Terms, ChannelParts, Condition, history}
 
@@ -62,21 +60,21 @@ asks time room answer = called (next time (replicate room 0)) answer
 abbrev withdraws : Happened
 withdraws = called withdraw (answered emptied)
 
-abbrev states : ℕ → Window → Happened
-states status window = heard (statuses.Given status) window
+abbrev states : ℕ → Option Window → Happened
+states status window = heard (Some status) window
 
-abbrev window : ℕ → Window
-window number = Window.Given (record { 0 = number })
+abbrev window : ℕ → Option Window
+window number = Some (Window.Given (record { 0 = number }))
 
 abbrev took : Answer Taken
 took = answered taken
 
 -- the packet of n bytes went, without a Flow Sequence or with this one
 abbrev went : ℕ → Answer Tried
-went n = answered (sent (packet_of n) Sequence.Absent)
+went n = answered (sent (packet_of n) None)
 
 abbrev went_with : ℕ → ℕ → Answer Tried
-went_with n sequence = answered (sent (packet_of n) (Sequence.Given (record { 0 = sequence })))
+went_with n sequence = answered (sent (packet_of n) (Some (record { 0 = sequence })))
 
 abbrev nothing : Answer Tried
 nothing = answered nothing_waiting
@@ -95,7 +93,7 @@ table =
     (asks 0 100 nothing
     ∷ offers (packet_of 40) 100 0 took
     ∷ asks 0 100 down
-    ∷ states 7 Window.Absent
+    ∷ states 7 None
     ∷ asks 0 100 (went 40)
     ∷ asks 0 100 nothing
     ∷ [])
@@ -104,7 +102,7 @@ table =
     (states 7 (window 0)
     ∷ offers (packet_of 40) 100 0 took
     ∷ asks 0 100 (went 40)
-    ∷ states 7 Window.Empty
+    ∷ states 7 (Some Window.Empty)
     ∷ offers (packet_of 40) 100 0 took
     ∷ asks 0 100 (went 40)
     ∷ [])
@@ -133,7 +131,7 @@ table =
     ∷ offers (packet_of 40) 100 0 took
     ∷ offers (packet_of 40) 100 0 took
     ∷ asks 0 100 shut
-    ∷ states 7 Window.Absent
+    ∷ states 7 None
     ∷ asks 0 100 (went 40)
     ∷ states 7 (window 140)
     ∷ asks 0 100 (went_with 40 140)
@@ -142,10 +140,10 @@ table =
     ∷ controlled 100
     (states 7 (window 1000)
     ∷ offers (packet_of 40) 100 0 took
-    ∷ states 7 Window.Empty
+    ∷ states 7 (Some Window.Empty)
     ∷ asks 0 100 shut
-    ∷ states 7 Window.Absent
-    ∷ states 7 Window.Empty
+    ∷ states 7 None
+    ∷ states 7 (Some Window.Empty)
     ∷ asks 0 100 shut
     ∷ [])
     -- "one with a window puts that in force, smaller than before or not"
@@ -172,32 +170,32 @@ table =
     ∷ plain
     (offers (packet_of 40) 100 0 took
     ∷ offers (packet_of 41) 100 0 took
-    ∷ states 0 Window.Absent
+    ∷ states 0 None
     ∷ asks 0 100 down
-    ∷ states 1 Window.Absent
+    ∷ states 1 None
     ∷ asks 0 100 (went 40)
-    ∷ states 8 Window.Absent
+    ∷ states 8 None
     ∷ asks 0 100 down
-    ∷ states 15 Window.Absent
+    ∷ states 15 None
     ∷ asks 0 100 down
-    ∷ states 7 Window.Absent
-    ∷ heard statuses.Absent Window.Absent
+    ∷ states 7 None
+    ∷ heard None None
     ∷ asks 0 100 down
-    ∷ states 7 Window.Absent
+    ∷ states 7 None
     ∷ asks 0 100 (went 41)
     ∷ [])
     -- "a setting that says, for each of 8 to 15, operational or not": 2 makes 9 operational, and no other of them
     ∷ plain_under 2
     (offers (packet_of 40) 100 0 took
-    ∷ states 8 Window.Absent
+    ∷ states 8 None
     ∷ asks 0 100 down
-    ∷ states 10 Window.Absent
+    ∷ states 10 None
     ∷ asks 0 100 down
-    ∷ states 14 Window.Absent
+    ∷ states 14 None
     ∷ asks 0 100 down
-    ∷ states 0 Window.Absent
+    ∷ states 0 None
     ∷ asks 0 100 down
-    ∷ states 9 Window.Absent
+    ∷ states 9 None
     ∷ asks 0 100 (went 40)
     ∷ [])
     -- with 255 all of 8 to 15 are; still not one that is not reported, nor 0 or 16
@@ -205,22 +203,22 @@ table =
     (offers (packet_of 40) 100 0 took
     ∷ offers (packet_of 41) 100 0 took
     ∷ asks 0 100 down
-    ∷ states 0 Window.Absent
+    ∷ states 0 None
     ∷ asks 0 100 down
-    ∷ states 16 Window.Absent
+    ∷ states 16 None
     ∷ asks 0 100 down
-    ∷ states 8 Window.Absent
+    ∷ states 8 None
     ∷ asks 0 100 (went 40)
-    ∷ states 15 Window.Absent
+    ∷ states 15 None
     ∷ asks 0 100 (went 41)
     ∷ [])
     -- "tried in this order: nothing waiting, not operational, window shut", and 18 after them
     ∷ controlled 0
-    (states 0 Window.Empty
+    (states 0 (Some Window.Empty)
     ∷ asks 0 0 nothing
     ∷ offers (packet_of 40) 100 0 took
     ∷ asks 0 0 down
-    ∷ states 1 Window.Empty
+    ∷ states 1 (Some Window.Empty)
     ∷ asks 0 0 shut
     ∷ states 1 (window 40)
     ∷ asks 0 0 (refused 18)
@@ -258,7 +256,7 @@ table =
     ∷ offers (packet_of 60) 100 0 took
     ∷ offers (packet_of 41) 100 0 (refused 17)
     ∷ offers (packet_of 40) 100 0 took
-    ∷ states 7 Window.Absent
+    ∷ states 7 None
     ∷ asks 0 2000 (went 1400)
     ∷ offers (packet_of 1400) 100 0 took
     ∷ [])
@@ -280,7 +278,7 @@ table =
     ∷ plain (replicate 32 (offers (packet_of 40) 100 0 took) ++ (offers (packet_of 1501) 100 0 (refused 14) ∷ offers (packet_of 40) 100 0 (refused 17) ∷ []))
     -- "every packet of that channel whose expiry is at or before the time given is expired, wherever it waits"
     ∷ plain
-    (states 7 Window.Absent
+    (states 7 None
     ∷ offers (packet_of 40) 100 0 took
     ∷ offers (packet_of 41) 6 0 took
     ∷ offers (packet_of 42) 7 0 took
@@ -288,17 +286,17 @@ table =
     ∷ asks 6 100 (went 42)
     ∷ asks 6 100 nothing
     ∷ [])
-    ∷ plain (states 7 Window.Absent ∷ offers (packet_of 40) 6 5 took ∷ asks 6 100 nothing ∷ [])
+    ∷ plain (states 7 None ∷ offers (packet_of 40) 6 5 took ∷ asks 6 100 nothing ∷ [])
     -- 18: "if given, nothing has expired", and the time given is not the latest; asked again with room, the one that is due is gone
     ∷ plain
-    (states 7 Window.Absent
+    (states 7 None
     ∷ offers (packet_of 40) 10 0 took
     ∷ offers (packet_of 41) 100 0 took
     ∷ asks 10 0 (refused 18)
     ∷ asks 9 100 (went 40)
     ∷ [])
     ∷ plain
-    (states 7 Window.Absent
+    (states 7 None
     ∷ offers (packet_of 40) 10 0 took
     ∷ offers (packet_of 41) 100 0 took
     ∷ asks 10 0 (refused 18)
@@ -309,7 +307,7 @@ table =
     ∷ controlled 0
     (offers (packet_of 40) 100 5 took
     ∷ offers (packet_of 40) 100 5 took
-    ∷ states 7 Window.Absent
+    ∷ states 7 None
     ∷ asks 4 0 (refused 15)
     ∷ asks 5 51 (refused 18)
     ∷ asks 5 52 (went 40)
@@ -319,7 +317,7 @@ table =
     ∷ [])
     -- "Withdraw: all packets waiting on the channel are withdrawn."; then others are offered
     ∷ plain
-    (states 7 Window.Absent
+    (states 7 None
     ∷ offers (packet_of 40) 100 5 took
     ∷ offers (packet_of 41) 100 5 took
     ∷ withdraws

@@ -1,8 +1,7 @@
 -- The parts of a channel as the code has them: it counts in words of 32 bits, and keeps only the packets that wait.
-use Rattle.std.specs.Prelude.{Bool}
+use Rattle.std.specs.Prelude.{Bool, None}
 use mathlib.Core.List.{List, [], ◌∷◌, ◌++◌, tail}
 use Rattle.quantity.specs.declared.count.FlowSequence.{FlowSequence}
-use Rattle.meaning.specs.declared.message.Status.TheVariants as statuses
 use Rattle.store.specs.Packets.{Packet, alive, is_full}
 use Rattle.flow.specs.declared.Flow.{Flow}
 use Rattle.flow.specs.Counting.{may_go, sequence_on, carried_by, flow_after, first_flow}
@@ -31,4 +30,4 @@ machine =
     }
 
 abbrev pub fresh_machine : Bool → FlowSequence → Condition machine
-fresh_machine controlled first = record { counting = record { flow = first_flow controlled; sequence = first }; keeping = []; status = statuses.Absent; latest = 0 }
+fresh_machine controlled first = record { counting = record { flow = first_flow controlled; sequence = first }; keeping = []; status = None; latest = 0 }

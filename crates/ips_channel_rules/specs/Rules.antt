@@ -1,17 +1,12 @@
 -- Document 01, "A channel's life", for one channel: what each call answers and what it leaves. The rules stand here once, over the two parts that a channel
 -- is made of: how it counts, and how it keeps its packets. `Simple` has these parts in numbers that never wrap, `Machine` as the code has them.
-use Rattle.std.specs.Prelude.{ℕ, Bool, cond, not, List, [], ◌∷◌, length, leb, ltb}
+use Rattle.quantity.specs.declared.count.FlowSequence.{FlowSequence}
+use Rattle.std.specs.Prelude.{ℕ, Bool, cond, not, List, [], ◌∷◌, length, leb, ltb, Option, Some, None}
 use Rattle.quantity.specs.declared.count.DatalinkId.{DatalinkId}
 use Rattle.quantity.specs.declared.count.ByteCount.{ByteCount}
 use Rattle.quantity.specs.Refusals.{NOT-IPV6, LONG-PACKET, EARLIER-TIME, EXPIRY-PAST, FULL, NO-ROOM}
-use Rattle.meaning.specs.declared.message.Status.{Status}
 use Rattle.meaning.specs.declared.status.StatusCodes.{StatusCodes}
-use Rattle.meaning.specs.declared.message.Sequence.{Sequence}
 use Rattle.meaning.specs.declared.message.Window.{Window}
-use Rattle.meaning.specs.declared.message.Counted.{Counted}
-use Rattle.meaning.specs.declared.message.Datalink.{Datalink}
-use Rattle.meaning.specs.declared.message.Channel.TheVariants as channels
-use Rattle.meaning.specs.declared.message.Expiration.TheVariants as expirations
 use Rattle.meaning.specs.declared.message.Data.{Data}
 use Rattle.meaning.specs.Statuses.{operational}
 use Rattle.writer.specs.Written.{data_written, no_room_of}
@@ -32,7 +27,7 @@ pub data Taken : Type 0 where
 -- `sent` has the packet and the Flow Sequence that its message carries
 pub data Tried : Type 0 where
   nothing_waiting not_operational window_shut : Tried
-  sent : List ℕ → Sequence → Tried
+  sent : List ℕ → Option FlowSequence → Tried
 
 pub data Emptied : Type 0 where
   emptied : Emptied
@@ -55,20 +50,20 @@ unless_refused (answered says) was is = is
 -- ---- what a channel sees: its own calls, and a radio control message as what it states of the channel, its Channel Status and its Flow Window option
 pub data Event : Type 0 where
   call : ChannelCall → Event
-  radio : Status → Window → Event
+  radio : Option ℕ → Option Window → Event
 
 -- Document 02, §1: "a silence counts in the third demand as an event seen by all channels": "every channel becomes not reported and every flow-controlled one has no
 -- window. Packets stay waiting." That is what a radio message does that doesn't name the channel and has a Flow Window without a window for it.
 abbrev pub silence : Event
-silence = radio Status.Absent Window.Empty
+silence = radio None (Some Window.Empty)
 
 -- an event with the answer that was given to it; nobody answers for a channel's part of a radio message
 pub data Happened : Type 0 where
   called : (c : ChannelCall) → Answer (Says c) → Happened
-  heard : Status → Window → Happened
+  heard : Option ℕ → Option Window → Happened
 
 abbrev pub silent : Happened
-silent = heard Status.Absent Window.Empty
+silent = heard None (Some Window.Empty)
 
 -- ---- how a channel is configured, with its datalink's ID, the statuses that are operational there, and the longest packet that the endpoint takes
 pub record Terms : Type 0 where
@@ -91,9 +86,9 @@ pub record ChannelParts : Type 1 where
   -- may a packet of n bytes go, what is counted when it went, and the Flow Sequence that its message carries, read after that
   pub fits : Counting → ByteCount → Bool
   pub grow : ByteCount → Counting → Counting
-  pub carried : Counting → Sequence
+  pub carried : Counting → Option FlowSequence
   -- a Flow Window option came, or none
-  pub hear : Window → Counting → Counting
+  pub hear : Option Window → Counting → Counting
   -- the packets that wait, the first first
   pub waiting : Keeping → List Packet
   -- those due at a time are expired; one joins the end; the first is sent; all are withdrawn
@@ -109,36 +104,36 @@ pub record ChannelParts : Type 1 where
 pub record Condition (P : ChannelParts) : Type 0 where
   pub counting : P.Counting
   pub keeping : P.Keeping
-  pub status : Status
+  pub status : Option ℕ
   pub latest : ℕ
 
-pub record Result (P : ChannelParts) (A : Type 0) : Type 0 where
+pub record AfterCall (P : ChannelParts) (A : Type 0) : Type 0 where
   pub answer : Answer A
   pub condition : Condition P
 
 -- ---- the message that Next hands over
 
 -- a data message's Flow Sequence names the channel
-abbrev pub counted_on : ℕ → Sequence → Counted
-counted_on id Sequence.Absent = Counted.Absent
-counted_on id (Sequence.Given s) = Counted.Given id s
+abbrev pub counted_on : ℕ → Option FlowSequence → Option (ℕ × FlowSequence)
+counted_on id None = None
+counted_on id (Some s) = Some (id, s)
 
 -- "The message has, in the writer's order, Datalink Identifier, Flow Sequence if a window is in force, Channel Identifier, Packet Data."
-abbrev pub message_of : Terms → Sequence → Data
+abbrev pub message_of : Terms → Option FlowSequence → Data
 message_of k sequence =
-    record { datalink = Datalink.Given k.datalink; sequence = counted_on k.id sequence; channel = channels.Given k.id; expiration = expirations.Absent }
+    record { datalink = Some k.datalink; sequence = counted_on k.id sequence; channel = Some k.id; expiration = None }
 
-unfoldable pub message_bytes : Terms → Sequence → List ℕ → List ℕ
+unfoldable pub message_bytes : Terms → Option FlowSequence → List ℕ → List ℕ
 message_bytes k sequence packet = data_written (message_of k sequence) packet
 
 -- ---- the rules
 module _ (P : ChannelParts) where
   -- a refusal "changes no state"
-  abbrev pub refusal : {A : Type 0} → ℕ → Condition P → Result P A
+  abbrev pub refusal : {A : Type 0} → ℕ → Condition P → AfterCall P A
   refusal number st = record { answer = refused number; condition = st }
 
   -- an answer, with the count, the packets and the latest time that are left
-  abbrev pub left : {A : Type 0} → A → P.Counting → P.Keeping → ℕ → Condition P → Result P A
+  abbrev pub left : {A : Type 0} → A → P.Counting → P.Keeping → ℕ → Condition P → AfterCall P A
   left says counting keeping time st = record { answer = answered says; condition = record { counting = counting; keeping = keeping; status = st.status; latest = time } }
 
   -- the count after a packet went
@@ -148,7 +143,7 @@ module _ (P : ChannelParts) where
   module _ (k : Terms) where
     -- "offering a packet: 12, 13, 14, 15, 16, 17". "Before an accepted Offer or Next does its work, every packet of that channel whose expiry is at or before
     -- the time given is expired .. Numbers 17 and 18 are judged after that; if given, nothing has expired."
-    unfoldable pub offer_at : Packet → (time : ℕ) → Condition P → Result P Taken
+    unfoldable pub offer_at : Packet → (time : ℕ) → Condition P → AfterCall P Taken
     offer_at p time st =
         cond (not (is_ipv6 p.bytes)) (refusal NOT-IPV6 st)
         (cond (ltb (P.longest k) (length p.bytes)) (refusal LONG-PACKET st)
@@ -160,7 +155,7 @@ module _ (P : ChannelParts) where
     -- "a data message with the first waiting packet, if the status is 1 to 7 and the channel is free or the packet fits the window. The answers otherwise, tried
     -- in this order: nothing waiting, not operational, window shut. .. Only the first waiting packet is tried." Document 02: "Whether a status is operational now
     -- depends on that setting, and all who ask must pass it."
-    unfoldable pub try_first : (waiting : List Packet) (time room : ℕ) → Condition P → Result P Tried
+    unfoldable pub try_first : (waiting : List Packet) (time room : ℕ) → Condition P → AfterCall P Tried
     try_first [] time room st = left nothing_waiting st.counting (P.expire time st.keeping) time st
     try_first (p ∷ ps) time room st =
         cond (not (operational k.codes st.status)) (left not_operational st.counting (P.expire time st.keeping) time st)
@@ -169,20 +164,20 @@ module _ (P : ChannelParts) where
         (left (sent p.bytes (P.carried (grown p.bytes st))) (grown p.bytes st) (P.send (P.expire time st.keeping)) time st)))
 
     -- "Asking for the next: 12, 15, 18."
-    unfoldable pub next_at : (time room : ℕ) → Condition P → Result P Tried
+    unfoldable pub next_at : (time room : ℕ) → Condition P → AfterCall P Tried
     next_at time room st = cond (ltb time st.latest) (refusal EARLIER-TIME st) (try_first (P.waiting (P.expire time st.keeping)) time room st)
 
     -- "Withdraw: all packets waiting on the channel are withdrawn."
-    unfoldable pub withdraw_at : Condition P → Result P Emptied
+    unfoldable pub withdraw_at : Condition P → AfterCall P Emptied
     withdraw_at st = left emptied st.counting (P.clear st.keeping) st.latest st
 
     -- "a configured channel that it names takes its Status; one that it doesn't name is not reported. For each flow-controlled channel: .."; "Plain channels are
     -- always free."
-    unfoldable pub radio_at : Status → Window → Condition P → Condition P
+    unfoldable pub radio_at : Option ℕ → Option Window → Condition P → Condition P
     radio_at status window st =
         record { counting = cond k.controlled (P.hear window st.counting) st.counting; keeping = st.keeping; status = status; latest = st.latest }
 
-    abbrev pub call_at : (c : ChannelCall) → Condition P → Result P (Says c)
+    abbrev pub call_at : (c : ChannelCall) → Condition P → AfterCall P (Says c)
     call_at (offer packet time) st = offer_at packet time st
     call_at (next time out) st = next_at time (length out) st
     call_at withdraw st = withdraw_at st

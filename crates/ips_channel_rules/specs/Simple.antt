@@ -1,11 +1,9 @@
 -- THE SIMPLE CHANNEL: the rules of `Rules` over a count that never wraps, and over a ledger of every packet ever taken in, in the order they came, each with what
 -- became of it. So "exactly one of sent, expired, withdrawn or waiting" holds by what an entry of the ledger is.
-use Rattle.std.specs.Prelude.{ℕ, ◌+◌, Bool, true, false, cond, List, [], ◌∷◌, ◌++◌, map, ℤ, pos}
+use Rattle.std.specs.Prelude.{ℕ, ◌+◌, Bool, true, false, cond, List, [], ◌∷◌, ◌++◌, map, ℤ, pos, Option, Some, None}
 use Rattle.std.specs.Int.Signed.{le_z}
 use Rattle.quantity.specs.declared.count.FlowSequence.{FlowSequence}
 use Rattle.quantity.specs.Window.{sequence_at, standing_at}
-use Rattle.meaning.specs.declared.message.Status.TheVariants as statuses
-use Rattle.meaning.specs.declared.message.Sequence.{Sequence}
 use Rattle.meaning.specs.declared.message.Window.{Window}
 use Rattle.store.specs.Packets.{Packet, lasts_at, is_full}
 use Rattle.ips_channel_rules.specs.Rules.{ChannelParts, Condition, longest_on}
@@ -34,16 +32,16 @@ count_on count none n = count
 count_on count (up_to number) n = count + n
 
 -- the message carries the count's low 32 bits
-abbrev pub carried_at : ℕ → Limit → Sequence
-carried_at count free = Sequence.Absent
-carried_at count none = Sequence.Absent
-carried_at count (up_to number) = Sequence.Given (sequence_at count)
+abbrev pub carried_at : ℕ → Limit → Option FlowSequence
+carried_at count free = None
+carried_at count none = None
+carried_at count (up_to number) = Some (sequence_at count)
 
 -- "the number a window stands for is fixed when the window arrives"
-abbrev pub limit_at : ℕ → Window → Limit
-limit_at count Window.Absent = free
-limit_at count Window.Empty = none
-limit_at count (Window.Given window) = up_to (standing_at count window)
+abbrev pub limit_at : ℕ → Option Window → Limit
+limit_at count None = free
+limit_at count (Some Window.Empty) = none
+limit_at count (Some (Window.Given window)) = up_to (standing_at count window)
 
 -- ---- keeping packets
 pub data Fate : Type 0 where
@@ -116,4 +114,4 @@ simple =
 
 -- "Plain channels are always free. Fresh flow-controlled channels have no window."; the count "starts as the configured first sequence"
 abbrev pub fresh_simple : Bool → FlowSequence → Condition simple
-fresh_simple controlled first = record { counting = record { count = first.0; limit = cond controlled none free }; keeping = []; status = statuses.Absent; latest = 0 }
+fresh_simple controlled first = record { counting = record { count = first.0; limit = cond controlled none free }; keeping = []; status = None; latest = 0 }

@@ -1,4 +1,6 @@
 -- The message of Query: its Flow Sequences channel by channel, and that it may be written. Assumes nothing.
+use Rattle.std.specs.Prelude.{Option, Some, None}
+use Rattle.quantity.specs.declared.count.FlowSequence.{FlowSequence}
 use Prim.Native.Nat.{ℕ, zero, suc, ◌+◌, ◌*◌, ◌≤◌, ◌<◌}
 use mathlib.Core.Path.{◌≡◌, refl, sym, ap, ◌∙◌}
 use mathlib.Core.List.{List, [], ◌∷◌, ◌++◌, append-nil, map-append}
@@ -17,10 +19,7 @@ use Rattle.wire.specs.Options.{Options, done, option, option_bytes, bytes}
 use Rattle.wire.proofs.Numbers.{length_bytes}
 use Rattle.wire.proofs.Options.{option_length}
 use Rattle.meaning.specs.declared.message.End.TheVariants as ends
-use Rattle.meaning.specs.declared.message.Sequence.{Sequence}
-use Rattle.meaning.specs.declared.message.SequenceCell.{SequenceCell}
 use Rattle.meaning.specs.Kinds.{among, DATALINK-IDENTIFIER, FLOW-SEQUENCE}
-use Rattle.meaning.specs.Cells.{no_status, no_sequence, no_window}
 use Rattle.writable.specs.Allowed.{statuses_allowed, sequence_allowed, sequences_allowed, windows_allowed, control_allowed}
 use Rattle.write_option.specs.Parts.{table_then, sequence_then}
 use Rattle.write_option.proofs.Tables.{status_at, sequence_at, window_at}
@@ -66,7 +65,7 @@ module _ (id : ℕ) where
   sequence_other [] c h = rw h
   sequence_other (x ∷ xs) c h = rw (sequence_other xs c h)
 
-  pub sequence_none : (cs : List Channel) → among id (ids cs) ≡ false → sequence_for id cs ≡ Sequence.Absent
+  pub sequence_none : (cs : List Channel) → among id (ids cs) ≡ false → sequence_for id cs ≡ None
   unfolding sequence_for
   sequence_none cs h = ap (sequence_for id) (sym (append-nil cs)) ∙ sequence_past cs [] h
 
@@ -75,20 +74,20 @@ unfolding ids
 none_among id = refl
 
 sequence_own : (xs rest : List Channel) (c : Channel) → among c.setting.id (ids xs) ≡ false → among c.setting.id (ids rest) ≡ false
-    → sequence_for c.setting.id (xs ++ (c ∷ rest)) ≡ cond c.setting.controlled (Sequence.Given c.sequence) Sequence.Absent
+    → sequence_for c.setting.id (xs ++ (c ∷ rest)) ≡ cond c.setting.controlled (Some c.sequence) None
 unfolding sequence_for
 sequence_own xs rest c before behind =
     sequence_past c.setting.id xs (c ∷ rest) before ∙ rw (eq-eqb c.setting.id c.setting.id refl, and-true, sequence_none c.setting.id rest behind)
 
 -- with one channel more, whose ID is new
 sequence_more : (id : ℕ) (xs : List Channel) (c : Channel) → among c.setting.id (ids xs) ≡ false
-    → sequence_for id (xs ++ (c ∷ [])) ≡ cond (c.setting.controlled && eqb c.setting.id id) (Sequence.Given c.sequence) (sequence_for id xs)
+    → sequence_for id (xs ++ (c ∷ [])) ≡ cond (c.setting.controlled && eqb c.setting.id id) (Some c.sequence) (sequence_for id xs)
 sequence_more id xs c new = go (c.setting.controlled && eqb c.setting.id id) refl
   where
-    own : c.setting.controlled ≡ true → sequence_for c.setting.id (xs ++ (c ∷ [])) ≡ Sequence.Given c.sequence
+    own : c.setting.controlled ≡ true → sequence_for c.setting.id (xs ++ (c ∷ [])) ≡ Some c.sequence
     own controlled = sequence_own xs [] c new (none_among c.setting.id) ∙ rw controlled
 
-    go : (b : Bool) → (c.setting.controlled && eqb c.setting.id id) ≡ b → sequence_for id (xs ++ (c ∷ [])) ≡ cond b (Sequence.Given c.sequence) (sequence_for id xs)
+    go : (b : Bool) → (c.setting.controlled && eqb c.setting.id id) ≡ b → sequence_for id (xs ++ (c ∷ [])) ≡ cond b (Some c.sequence) (sequence_for id xs)
     go true e =
         let both = (and-eq-true_iff c.setting.controlled (eqb c.setting.id id)).0 e in
         ap (λ (n : ℕ). sequence_for n (xs ++ (c ∷ []))) (sym (eqb-true c.setting.id id both.1)) ∙ own both.0
@@ -115,40 +114,40 @@ module _ (s : State) (fits : state_fits s ≡ true) (index : ℕ) (inside : inde
   id_inside = (channel_fitting_at s fits index inside).unreserved
 
   -- the Flow Sequences of the channels up to an index: its own is new, and comes in if the channel is flow-controlled
-  pub sequence_new : sequence_for (channel_at s index).setting.id (take index s.channels) ≡ Sequence.Absent
+  pub sequence_new : sequence_for (channel_at s index).setting.id (take index s.channels) ≡ None
   sequence_new = sequence_none (channel_at s index).setting.id (take index s.channels) alone_at.0
 
   pub sequence_next : (id : ℕ) → sequence_for id (take (index + 1) s.channels)
-      ≡ cond ((channel_at s index).setting.controlled && eqb (channel_at s index).setting.id id) (Sequence.Given (channel_at s index).sequence) (sequence_for id (take index s.channels))
+      ≡ cond ((channel_at s index).setting.controlled && eqb (channel_at s index).setting.id id) (Some (channel_at s index).sequence) (sequence_for id (take index s.channels))
   sequence_next id = ap (sequence_for id) one_more ∙ sequence_more id (take index s.channels) (channel_at s index) alone_at.0
 
   -- the Flow Sequence of a configured channel
-  pub sequence_at_lem : sequence_for (channel_at s index).setting.id s.channels ≡ cond (channel_at s index).setting.controlled (Sequence.Given (channel_at s index).sequence) Sequence.Absent
+  pub sequence_at_lem : sequence_for (channel_at s index).setting.id s.channels ≡ cond (channel_at s index).setting.controlled (Some (channel_at s index).sequence) None
   sequence_at_lem = ap (sequence_for (channel_at s index).setting.id) around ∙ sequence_own (take index s.channels) (drop (suc index) s.channels) (channel_at s index) alone_at.0 alone_at.1
 
-  pub sequence_controlled : (channel_at s index).setting.controlled ≡ true → sequence_for (channel_at s index).setting.id s.channels ≡ Sequence.Given (channel_at s index).sequence
+  pub sequence_controlled : (channel_at s index).setting.controlled ≡ true → sequence_for (channel_at s index).setting.id s.channels ≡ Some (channel_at s index).sequence
   sequence_controlled controlled = sequence_at_lem ∙ rw controlled
 
-  pub sequence_plain : (channel_at s index).setting.controlled ≡ false → sequence_for (channel_at s index).setting.id s.channels ≡ Sequence.Absent
+  pub sequence_plain : (channel_at s index).setting.controlled ≡ false → sequence_for (channel_at s index).setting.id s.channels ≡ None
   sequence_plain plain = sequence_at_lem ∙ rw plain
 
 -- ---- the message, place by place
-abbrev cell_of : Sequence → SequenceCell
-cell_of sequence = record { sequence = sequence }
+abbrev cell_of : Option FlowSequence → Option FlowSequence
+cell_of sequence = sequence
 
-pub query_place : (cs : List Channel) (id : ℕ) → id < CHANNEL-IDS → (get_or (sequences_of cs) id no_sequence).sequence ≡ sequence_for id cs
+pub query_place : (cs : List Channel) (id : ℕ) → id < CHANNEL-IDS → (get_or (sequences_of cs) id None) ≡ sequence_for id cs
 unfolding sequences_of
-query_place cs id h = ap (λ (cell : SequenceCell). cell.sequence) (get_d_tabulate CHANNEL-IDS (λ n. cell_of (sequence_for n cs)) id no_sequence h)
+query_place cs id h = ap (λ (cell : Option FlowSequence). cell) (get_d_tabulate CHANNEL-IDS (λ n. cell_of (sequence_for n cs)) id None h)
 
 -- ---- it may always be written
-sequence_allowed_lem : (sequence : Sequence) → sequence_allowed ends.Ips sequence ≡ true
-sequence_allowed_lem Sequence.Absent = refl
-sequence_allowed_lem (Sequence.Given s) = refl
+sequence_allowed_lem : (sequence : Option FlowSequence) → sequence_allowed ends.Ips sequence ≡ true
+sequence_allowed_lem None = refl
+sequence_allowed_lem (Some s) = refl
 
-sequences_allowed_lem : (cells : List SequenceCell) → sequences_allowed ends.Ips cells ≡ true
+sequences_allowed_lem : (cells : List (Option FlowSequence)) → sequences_allowed ends.Ips cells ≡ true
 unfolding sequences_allowed
 sequences_allowed_lem [] = refl
-sequences_allowed_lem (cell ∷ cells) = rw (sequence_allowed_lem cell.sequence) (sequences_allowed_lem cells)
+sequences_allowed_lem (cell ∷ cells) = rw (sequence_allowed_lem cell) (sequences_allowed_lem cells)
 
 pub query_allowed : (s : State) → control_allowed ends.Ips (query_of s) ≡ true
 unfolding control_allowed query_of statuses_allowed windows_allowed
@@ -165,23 +164,23 @@ put_nothing put absent none (suc n) channel more = none channel _ ∙ put_nothin
 pub query_options : (s : State) → control_options (query_of s) ≡ option DATALINK-IDENTIFIER (s.datalink.id.0 ∷ []) (table_then sequence_at 0 (sequences_of s.channels) done)
 unfolding control_options query_of
 query_options s =
-    rw (put_nothing status_at no_status (λ n more. refl) CHANNEL-IDS 0 (table_then sequence_at 0 (sequences_of s.channels) (table_then window_at 0 (replicate CHANNEL-IDS no_window) done)), put_nothing window_at no_window (λ n more. refl) CHANNEL-IDS 0 done)
+    rw (put_nothing status_at None (λ n more. refl) CHANNEL-IDS 0 (table_then sequence_at 0 (sequences_of s.channels) (table_then window_at 0 (replicate CHANNEL-IDS None) done)), put_nothing window_at None (λ n more. refl) CHANNEL-IDS 0 done)
 
 -- a Flow Sequence has a frame of 3 bytes, a Channel ID and 4 bytes
 abbrev SEQUENCE-BYTES : ℕ
 SEQUENCE-BYTES = 8
 
-sequence_short : (channel : ℕ) (sequence : Sequence) (more : Options) → length (bytes (sequence_then channel sequence more)) ≤ SEQUENCE-BYTES + length (bytes more)
+sequence_short : (channel : ℕ) (sequence : Option FlowSequence) (more : Options) → length (bytes (sequence_then channel sequence more)) ≤ SEQUENCE-BYTES + length (bytes more)
 unfolding bytes
-sequence_short channel Sequence.Absent more = omega arith
-sequence_short channel (Sequence.Given s) more =
+sequence_short channel None more = omega arith
+sequence_short channel (Some s) more =
     simp length-append (omega (arith, option_length FLOW-SEQUENCE (channel ∷ bytes_of 4 s.0), length_bytes 4 s.0))
 
-sequences_short : (cells : List SequenceCell) (channel : ℕ) (more : Options) → length (bytes (table_then sequence_at channel cells more)) ≤ SEQUENCE-BYTES * length cells + length (bytes more)
+sequences_short : (cells : List (Option FlowSequence)) (channel : ℕ) (more : Options) → length (bytes (table_then sequence_at channel cells more)) ≤ SEQUENCE-BYTES * length cells + length (bytes more)
 unfolding table_then
 sequences_short [] channel more = omega arith
 sequences_short (cell ∷ cells) channel more =
-    omega (arith, sequence_short channel cell.sequence (table_then sequence_at (suc channel) cells more), sequences_short cells (suc channel) more)
+    omega (arith, sequence_short channel cell (table_then sequence_at (suc channel) cells more), sequences_short cells (suc channel) more)
 
 pub sequences_length : (cs : List Channel) → length (sequences_of cs) ≡ CHANNEL-IDS
 unfolding sequences_of

@@ -1,4 +1,6 @@
 -- What a radio message and a silence change, and what they leave. Assumes nothing.
+use Rattle.std.specs.Prelude.{Option, Some, None}
+use Rattle.quantity.specs.declared.count.LinkInstanceId.{LinkInstanceId}
 use Prim.Native.Nat.{ℕ, zero, suc, ◌<◌}
 use mathlib.Core.Path.{◌≡◌, refl, ap, ◌∙◌}
 use mathlib.Core.List.{List, [], ◌∷◌, map, map-map}
@@ -6,12 +8,8 @@ use mathlib.Core.Bool.{Bool, true, false, cond, and-eq-true_iff}
 use lib.ListN.{length, take, length-map}
 use Rattle.facts.proofs.Tables.{each_place}
 use Rattle.meaning.specs.declared.message.End.TheVariants as ends
-use Rattle.meaning.specs.declared.message.Instance.{Instance}
-use Rattle.meaning.specs.declared.message.Status.{Status}
 use Rattle.meaning.specs.declared.message.Window.{Window}
-use Rattle.meaning.specs.declared.message.StatusCell.{StatusCell}
 use Rattle.meaning.specs.declared.message.Control.{Control}
-use Rattle.meaning.specs.Cells.{no_status}
 use Rattle.writable.specs.Allowed.{instance_allowed, context_allowed, status_allowed, statuses_allowed}
 use Rattle.flow.specs.declared.Flow.{Flow}
 use Rattle.flow.specs.Counting.{flow_after}
@@ -30,16 +28,16 @@ take_map f (suc n) [] = refl
 take_map {B = B} f (suc n) (x ∷ xs) = ap (λ (ys : List B). f x ∷ ys) (take_map f n xs)
 
 -- ---- what the message changes in a channel, and in a state
-flow_heard_lem : (controlled : Bool) (flow : Flow) (window : Window) → flow_fits controlled flow ≡ true → flow_fits controlled (cond controlled (flow_after window) flow) ≡ true
+flow_heard_lem : (controlled : Bool) (flow : Flow) (window : Option Window) → flow_fits controlled flow ≡ true → flow_fits controlled (cond controlled (flow_after window) flow) ≡ true
 flow_heard_lem true flow window h = refl
 flow_heard_lem false flow window h = h
 
-instance_kept : (before given : Instance) → instance_allowed ends.Radio before ≡ true → instance_allowed ends.Radio given ≡ true → instance_allowed ends.Radio (kept_instance before given) ≡ true
-instance_kept before Instance.Absent e d = e
-instance_kept before (Instance.Given id n) e d = d
+instance_kept : (before given : Option (LinkInstanceId × ℕ)) → instance_allowed ends.Radio before ≡ true → instance_allowed ends.Radio given ≡ true → instance_allowed ends.Radio (kept_instance before given) ≡ true
+instance_kept before None e d = e
+instance_kept before (Some (id, n)) e d = d
 
 -- ---- every channel is told something by its Channel ID: a Channel Status and a Flow Window, or their absence
-module _ (status : ℕ → Status) (window : ℕ → Window) where
+module _ (status : ℕ → Option ℕ) (window : ℕ → Option Window) where
   abbrev told : Channel → Channel
   told c = heard_of c (status c.setting.id) (window c.setting.id)
 
@@ -78,7 +76,7 @@ module _ (status : ℕ → Status) (window : ℕ → Window) where
 pub status_heard_lem : (message : Control) → statuses_allowed ends.Radio message.statuses ≡ true → (id : ℕ) → status_allowed ends.Radio (status_in message id) ≡ true
 unfolding statuses_allowed
 status_heard_lem message allowed id =
-    each_place (statuses_allowed ends.Radio) (λ (cell : StatusCell). status_allowed ends.Radio cell.status) no_status (λ cell cells. refl) refl message.statuses allowed id
+    each_place (statuses_allowed ends.Radio) (λ (cell : Option ℕ). status_allowed ends.Radio cell) None (λ cell cells. refl) refl message.statuses allowed id
 
 module _ (message : Control) (s : State) where
   pub heard_count : length (heard_by message s).channels ≡ length s.channels
@@ -124,7 +122,7 @@ module _ (message : Control) (s : State) where
     heard_status = rw heard_at_lem
 
     -- a configured channel that the message doesn't name
-    pub heard_unnamed : status_in message (channel_at s index).setting.id ≡ Status.Absent → (channel_at (heard_by message s) index).status ≡ Status.Absent
+    pub heard_unnamed : status_in message (channel_at s index).setting.id ≡ None → (channel_at (heard_by message s) index).status ≡ None
     heard_unnamed absent = heard_status ∙ absent
 
     pub heard_plain : (channel_at s index).setting.controlled ≡ false → (channel_at (heard_by message s) index).flow ≡ (channel_at s index).flow
@@ -143,15 +141,15 @@ module _ (s : State) where
 
   silenced_ids : ids (silenced_by s).channels ≡ ids s.channels
   unfolding silenced_by silenced
-  silenced_ids = ids_told (λ id. Status.Absent) (λ id. Window.Empty) s.channels
+  silenced_ids = ids_told (λ id. None) (λ id. (Some Window.Empty)) s.channels
 
   pub silenced_sizes : sizes (silenced_by s).channels ≡ sizes s.channels
   unfolding silenced_by silenced
-  silenced_sizes = sizes_told (λ id. Status.Absent) (λ id. Window.Empty) s.channels
+  silenced_sizes = sizes_told (λ id. None) (λ id. (Some Window.Empty)) s.channels
 
   pub silenced_start : (index : ℕ) → start_of (silenced_by s) index ≡ start_of s index
   unfolding start_of silenced_by silenced
-  silenced_start index = starts_told (λ id. Status.Absent) (λ id. Window.Empty) index s.channels
+  silenced_start index = starts_told (λ id. None) (λ id. (Some Window.Empty)) index s.channels
 
   pub silenced_fits : state_fits s ≡ true → state_fits (silenced_by s) ≡ true
   unfolding silenced_by silenced names_fit
@@ -162,7 +160,7 @@ module _ (s : State) where
         few = rw silenced_count f.few;
         names = f.names;
         waits = f.waits;
-        each = all_told (λ id. Status.Absent) (λ id. Window.Empty) (λ id. refl) s.channels f.each;
+        each = all_told (λ id. None) (λ id. (Some Window.Empty)) (λ id. refl) s.channels f.each;
         apart = rw silenced_ids f.apart;
         primary = rw silenced_ids f.primary;
       })

@@ -4,7 +4,7 @@
 ghost use Rattle.std.specs.Prelude.{◌≡◌};
 ghost use Rattle.ips_radio.specs.Heard.{due_of};
 
-use meaning::message::Context;
+use meaning::message::ContextBytes;
 use quantity::refusal::Refusal;
 
 // `Due`: accepted, and a mobility message is due.
@@ -12,17 +12,16 @@ use quantity::refusal::Refusal;
 pub enum RadioAnswer {
     Accepted,
     Due,
-    Refused(Refusal),
 }
 
 // Whether a mobility message is due: a Context came, and the control message just before had none, or another in length or bytes.
-pub fn is_due(kept: Context, given: Context) -> bool
+pub fn is_due(kept: Option<(ContextBytes, usize)>, given: Option<(ContextBytes, usize)>) -> bool
     ensures { result ≡ due_of kept given }
 {
-    let Context::Given(bytes, length) = given else {
+    let Some((bytes, length)) = given else {
         return false;
     };
-    let Context::Given(kept_bytes, kept_length) = kept else {
+    let Some((kept_bytes, kept_length)) = kept else {
         return true;
     };
     bytes.0 != kept_bytes.0 || length != kept_length

@@ -1,4 +1,7 @@
 -- 19 and 12 are given exactly when the paper says so; from 13 on the channel judges. A refusal "changes no state and no lent byte". Assumes nothing.
+use Rattle.std.specs.Prelude.{Result, Ok, Err}
+use Rattle.quantity.specs.declared.refusal.Refusal.{Refusal}
+use Rattle.meaning.specs.declared.message.Plane.{Plane}
 use Prim.Native.Nat.{ℕ, ◌<◌}
 use mathlib.Core.Bool.{Bool, true, false, cond, not, and-false, and-eq-true_iff}
 use mathlib.Core.List.{List, []}
@@ -11,9 +14,8 @@ use Rattle.quantity.specs.declared.count.DatalinkId.{DatalinkId}
 use Rattle.quantity.specs.Refusals.{NO-CHANNEL, OUTSIDE-LIMITS}
 use Rattle.meaning.specs.declared.message.End.TheVariants as ends
 use Rattle.reader.specs.Readings.{Verdict, read_control, read_data, plane_of}
-use Rattle.reader.specs.declared.answer.PlaneAnswer.{PlaneAnswer}
 use Rattle.store.specs.Packets.{Packet}
-use Rattle.ips_channel_rules.specs.Rules.{ChannelCall, offer, next, withdraw, Taken, Tried, Emptied, Says, refused, Terms, Condition, Result, call_at}
+use Rattle.ips_channel_rules.specs.Rules.{ChannelCall, offer, next, withdraw, Taken, Tried, Emptied, Says, refused, Terms, Condition, AfterCall, call_at}
 use Rattle.ips_channel_rules.specs.Machine.{machine}
 use Rattle.ips_channel_rules.specs.Exactly.{Offered, offered_not_ipv6, offered_long, offered_early, offered_past, offered_full, offered_taken, Asked, asked_early, asked_nothing, asked_not_operational, asked_shut, asked_no_room, asked_sent}
 use Rattle.ips_channel_rules.proofs.Exact.{offered, asked, withdraw_is}
@@ -71,7 +73,7 @@ module _ (id : ℕ) (c : ChannelCall) (w : World) where
 
 -- ---- the numbers that a channel gives lie between the two
 module _ (k : Terms) (st : Condition machine) where
-  offer_between : (p : Packet) (time : ℕ) (r : Result machine Taken) → Offered machine k p time st r → (n : ℕ) → r.answer ≡ refused n → (NO-CHANNEL < n) × (n < OUTSIDE-LIMITS)
+  offer_between : (p : Packet) (time : ℕ) (r : AfterCall machine Taken) → Offered machine k p time st r → (n : ℕ) → r.answer ≡ refused n → (NO-CHANNEL < n) × (n < OUTSIDE-LIMITS)
   offer_between p time _ (offered_not_ipv6 v) n e = let is : 13 ≡ n = cc in (omega arith, omega arith)
   offer_between p time _ (offered_long v l) n e = let is : 14 ≡ n = cc in (omega arith, omega arith)
   offer_between p time _ (offered_early v l t) n e = let is : 15 ≡ n = cc in (omega arith, omega arith)
@@ -79,7 +81,7 @@ module _ (k : Terms) (st : Condition machine) where
   offer_between p time _ (offered_full v l t x f) n e = let is : 17 ≡ n = cc in (omega arith, omega arith)
   offer_between p time _ (offered_taken v l t x f) n e = clash (cc)
 
-  next_between : (time room : ℕ) (r : Result machine Tried) → Asked machine k time room st r → (n : ℕ) → r.answer ≡ refused n → (NO-CHANNEL < n) × (n < OUTSIDE-LIMITS)
+  next_between : (time room : ℕ) (r : AfterCall machine Tried) → Asked machine k time room st r → (n : ℕ) → r.answer ≡ refused n → (NO-CHANNEL < n) × (n < OUTSIDE-LIMITS)
   next_between time room _ (asked_early t) n e = let is : 15 ≡ n = cc in (omega arith, omega arith)
   next_between time room _ (asked_nothing t w) n e = clash (cc)
   next_between time room _ (asked_not_operational t w o) n e = clash (cc)
@@ -90,7 +92,7 @@ module _ (k : Terms) (st : Condition machine) where
   pub between : (c : ChannelCall) (n : ℕ) → (call_at machine k c st).answer ≡ refused n → (NO-CHANNEL < n) × (n < OUTSIDE-LIMITS)
   between (offer p time) n e = offer_between p time _ (offered machine k p time st) n e
   between (next time out) n e = next_between time (length out) _ (asked machine k time (length out) st) n e
-  between withdraw n e = let empties = ap (λ (r : Result machine Emptied). r.answer) (withdraw_is machine k st) in clash (cc)
+  between withdraw n e = let empties = ap (λ (r : AfterCall machine Emptied). r.answer) (withdraw_is machine k st) in clash (cc)
 
 module _ (id : ℕ) (c : ChannelCall) (w : World) where
   -- "Calls on a state test 19 first."
@@ -111,11 +113,11 @@ module _ (id : ℕ) (c : ChannelCall) (w : World) where
   exactly_twelve = (twelve (judged id c w), λ f. ap (λ (r : WorldResult (Says c)). r.answer) (gives_no_channel id c w f.0 f.1))
 
 -- ---- "changes no state and no lent byte"
-channel_same : {A : Type 0} (c : Channel) (r : Result machine A) (n : ℕ) → r.answer ≡ refused n → channel_after c r ≡ c
+channel_same : {A : Type 0} (c : Channel) (r : AfterCall machine A) (n : ℕ) → r.answer ≡ refused n → channel_after c r ≡ c
 unfolding channel_after
 channel_same c r n e = rw e
 
-store_same : {A : Type 0} (c : Channel) (store : List ℕ) (r : Result machine A) (n : ℕ) → r.answer ≡ refused n → store_after c store r ≡ store
+store_same : {A : Type 0} (c : Channel) (store : List ℕ) (r : AfterCall machine A) (n : ℕ) → r.answer ≡ refused n → store_after c store r ≡ store
 unfolding store_after
 store_same c store r n e = rw e
 
@@ -134,17 +136,17 @@ module _ (id : ℕ) (c : ChannelCall) (w : World) where
 
 -- ---- a datagram from the radio is heard exactly when it is a control message that is accepted, the state is within the limits and the time is not earlier
 module _ (datalink : DatalinkId) (datagram : List ℕ) where
-  pub heard_when : plane_of datagram ≡ PlaneAnswer.Control → (read_control ends.Radio datalink datagram).verdict ≡ Verdict.Accepted
+  pub heard_when : plane_of datagram ≡ Ok Plane.Control → (read_control ends.Radio datalink datagram).verdict ≡ Verdict.Accepted
       → received_in datalink datagram ≡ stated (read_control ends.Radio datalink datagram).message
   unfolding received_in
   heard_when plane verdict = rw (plane, verdict)
 
-  pub carried_when : plane_of datagram ≡ PlaneAnswer.Data → (read_data ends.Radio datalink datagram).verdict ≡ Verdict.Accepted → received_in datalink datagram ≡ carried
+  pub carried_when : plane_of datagram ≡ Ok Plane.Data → (read_data ends.Radio datalink datagram).verdict ≡ Verdict.Accepted → received_in datalink datagram ≡ carried
   unfolding received_in
   carried_when plane verdict = rw (plane, verdict)
 
-  pub dropped_when : (plane_of datagram ≡ PlaneAnswer.Control → (read_control ends.Radio datalink datagram).verdict ≡ Verdict.Accepted → ⊥)
-      → (plane_of datagram ≡ PlaneAnswer.Data → (read_data ends.Radio datalink datagram).verdict ≡ Verdict.Accepted → ⊥) → received_in datalink datagram ≡ dropped
+  pub dropped_when : (plane_of datagram ≡ Ok Plane.Control → (read_control ends.Radio datalink datagram).verdict ≡ Verdict.Accepted → ⊥)
+      → (plane_of datagram ≡ Ok Plane.Data → (read_data ends.Radio datalink datagram).verdict ≡ Verdict.Accepted → ⊥) → received_in datalink datagram ≡ dropped
   unfolding received_in
   dropped_when never neither = by_plane_lem (plane_of datagram) refl
     where
@@ -153,11 +155,11 @@ module _ (datalink : DatalinkId) (datagram : List ℕ) where
       by_verdict_lem Verdict.OtherPlane r f = refl
       by_verdict_lem (Verdict.Refused refusal) r f = refl
 
-      by_plane_lem : (p : PlaneAnswer) → plane_of datagram ≡ p
+      by_plane_lem : (p : Result Plane Refusal) → plane_of datagram ≡ p
           → by_plane p (control_read (read_control ends.Radio datalink datagram)) (data_read (read_data ends.Radio datalink datagram)) ≡ dropped
-      by_plane_lem PlaneAnswer.Control e = by_verdict_lem _ _ (never e)
-      by_plane_lem PlaneAnswer.Data e = by_verdict_lem _ _ (neither e)
-      by_plane_lem (PlaneAnswer.Refused refusal) e = refl
+      by_plane_lem (Ok Plane.Control) e = by_verdict_lem _ _ (never e)
+      by_plane_lem (Ok Plane.Data) e = by_verdict_lem _ _ (neither e)
+      by_plane_lem (Err refusal) e = refl
 
 module _ (w : World) (time : ℕ) (datagram : List ℕ) where
   pub accepted_in_time : in_time time w.state ≡ true → accepted_by (radio time datagram) w ≡ accepted_in w.state.datalink.id datagram

@@ -1,4 +1,7 @@
 -- What a datagram from the radio leaves, and a silence: every channel is told something, and touched in nothing else. Assumes nothing.
+use Rattle.std.specs.Prelude.{Option, Some, None, Result, Ok, Err}
+use Rattle.quantity.specs.declared.refusal.Refusal.{Refusal}
+use Rattle.meaning.specs.declared.message.Plane.{Plane}
 use Prim.Native.Nat.{ℕ, ◌<◌}
 use mathlib.Core.Bool.{true, and-eq-true_iff}
 use mathlib.Core.List.{List}
@@ -6,11 +9,9 @@ use mathlib.Core.Path.{◌≡◌, refl, ap, subst, ◌∙◌}
 use Rattle.quantity.specs.declared.count.DatalinkId.{DatalinkId}
 use Rattle.wire.specs.Numbers.{Octets}
 use Rattle.meaning.specs.declared.message.End.TheVariants as ends
-use Rattle.meaning.specs.declared.message.Status.{Status}
 use Rattle.meaning.specs.declared.message.Window.{Window}
 use Rattle.meaning.specs.declared.message.Control.{Control}
 use Rattle.reader.specs.Readings.{Verdict, read_control, read_data, plane_of}
-use Rattle.reader.specs.declared.answer.PlaneAnswer.{PlaneAnswer}
 use Rattle.writable.specs.Allowed.{datalink_allowed, instance_allowed, context_allowed, statuses_allowed, control_allowed}
 use Rattle.roundtrip.proofs.Writable.{control_writable}
 use Rattle.ips_channel_rules.specs.Rules as rules
@@ -51,20 +52,20 @@ brings datalink datagram octets = plane (plane_of datagram)
     data' Verdict.OtherPlane = nothing
     data' (Verdict.Refused refusal) = nothing
 
-    plane : (p : PlaneAnswer) → Brings (by_plane p (control_read (read_control ends.Radio datalink datagram)) (data_read (read_data ends.Radio datalink datagram)))
-    plane PlaneAnswer.Control = control _ refl
-    plane PlaneAnswer.Data = data' (read_data ends.Radio datalink datagram).verdict
-    plane (PlaneAnswer.Refused refusal) = nothing
+    plane : (p : Result Plane Refusal) → Brings (by_plane p (control_read (read_control ends.Radio datalink datagram)) (data_read (read_data ends.Radio datalink datagram)))
+    plane (Ok Plane.Control) = control _ refl
+    plane (Ok Plane.Data) = data' (read_data ends.Radio datalink datagram).verdict
+    plane (Err refusal) = nothing
 
 -- ---- one channel is told a Channel Status and a Flow Window, or their absence
-told_ruled : (status : Status) (window : Window) (datalink : DatalinkSetting) (c : Channel) (store : List ℕ) → Tidy c store
+told_ruled : (status : Option ℕ) (window : Option Window) (datalink : DatalinkSetting) (c : Channel) (store : List ℕ) → Tidy c store
     → AsRuled (terms_of datalink c.setting) datalink (heard_of c status window) store
     (step machine (terms_of datalink c.setting) (rules.radio status window) (condition_of c store))
 unfolding heard_of
 told_ruled status window datalink c store tidy = record { terms = refl; condition = heard_condition datalink c store status window; tidy = tidy }
 
 -- in another state, where it and its store stand as they stood
-module _ (w : World) (index : ℕ) (s : State) (status : Status) (window : Window) (same : s.datalink ≡ w.state.datalink)
+module _ (w : World) (index : ℕ) (s : State) (status : Option ℕ) (window : Option Window) (same : s.datalink ≡ w.state.datalink)
     (at : channel_at s index ≡ heard_of (channel_in w index) status window) (start : start_of s index ≡ start_of w.state index) where
   -- no store is touched
   store_told : store_at s index w.memory ≡ store_in w index
@@ -126,14 +127,14 @@ module _ (count : ℕ) (w : World) (o : InOrder count w) where
   silenced_datalink = refl
 
   module _ (index : ℕ) (inside : index < count) where
-    at_silenced : channel_at (silenced_by w.state) index ≡ heard_of (channel_in w index) Status.Absent Window.Empty
+    at_silenced : channel_at (silenced_by w.state) index ≡ heard_of (channel_in w index) None (Some Window.Empty)
     unfolding silenced
     at_silenced = silenced_at w.state index (here count w o index inside)
 
     pub ruled_silenced : (k : Terms) (st : Condition machine) → AsRuled k w.state.datalink (channel_in w index) (store_in w index) st
         → AsRuled k (silenced_by w.state).datalink (channel_at (silenced_by w.state) index) (store_at (silenced_by w.state) index w.memory) (step machine k silence st)
     ruled_silenced k st before =
-        ruled_told w index (silenced_by w.state) Status.Absent Window.Empty silenced_datalink at_silenced (silenced_start w.state index) k st before
+        ruled_told w index (silenced_by w.state) None (Some Window.Empty) silenced_datalink at_silenced (silenced_start w.state index) k st before
 
 -- ---- the pacer moves, and touches no channel
 pub paced_order : (count : ℕ) (w : World) → InOrder count w → (p : Pacer) → pacer_fits p ≡ true → InOrder count (with_state w (with_pacer w.state p))

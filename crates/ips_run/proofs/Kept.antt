@@ -1,4 +1,7 @@
 -- Over a whole run the state keeps the Context of the accepted radio control message just before, and the last Link Instance given. Assumes nothing.
+use Rattle.std.specs.Prelude.{Option, Some, None}
+use Rattle.quantity.specs.declared.count.LinkInstanceId.{LinkInstanceId}
+use Rattle.meaning.specs.declared.message.ContextBytes.{ContextBytes}
 use Prim.Native.Nat.{ℕ}
 use mathlib.Core.Bool.{Bool, true, false, cond, not, ◌&&◌, and-false}
 use mathlib.Core.List.{List, [], ◌∷◌, ◌++◌, append_assoc, append-nil}
@@ -7,8 +10,6 @@ use mathlib.Core.Path.{◌≡◌, refl, sym, ap, ◌∙◌}
 use borrow.Author.Tests.{eqb-false, ne_eqb}
 use lib.Dec.{eqb}
 use Rattle.facts.proofs.Tests.{clash}
-use Rattle.meaning.specs.declared.message.Instance.{Instance}
-use Rattle.meaning.specs.declared.message.Context.{Context}
 use Rattle.meaning.specs.declared.message.Control.{Control}
 use Rattle.ips_channel_rules.specs.Rules.{ChannelCall, Says}
 use Rattle.ips_channel.specs.declared.state.DatalinkSetting.{DatalinkSetting}
@@ -74,9 +75,9 @@ module _ {A : Type 0} (part : State → A) (gives : Control → List A) (hears :
       (sym (last_append (part w.state) (given_in gives (accepted_by c w)) (given_in gives (accepted_all cs (after c w)))))
 
 -- ---- Link Instance and Context
-instance_last : (before given : Instance) → kept_instance before given ≡ last_or before (if_instance given)
-instance_last before Instance.Absent = refl
-instance_last before (Instance.Given id length) = refl
+instance_last : (before given : Option (LinkInstanceId × ℕ)) → kept_instance before given ≡ last_or before (if_instance given)
+instance_last before None = refl
+instance_last before (Some (id, length)) = refl
 
 context_all : (cs : List Call) (w : World) → (after_all cs w).state.context ≡ last_or w.state.context (given_in (λ m. m.context ∷ []) (accepted_all cs w))
 unfolding heard_by with_channel with_pacer silenced_by
@@ -113,22 +114,22 @@ module _ (k : Configuration) (cs : List Call) where
   whole_context = context_all cs (fresh_world k)
 
 -- ---- a mobility message
-comes : (before given : Context) → due_of before given ≡ true → Comes before given
-comes before Context.Absent e = clash e
-comes Context.Absent (Context.Given bytes length) e = is_first
-comes (Context.Given before long) (Context.Given bytes length) e = go (eqb bytes.0 before.0) refl (eqb length long) refl e
+comes : (before given : Option (ContextBytes × ℕ)) → due_of before given ≡ true → Comes before given
+comes before None e = clash e
+comes None (Some (bytes, length)) e = is_first
+comes (Some (before, long)) (Some (bytes, length)) e = go (eqb bytes.0 before.0) refl (eqb length long) refl e
   where
-    go : (b : Bool) → eqb bytes.0 before.0 ≡ b → (l : Bool) → eqb length long ≡ l → not (b && l) ≡ true → Comes (Context.Given before long) (Context.Given bytes length)
+    go : (b : Bool) → eqb bytes.0 before.0 ≡ b → (l : Bool) → eqb length long ≡ l → not (b && l) ≡ true → Comes (Some (before, long)) (Some (bytes, length))
     go false p l q h = in_bytes (eqb-false _ _ p)
     go true p false q h = in_length (eqb-false _ _ q)
     go true p true q h = clash h
 
-comes_due : {before given : Context} → Comes before given → due_of before given ≡ true
+comes_due : {before given : Option (ContextBytes × ℕ)} → Comes before given → due_of before given ≡ true
 comes_due is_first = refl
 comes_due (in_length {before} {bytes} {long} {length} other) = rw (ne_eqb length long other, and-false)
 comes_due (in_bytes {before} {bytes} other) = rw (ne_eqb bytes.0 before.0 other)
 
-pub due_when : (before given : Context) → (due_of before given ≡ true) ↔ Comes before given
+pub due_when : (before given : Option (ContextBytes × ℕ)) → (due_of before given ≡ true) ↔ Comes before given
 due_when before given = (comes before given, comes_due)
 
 -- ---- by the accepted messages: document 01's condition and the mended one
@@ -147,55 +148,58 @@ ends_of (m ∷ ms) = go (ends_of ms)
 module _ (earlier : List Control) (before : Control) where
   context_before_lem : context_before (earlier ++ (before ∷ [])) ≡ before.context
   context_before_lem =
-      rw (given_append (λ m. m.context ∷ []) earlier (before ∷ [])) (last_append Context.Absent (given_in (λ m. m.context ∷ []) earlier) (before.context ∷ []))
+      rw (given_append (λ m. m.context ∷ []) earlier (before ∷ [])) (last_append None (given_in (λ m. m.context ∷ []) earlier) (before.context ∷ []))
 
   context_received : last_context (earlier ++ (before ∷ [])) ≡ last_or (last_context earlier) (if_context before.context)
   context_received =
       rw (given_append (λ m. if_context m.context) earlier (before ∷ []), append-nil (if_context before.context))
-      (last_append Context.Absent (given_in (λ m. if_context m.context) earlier) (if_context before.context))
+      (last_append None (given_in (λ m. if_context m.context) earlier) (if_context before.context))
 
-first_comes : {last given : Context} → Comes last given → Comes Context.Absent given
+first_comes : {last given : Option (ContextBytes × ℕ)} → Comes last given → Comes None given
 first_comes is_first = is_first
 first_comes (in_length other) = is_first
 first_comes (in_bytes other) = is_first
 
-mended : {ms : List Control} {given : Context} → Ends ms → Comes (context_before ms) given → MobilityDue ms given
+mended : {ms : List Control} {given : Option (ContextBytes × ℕ)} → Ends ms → Comes (context_before ms) given → MobilityDue ms given
 mended empty h = first_or_differs h
 mended (ends earlier before) h = go before.context refl (rw (context_before_lem earlier before) at h)
   where
-    go : (last : Context) {given : Context} → before.context ≡ last → Comes last given → MobilityDue (earlier ++ (before ∷ [])) given
-    go Context.Absent e is_first = after_gap earlier before refl e
-    go (Context.Given bytes length) {given} e h = first_or_differs {given = given} (rw (context_received earlier before, e) h)
+    go : (last : Option (ContextBytes × ℕ)) {given : Option (ContextBytes × ℕ)} → before.context ≡ last → Comes last given → MobilityDue (earlier ++ (before ∷ [])) given
+    go None e is_first = after_gap earlier before refl e
+    go (Some (bytes, length)) {given} e h = first_or_differs {given = given} (rw (context_received earlier before, e) h)
 
-older : {ms : List Control} {given : Context} → Ends ms → Comes (last_context ms) given → Comes (context_before ms) given
+older : {ms : List Control} {given : Option (ContextBytes × ℕ)} → Ends ms → Comes (last_context ms) given → Comes (context_before ms) given
 older empty h = h
 older {given = given} (ends earlier before) h = rw (context_before_lem earlier before) (go before.context (rw (context_received earlier before) at h))
   where
-    go : (last : Context) → Comes (last_or (last_context earlier) (if_context last)) given → Comes last given
-    go Context.Absent h = first_comes h
-    go (Context.Given bytes length) h = h
+    go : (last : Option (ContextBytes × ℕ)) → Comes (last_or (last_context earlier) (if_context last)) given → Comes last given
+    go None h = first_comes h
+    go (Some (bytes, length)) h = h
 
-kept_so : {ms : List Control} {given : Context} → MobilityDue ms given → Comes (context_before ms) given
+kept_so : {ms : List Control} {given : Option (ContextBytes × ℕ)} → MobilityDue ms given → Comes (context_before ms) given
 kept_so {ms} (first_or_differs h) = older (ends_of ms) h
 kept_so (after_gap earlier before e none) = rw (e, context_before_lem earlier before, none) is_first
 
 -- what is kept decides whether one of the two holds
-pub due_mended : (accepted : List Control) (given : Context) → Comes (context_before accepted) given ↔ MobilityDue accepted given
+pub due_mended : (accepted : List Control) (given : Option (ContextBytes × ℕ)) → Comes (context_before accepted) given ↔ MobilityDue accepted given
 due_mended accepted given = (mended (ends_of accepted), kept_so)
 
 -- ---- the same case by case
-comes_other : {before given : Context} → Comes before given → before ≡ given → ⊥
-comes_other is_first e = clash (cc)
-comes_other (in_length other) e = other (cc)
-comes_other (in_bytes other) e = other (cc)
+given_same : {x y : ContextBytes × ℕ} → Some x ≡ Some y → x ≡ y
+given_same e = cc
 
-comes_given : {before given : Context} → Comes before given → given ≡ Context.Absent → ⊥
+comes_other : {before given : Option (ContextBytes × ℕ)} → Comes before given → before ≡ given → ⊥
+comes_other is_first e = clash (cc)
+comes_other (in_length other) e = other (ap (λ (x : ContextBytes × ℕ). x.1) (sym (given_same e)))
+comes_other (in_bytes other) e = other (ap (λ (x : ContextBytes × ℕ). x.0.0) (sym (given_same e)))
+
+comes_given : {before given : Option (ContextBytes × ℕ)} → Comes before given → given ≡ None → ⊥
 comes_given is_first e = clash (cc)
 comes_given (in_length other) e = clash (cc)
 comes_given (in_bytes other) e = clash (cc)
 
 -- a message without a Context makes none due
-pub due_given : {accepted : List Control} → MobilityDue accepted Context.Absent → ⊥
+pub due_given : {accepted : List Control} → MobilityDue accepted None → ⊥
 due_given due = comes_given (kept_so due) refl
 
 -- nor does the Context of the message just before, so that after a gap it is due once

@@ -8,7 +8,7 @@ use lib.ListN.{length}
 use Rattle.store.specs.Waiting.{store_of}
 use Rattle.store.proofs.Held.{packets_of_lem}
 use Rattle.ips_channel_rules.specs.Rules as rules
-use Rattle.ips_channel_rules.specs.Rules.{ChannelCall, Says, Answer, refused, answered, unless_refused, Event, Happened, Terms, Condition, Result, call_at}
+use Rattle.ips_channel_rules.specs.Rules.{ChannelCall, Says, Answer, refused, answered, unless_refused, Event, Happened, Terms, Condition, AfterCall, call_at}
 use Rattle.ips_channel_rules.specs.Machine.{machine}
 use Rattle.ips_channel_rules.specs.Account.{is_call}
 use Rattle.ips_channel_rules.proofs.Leaves.{Leaves, stays, joins, looks, sends, clears, hears, leaves}
@@ -54,7 +54,7 @@ module _ (c : Channel) (store : List ℕ) where
   made st = rw (packets_of_lem c.setting.size.0 st.keeping) (record { queue_is = refl; store_is = refl })
 
   -- a refusal leaves what was there; any other answer leaves the store so "even if other bytes stood there"
-  pub tidy_unless : {A : Type 0} (r : Result machine A) → ((number : ℕ) → r.answer ≡ refused number → Tidy c store) → Tidy (channel_after c r) (store_after c store r)
+  pub tidy_unless : {A : Type 0} (r : AfterCall machine A) → ((number : ℕ) → r.answer ≡ refused number → Tidy c store) → Tidy (channel_after c r) (store_after c store r)
   unfolding channel_after store_after
   tidy_unless {A} r before = by r.answer before
     where
@@ -82,7 +82,7 @@ module _ (count : ℕ) (w : World) (o : InOrder count w) (at : ℕ) (inside : at
 
   -- ---- a call on it
   module _ (call : ChannelCall) where
-    abbrev result : Result machine (Says call)
+    abbrev result : AfterCall machine (Says call)
     result = result_in call w at
 
     abbrev served : World

@@ -1,5 +1,6 @@
 -- DEMAND 3 FOR THE WHOLE ENDPOINT: "Take any sequence of calls from a fresh start, refused ones among them, each taking the state and the lent memory as the one
 -- before left them." Each channel, "seeing its own calls and its part of each accepted radio message", and each silence, is served as the simple channel would be. Assumes nothing.
+use Rattle.std.specs.Prelude.{Some}
 use Prim.Native.Nat.{ℕ, ◌^◌, ◌<◌}
 use mathlib.Core.Bool.{Bool, true, false, cond}
 use mathlib.Core.List.{List, [], ◌∷◌, ◌++◌, append_assoc}
@@ -207,8 +208,8 @@ module _ (k : Configuration) (fits : configuration_taken k ≡ true) where
     -- a window arrives: what goes until the next radio message or silence never passes the number that it stands for at the count when it came
     module _ (small : (start_at k index).first.0 < 2 ^ 32) (controlled : (start_at k index).setting.controlled ≡ true) (cs ds : List Call) (bytes : BytesIn cs) (more : BytesIn ds)
         (time : ℕ) (datagram : List ℕ) (octets : Octets datagram) (m : Control) (accepted : accepted_by (radio time datagram) (reached k cs) ≡ m ∷ [])
-        (none : NoNews ds (after (radio time datagram) (reached k cs))) (window : FlowWindow) (given : window_in m (id_at k index) ≡ Window.Given window) where
-      arrives : seen_since k index cs (radio time datagram ∷ ds) ≡ rules.radio (status_in m (id_at k index)) (Window.Given window) ∷ sees_all (id_at k index) ds (after (radio time datagram) (reached k cs))
+        (none : NoNews ds (after (radio time datagram) (reached k cs))) (window : FlowWindow) (given : window_in m (id_at k index) ≡ Some (Window.Given window)) where
+      arrives : seen_since k index cs (radio time datagram ∷ ds) ≡ rules.radio (status_in m (id_at k index)) (Some (Window.Given window)) ∷ sees_all (id_at k index) ds (after (radio time datagram) (reached k cs))
       arrives = rw (accepted, given)
 
       pub whole_arrival : let before = final simple (ruled k index) (seen k index cs) (simply_at k index) in

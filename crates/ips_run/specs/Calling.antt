@@ -3,7 +3,7 @@
 use Rattle.std.specs.Prelude.{ℕ, true, false, cond, not, ◌≡◌}
 use Rattle.quantity.specs.Limits.{LONGEST-PACKET, Limits, CURRENT-LIMITS}
 use Rattle.quantity.specs.Refusals.{NO-CHANNEL, OUTSIDE-LIMITS}
-use Rattle.ips_channel_rules.specs.Rules.{ChannelCall, Says, Answer, refused, Terms, Condition, Result}
+use Rattle.ips_channel_rules.specs.Rules.{ChannelCall, Says, Answer, refused, Terms, Condition, AfterCall}
 use Rattle.ips_channel_rules.specs.Machine.{machine}
 use Rattle.ips_channel.specs.Channel.{terms_under, condition_of}
 use Rattle.ips_channel_calls.specs.Calls.{channel_after, store_after, result_under}
@@ -20,10 +20,10 @@ terms_in w index = terms_in_under LONGEST-PACKET w index
 abbrev pub condition_in : World → ℕ → Condition machine
 condition_in w index = condition_of (channel_in w index) (store_in w index)
 
-abbrev pub result_in_under : (longest : ℕ) (c : ChannelCall) → World → ℕ → Result machine (Says c)
+abbrev pub result_in_under : (longest : ℕ) (c : ChannelCall) → World → ℕ → AfterCall machine (Says c)
 result_in_under longest c w index = result_under longest w.state.datalink c (channel_in w index) (store_in w index)
 
-abbrev pub result_in : (c : ChannelCall) → World → ℕ → Result machine (Says c)
+abbrev pub result_in : (c : ChannelCall) → World → ℕ → AfterCall machine (Says c)
 result_in c w index = result_in_under LONGEST-PACKET c w index
 
 -- ---- what a call comes to: the answer of the rules, and the world that it leaves
@@ -36,7 +36,7 @@ abbrev pub refusing : {A : Type 0} → ℕ → World → WorldResult A
 refusing number w = record { answer = refused number; world = w }
 
 -- the channel and its store, put back
-abbrev pub putting_back : {A : Type 0} → Result machine A → World → ℕ → World
+abbrev pub putting_back : {A : Type 0} → AfterCall machine A → World → ℕ → World
 putting_back r w index =
     record {
       state = with_channel w.state index (channel_after (channel_in w index) r);

@@ -1,11 +1,12 @@
 -- Demand 3: "Take any sequence of calls from a fresh start, refused ones among them, each taking the state and the lent memory as the one before left them."
-use Rattle.std.specs.Prelude.{ℕ, Bool, false, cond, not, ◌&&◌, ◌||◌, List, [], ◌∷◌, ◌++◌, map, replicate, eqb}
+use Rattle.quantity.specs.declared.refusal.Refusal.{Refusal}
+use Rattle.meaning.specs.declared.message.Plane.{Plane}
+use Rattle.std.specs.Prelude.{ℕ, Bool, false, cond, not, ◌&&◌, ◌||◌, List, [], ◌∷◌, ◌++◌, map, replicate, eqb, Result, Ok, Err}
 use Rattle.quantity.specs.declared.count.DatalinkId.{DatalinkId}
 use Rattle.quantity.specs.Limits.{Limits, CURRENT-LIMITS}
 use Rattle.meaning.specs.declared.message.End.TheVariants as ends
 use Rattle.meaning.specs.declared.message.Control.{Control}
 use Rattle.reader.specs.Readings.{Verdict, ControlReading, DataReading, read_control, read_data, plane_of}
-use Rattle.reader.specs.declared.answer.PlaneAnswer.{PlaneAnswer}
 use Rattle.ips_channel_rules.specs.Rules as rules
 use Rattle.ips_channel_rules.specs.Rules.{ChannelCall, Event, Happened}
 use Rattle.pacer.specs.declared.Pacer.{Pacer}
@@ -34,10 +35,10 @@ if_accepted Verdict.Accepted received = received
 if_accepted Verdict.OtherPlane received = dropped
 if_accepted (Verdict.Refused refusal) received = dropped
 
-abbrev pub by_plane : PlaneAnswer → (control data' : Received) → Received
-by_plane PlaneAnswer.Control control data' = control
-by_plane PlaneAnswer.Data control data' = data'
-by_plane (PlaneAnswer.Refused refusal) control data' = dropped
+abbrev pub by_plane : Result Plane Refusal → (control data' : Received) → Received
+by_plane (Ok Plane.Control) control data' = control
+by_plane (Ok Plane.Data) control data' = data'
+by_plane (Err refusal) control data' = dropped
 
 abbrev pub control_read : ControlReading → Received
 control_read reading = if_accepted reading.verdict (stated reading.message)

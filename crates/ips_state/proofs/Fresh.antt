@@ -1,12 +1,11 @@
 -- Promise: the state of a fresh start, written out: each channel by its kind, every store zeros, no Link Instance and no Context. Assumes nothing.
+use Rattle.std.specs.Prelude.{None}
 use Prim.Native.Nat.{ℕ, zero, suc, ◌+◌, ◌≤◌, ◌<◌}
 use mathlib.Core.Bool.{true, false}
 use mathlib.Core.List.{List, ◌∷◌}
 use mathlib.Core.Path.{◌≡◌, refl, ap, ◌∙◌}
 use native.Mathlib.Omega.{arith}
 use lib.ListN.{length, get_or, take, drop, replicate}
-use Rattle.meaning.specs.declared.message.Instance.{Instance}
-use Rattle.meaning.specs.declared.message.Context.{Context}
 use Rattle.flow.specs.declared.Flow.{Flow}
 use Rattle.ips_channel.specs.declared.state.Channel.{Channel}
 use Rattle.ips_channel.specs.Channel.{fresh_channel}
@@ -29,7 +28,7 @@ zeros_within (suc a) b zero h = absurd (omega arith)
 zeros_within (suc a) b (suc n) h = zeros_within a b n (omega arith)
 
 module _ (k : Configuration) where
-  pub fresh_names : ((fresh_state k).datalink ≡ k.datalink) × ((fresh_state k).instance ≡ Instance.Absent) × ((fresh_state k).context ≡ Context.Absent)
+  pub fresh_names : ((fresh_state k).datalink ≡ k.datalink) × ((fresh_state k).instance ≡ None) × ((fresh_state k).context ≡ None)
   unfolding fresh_state
   fresh_names = (refl, refl, refl)
 

@@ -1,4 +1,5 @@
 -- A state is within the limits, fact by fact, exactly where `state_fits` says so. Assumes nothing.
+use Rattle.std.specs.Prelude.{Option, Some, None}
 use Prim.Native.Nat.{ℕ, zero, suc, ◌^◌, ◌≤◌, ◌<◌}
 use mathlib.Core.Bool.{Bool, true, false, ◌&&◌, and-eq-true_iff}
 use mathlib.Core.List.{List, [], ◌∷◌}
@@ -11,10 +12,7 @@ use Rattle.facts.proofs.Tests.{clash}
 use Rattle.quantity.specs.declared.count.LinkInstanceId.{LinkInstanceId}
 use Rattle.quantity.specs.Limits.{MOST-WAITING, SHORTEST-PACKET, LONGEST-PACKET, HIGHEST-STATUS, SHORTEST-NAME, LONGEST-NAME}
 use Rattle.meaning.specs.declared.message.End.TheVariants as ends
-use Rattle.meaning.specs.declared.message.Instance.{Instance}
 use Rattle.meaning.specs.declared.message.ContextBytes.{ContextBytes}
-use Rattle.meaning.specs.declared.message.Context.{Context}
-use Rattle.meaning.specs.declared.message.Status.{Status}
 use Rattle.meaning.specs.Kinds.{length_listed}
 use Rattle.writable.specs.Allowed.{instance_allowed, context_allowed, status_allowed}
 use Rattle.store.specs.declared.queue.Entry.{Entry}
@@ -58,9 +56,9 @@ fits_queue queue size e =
     record { few = leb-true _ _ b.0; lengths = within_lengths (waiting queue) b.1; room = leb-true _ _ a.1 }
 
 -- ---- a channel
-status_fits : (status : Status) → ((value : ℕ) → status ≡ Status.Given value → value ≤ HIGHEST-STATUS) → status_allowed ends.Radio status ≡ true
-status_fits Status.Absent h = refl
-status_fits (Status.Given value) h = le-leb _ _ (h value refl)
+status_fits : (status : Option ℕ) → ((value : ℕ) → status ≡ Some value → value ≤ HIGHEST-STATUS) → status_allowed ends.Radio status ≡ true
+status_fits None h = refl
+status_fits (Some value) h = le-leb _ _ (h value refl)
 
 flow_plain : (controlled : Bool) (flow : Flow) → (controlled ≡ false → flow ≡ Flow.Free) → flow_fits controlled flow ≡ true
 flow_plain true flow h = refl
@@ -105,15 +103,15 @@ fits_name value size e =
     let b = (and-eq-true_iff (leb SHORTEST-NAME size) _).0 a.0 in
     record { shortest = leb-true _ _ b.0; longest = leb-true _ _ b.1; fits = ltb-true value (256 ^ size) a.1 }
 
-instance_fits : (x : Instance) → ((value : LinkInstanceId) (size : ℕ) → x ≡ Instance.Given value size → NameWithin value.0 size) → instance_allowed ends.Radio x ≡ true
+instance_fits : (x : Option (LinkInstanceId × ℕ)) → ((value : LinkInstanceId) (size : ℕ) → x ≡ Some (value, size) → NameWithin value.0 size) → instance_allowed ends.Radio x ≡ true
 unfolding length_listed
-instance_fits Instance.Absent h = refl
-instance_fits (Instance.Given value size) h = name_fits_lem value.0 size (h value size refl)
+instance_fits None h = refl
+instance_fits (Some (value, size)) h = name_fits_lem value.0 size (h value size refl)
 
-context_fits : (x : Context) → ((value : ContextBytes) (size : ℕ) → x ≡ Context.Given value size → NameWithin value.0 size) → context_allowed ends.Radio x ≡ true
+context_fits : (x : Option (ContextBytes × ℕ)) → ((value : ContextBytes) (size : ℕ) → x ≡ Some (value, size) → NameWithin value.0 size) → context_allowed ends.Radio x ≡ true
 unfolding length_listed
-context_fits Context.Absent h = refl
-context_fits (Context.Given value size) h = name_fits_lem value.0 size (h value size refl)
+context_fits None h = refl
+context_fits (Some (value, size)) h = name_fits_lem value.0 size (h value size refl)
 
 -- ---- a state
 module _ (s : State) where

@@ -1,9 +1,8 @@
 -- The endpoint's state: its channels in configuration order; the configuration, and the fresh start that it makes.
-use Rattle.std.specs.Prelude.{ℕ, false, List, [], map, set, get_or}
+use Rattle.quantity.specs.declared.count.LinkInstanceId.{LinkInstanceId}
+use Rattle.meaning.specs.declared.message.ContextBytes.{ContextBytes}
+use Rattle.std.specs.Prelude.{ℕ, false, List, [], map, set, get_or, Option, None}
 use Rattle.quantity.specs.declared.count.FlowSequence.{FlowSequence}
-use Rattle.meaning.specs.declared.message.Instance.{Instance}
-use Rattle.meaning.specs.declared.message.Context.{Context}
-use Rattle.meaning.specs.declared.message.Status.TheVariants as statuses
 use Rattle.flow.specs.declared.Flow.{Flow}
 use Rattle.ips_channel.specs.declared.state.DatalinkSetting.{DatalinkSetting}
 use Rattle.ips_channel.specs.declared.state.Setting.{Setting}
@@ -29,8 +28,8 @@ pub record Configuration : Type 0 where
 pub record State : Type 0 where
   pub datalink : DatalinkSetting
   pub channels : List Channel
-  pub instance : Instance
-  pub context : Context
+  pub instance : Option (LinkInstanceId × ℕ)
+  pub context : Option (ContextBytes × ℕ)
   pub pacer : Pacer
 
 -- what an index past the end gives
@@ -41,7 +40,7 @@ abbrev pub no_start : ChannelStart
 no_start = record { setting = no_setting; first = record { 0 = 0 } }
 
 abbrev pub no_channel : Channel
-no_channel = record { setting = no_setting; status = statuses.Absent; flow = Flow.Free; sequence = record { 0 = 0 }; latest = 0; queue = record { entries = []; count = 0 } }
+no_channel = record { setting = no_setting; status = None; flow = Flow.Free; sequence = record { 0 = 0 }; latest = 0; queue = record { entries = []; count = 0 } }
 
 unfoldable pub channel_at : State → ℕ → Channel
 channel_at s index = get_or s.channels index no_channel
@@ -60,11 +59,11 @@ abbrev pub fresh_of : ChannelStart → Channel
 fresh_of start = fresh_channel start.setting start.first
 
 unfoldable pub fresh_state : Configuration → State
-fresh_state k = record { datalink = k.datalink; channels = map fresh_of k.starts; instance = Instance.Absent; context = Context.Absent; pacer = fresh_pacer k.hello k.limit }
+fresh_state k = record { datalink = k.datalink; channels = map fresh_of k.starts; instance = None; context = None; pacer = fresh_pacer k.hello k.limit }
 
 -- ---- no channel at all, which every call refuses
 unfoldable pub blank_state : State
-blank_state = record { datalink = no_datalink; channels = []; instance = Instance.Absent; context = Context.Absent; pacer = fresh_pacer 0 0 }
+blank_state = record { datalink = no_datalink; channels = []; instance = None; context = None; pacer = fresh_pacer 0 0 }
 
 unfoldable pub blank_configuration : Configuration
 blank_configuration = record { datalink = no_datalink; hello = 0; limit = 0; starts = [] }

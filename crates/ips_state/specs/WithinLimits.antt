@@ -1,10 +1,7 @@
 -- Number 19 without an order of tests, in literal numbers: the facts that hold of a state within the limits.
-use Rattle.std.specs.Prelude.{ℕ, ◌^◌, ◌≤◌, ◌<◌, false, ◌≡◌, length, get_or}
+use Rattle.std.specs.Prelude.{ℕ, ◌^◌, ◌≤◌, ◌<◌, false, ◌≡◌, length, get_or, Some}
 use Rattle.quantity.specs.declared.count.LinkInstanceId.{LinkInstanceId}
-use Rattle.meaning.specs.declared.message.Instance.{Instance}
 use Rattle.meaning.specs.declared.message.ContextBytes.{ContextBytes}
-use Rattle.meaning.specs.declared.message.Context.{Context}
-use Rattle.meaning.specs.declared.message.Status.{Status}
 use Rattle.store.specs.declared.queue.Queue.{Queue}
 use Rattle.store.specs.Waiting.{waiting, total, no_entry}
 use Rattle.flow.specs.declared.Flow.{Flow}
@@ -22,7 +19,7 @@ pub record ChannelWithin (c : Channel) : Type 0 where
   pub unreserved : c.setting.id < 255
   pub smallest : 1500 ≤ c.setting.size.0
   pub largest : c.setting.size.0 ≤ 65536
-  pub highest : (value : ℕ) → c.status ≡ Status.Given value → value ≤ 15
+  pub highest : (value : ℕ) → c.status ≡ Some value → value ≤ 15
   pub plain : c.setting.controlled ≡ false → c.flow ≡ Flow.Free
   pub queue_within : QueueWithin c.queue c.setting.size.0
 
@@ -43,5 +40,5 @@ pub record WithinLimits (s : State) : Type 0 where
   pub primary_is : (channel_at s primary).setting.id ≡ 0
   pub hello : 1 ≤ s.pacer.hello
   pub limit : 1 ≤ s.pacer.limit
-  pub instance_within : (value : LinkInstanceId) (size : ℕ) → s.instance ≡ Instance.Given value size → NameWithin value.0 size
-  pub context_within : (value : ContextBytes) (size : ℕ) → s.context ≡ Context.Given value size → NameWithin value.0 size
+  pub instance_within : (value : LinkInstanceId) (size : ℕ) → s.instance ≡ Some (value, size) → NameWithin value.0 size
+  pub context_within : (value : ContextBytes) (size : ℕ) → s.context ≡ Some (value, size) → NameWithin value.0 size

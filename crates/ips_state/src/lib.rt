@@ -2,10 +2,3 @@
 #![tactic(auto)]
 
 use quantity::refusal::Refusal;
-
-// 19 or 22, or the state has started.
-#[derive(Clone, Copy)]
-pub enum StartAnswer {
-    Started,
-    Refused(Refusal),
-}

@@ -41,9 +41,7 @@ module _ (w : List ℕ) (count : ℕ) where
       (λ (o : k < MOST-WAITING). entries_at k o ∙ rw (le-ltb k count h))
 
 -- ---- one entry more is read
-pub record Loading (w : List ℕ) (count : ℕ) (left : Queue) (at from : ℕ) : Type 0 where
-  pub within : at ≤ count
-  pub stands : from ≡ FIXED + ENTRY * at
+pub record Loading (w : List ℕ) (left : Queue) (at : ℕ) : Type 0 where
   pub places : length left.entries ≡ MOST-WAITING
   pub so_far : left.entries ≡ entries_in w at
 
@@ -54,13 +52,10 @@ nothing_in w = sym (ap (tabulate MOST-WAITING) (λ i k. none k i) ∙ tabulate_s
     none : (k : ℕ) → cond (ltb k 0) (entry_at w k) no_entry ≡ no_entry
     none k = rw (le-ltb k 0 (omega arith))
 
-pub load_start : (w : List ℕ) (count : ℕ) (q : Queue) → q ≡ queue_of [] → Loading w count q 0 FIXED
-load_start w count q e =
+pub load_start : (w : List ℕ) (q : Queue) → q ≡ queue_of [] → Loading w q 0
+load_start w q e =
     let so_far : q.entries ≡ entries_in w 0 = ap (λ (q : Queue). q.entries) e ∙ nothing_in w in
-    record { within = omega arith; stands = omega arith; places = ap (λ (es : List Entry). length es) so_far ∙ entries_length w 0; so_far = so_far }
-
-abbrev pub entry_from : List ℕ → ℕ → Entry
-entry_from w from = record { length = record { 0 = word w from }; expiry = word w (from + EXPIRY) }
+    record { places = ap (λ (es : List Entry). length es) so_far ∙ entries_length w 0; so_far = so_far }
 
 more_in : (w : List ℕ) (at : ℕ) → set (entries_in w at) at (entry_at w at) ≡ entries_in w (at + 1)
 unfolding entries_in
@@ -73,20 +68,15 @@ more_in w at =
         (λ (h : k < at + 1).
         ⊎_elim (λ (e : k ≡ at). rw (eq-eqb k at e, lt-ltb k (at + 1) h, e)) (λ (l : k < at). rw (ne_eqb k at (λ (e : k ≡ at). omega arith), lt-ltb k at l, lt-ltb k (at + 1) h)) (eq-or-lt_of_le (omega arith)))
 
-pub load_more : (w : List ℕ) (count : ℕ) (left : Queue) (at from length expiry : ℕ) → Loading w count left at from → at < count → length ≡ word w from → expiry ≡ word w (from + EXPIRY)
-    → Loading w count (record { entries = set left.entries at (record { length = record { 0 = length }; expiry = expiry }); count = left.count }) (at + 1) (from + ENTRY)
-load_more w count left at from length expiry l h e f = record {
-  within = omega arith;
-  stands = omega (arith, l.stands);
-  places = length-set left.entries at _ ∙ l.places;
-  so_far = rw (e, f, l.stands, l.so_far) (more_in w at);
-}
+pub load_more : (w : List ℕ) (left : Queue) (at length : ℕ) → Loading w left at → length ≡ word w (FIXED + ENTRY * at)
+    → Loading w (record { entries = set left.entries at (record { length = record { 0 = length }; expiry = word w (FIXED + ENTRY * at + EXPIRY) }); count = left.count }) (at + 1)
+load_more w left at length l e = record { places = length-set left.entries at _ ∙ l.places; so_far = rw (e, l.so_far) (more_in w at) }
 
-pub load_end : (w : List ℕ) (count : ℕ) (left : Queue) (at from : ℕ) → Loading w count left at from → count ≤ at → count ≡ word w WAITING
+pub load_end : (w : List ℕ) (count : ℕ) (left : Queue) (at : ℕ) → Loading w left at → at ≡ count → count ≡ word w WAITING
     → record { entries = left.entries; count = count } ≡ queue_in w
 unfolding queue_in
-load_end w count left at from l h e =
-    let all : at ≡ word w WAITING = omega (arith, l.within) in
+load_end w count left at l h e =
+    let all : at ≡ word w WAITING = omega arith in
     rw (l.so_far, all, e)
 
 -- ---- one entry more is written
@@ -100,36 +90,33 @@ unfolding entry_words
 entry_words_length [] = refl
 entry_words_length (e ∷ es) = rw (entry_words_length es) (omega arith)
 
-pub record Saving (w₀ : List ℕ) (es : List Entry) (w : List ℕ) (at from : ℕ) : Type 0 where
-  pub within : at ≤ MOST-WAITING
-  pub stands : from ≡ FIXED + ENTRY * at
+pub record Saving (w₀ : List ℕ) (es : List Entry) (w : List ℕ) (at : ℕ) : Type 0 where
   pub long : length w ≡ SLOT
-  pub so_far : take from w ≡ take FIXED w₀ ++ entry_words (take at es)
+  pub so_far : take (FIXED + ENTRY * at) w ≡ take FIXED w₀ ++ entry_words (take at es)
 
-pub save_start : (w : List ℕ) (es : List Entry) → length w ≡ SLOT → Saving w es w 0 FIXED
+pub save_start : (w : List ℕ) (es : List Entry) → length w ≡ SLOT → Saving w es w 0
 unfolding entry_words
-save_start w es l = record { within = omega arith; stands = omega arith; long = l; so_far = sym (append-nil (take FIXED w)) }
+save_start w es l = record { long = l; so_far = sym (append-nil (take FIXED w)) }
 
 two : (l : List ℕ) (i a b : ℕ) → i + 1 < length l → take (i + 2) (set (set l i a) (i + 1) b) ≡ take i l ++ (a ∷ b ∷ [])
 two l i a b h =
     let s : i + 2 ≡ suc (i + 1) = omega arith in
     rw (s, take-suc-set (set l i a) (i + 1) b (simp length-set h), add-one i, take-suc-set l i a (omega arith), append_assoc)
 
-pub save_more : (w₀ : List ℕ) (es : List Entry) (w : List ℕ) (at from length : ℕ) → ListN.length es ≡ MOST-WAITING → Saving w₀ es w at from → at < MOST-WAITING
+pub save_more : (w₀ : List ℕ) (es : List Entry) (w : List ℕ) (at length : ℕ) → ListN.length es ≡ MOST-WAITING → Saving w₀ es w at → at < MOST-WAITING
     → length ≡ (get_or es at no_entry).length.0
-    → Saving w₀ es (set (set w from length) (from + EXPIRY) (get_or es at no_entry).expiry) (at + 1) (from + ENTRY)
+    → Saving w₀ es (set (set w (FIXED + ENTRY * at) length) (FIXED + ENTRY * at + EXPIRY) (get_or es at no_entry).expiry) (at + 1)
 unfolding entry_words
-save_more w₀ es w at from length l s h e = record {
-  within = omega arith;
-  stands = omega (arith, s.stands);
-  long = simp length-set s.long;
-  so_far = rw (two w from _ _ (omega (arith, s.stands, s.long)), s.so_far, add-one at, take-suc es at no_entry (omega arith), entry_words_join (take at es) (get_or es at no_entry ∷ []), append_assoc, e);
-}
+save_more w₀ es w at length l s h e =
+    let next : FIXED + ENTRY * (at + 1) ≡ FIXED + ENTRY * at + 2 = omega arith in
+    record {
+      long = simp length-set s.long;
+      so_far = rw (next, two w (FIXED + ENTRY * at) _ _ (omega (arith, s.long)), s.so_far, add-one at, take-suc es at no_entry (omega arith), entry_words_join (take at es) (get_or es at no_entry ∷ []), append_assoc, e);
+    }
 
-pub save_end : (w₀ : List ℕ) (es : List Entry) (w : List ℕ) (at from : ℕ) → length es ≡ MOST-WAITING → Saving w₀ es w at from → MOST-WAITING ≤ at → w ≡ take FIXED w₀ ++ entry_words es
-save_end w₀ es w at from l s h =
-    let all : at ≡ MOST-WAITING = omega (arith, s.within) in
-    let whole : take from w ≡ w = take_all from w (omega (arith, s.long, s.stands)) in
+pub save_end : (w₀ : List ℕ) (es : List Entry) (w : List ℕ) (at : ℕ) → length es ≡ MOST-WAITING → Saving w₀ es w at → at ≡ MOST-WAITING → w ≡ take FIXED w₀ ++ entry_words es
+save_end w₀ es w at l s all =
+    let whole : take (FIXED + ENTRY * at) w ≡ w = take_all (FIXED + ENTRY * at) w (omega (arith, s.long)) in
     sym whole ∙ s.so_far ∙ rw (all, take_all MOST-WAITING es (omega arith))
 
 -- ---- what is written reads back

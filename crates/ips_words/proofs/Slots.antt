@@ -1,4 +1,5 @@
 -- One channel in its words: what is written, and that it reads back. Assumes nothing.
+use Rattle.std.specs.Prelude.{Option, Some, None}
 use Prim.Native.Nat.{ℕ, ◌^◌, ◌≤◌, ◌<◌}
 use mathlib.Core.Bool.{Bool, true, false, cond, and-eq-true_iff}
 use mathlib.Core.List.{List, [], ◌∷◌, ◌++◌}
@@ -11,7 +12,6 @@ use lib.Seq.{sets, sets-eq}
 use mir.Val.{bool_byte}
 use Rattle.quantity.specs.declared.count.FlowSequence.{FlowSequence}
 use Rattle.quantity.specs.Limits.{MOST-WAITING}
-use Rattle.meaning.specs.declared.message.Status.{Status}
 use Rattle.flow.specs.declared.Flow.{Flow}
 use Rattle.flow.specs.Counting.{first_flow}
 use Rattle.ips_channel_rules.specs.Rules.{Condition}
@@ -43,10 +43,10 @@ unfolding channel_words
 channel_length c l = omega (arith, entry_words_length c.queue.entries)
 
 -- ---- what is written reads back
-pub status_back : (status : Status) → status_of (status_tag status) (status_value status) ≡ status
+pub status_back : (status : Option ℕ) → status_of (status_tag status) (status_value status) ≡ status
 unfolding status_of
-status_back Status.Absent = refl
-status_back (Status.Given value) = refl
+status_back None = refl
+status_back (Some value) = refl
 
 pub flow_back : (flow : Flow) → flow_of (flow_tag flow) (flow_window flow) ≡ flow
 unfolding flow_of
@@ -92,9 +92,9 @@ kind_few : (b : Bool) → cond b CONTROLLED PLAIN ≤ CONTROLLED
 kind_few true = omega arith
 kind_few false = omega arith
 
-pub status_few : (status : Status) → status_tag status ≤ GIVEN
-status_few Status.Absent = omega arith
-status_few (Status.Given value) = omega arith
+pub status_few : (status : Option ℕ) → status_tag status ≤ GIVEN
+status_few None = omega arith
+status_few (Some value) = omega arith
 
 pub flow_few : (flow : Flow) → flow_tag flow ≤ IN-FORCE
 flow_few Flow.Free = omega arith
@@ -116,7 +116,7 @@ status_narrow : (tag value : ℕ) → value < 256 → status_value (status_of ta
 unfolding status_of
 status_narrow tag value h = go (eqb tag ABSENT)
   where
-    go : (b : Bool) → status_value (cond b Status.Absent (Status.Given value)) < 256
+    go : (b : Bool) → status_value (cond b None (Some value)) < 256
     go true = omega arith
     go false = h
 

@@ -1,11 +1,10 @@
 -- The state in lent words of 64 bits: the endpoint's own words, then as many for each configured channel, in configuration order. The words are named as in
 -- src/layout.rt, with `-` for `_`.
-use Rattle.std.specs.Prelude.{ℕ, zero, suc, ◌+◌, ◌*◌, ◌^◌, ◌≤◌, ◌<◌, Bool, true, cond, ◌&&◌, List, [], ◌∷◌, ◌++◌, ◌≡◌, length, take, drop, set, get_or, eqb, leb, ltb}
+use Rattle.quantity.specs.declared.count.LinkInstanceId.{LinkInstanceId}
+use Rattle.meaning.specs.declared.message.ContextBytes.{ContextBytes}
+use Rattle.std.specs.Prelude.{ℕ, zero, suc, ◌+◌, ◌*◌, ◌^◌, ◌≤◌, ◌<◌, Bool, true, cond, ◌&&◌, List, [], ◌∷◌, ◌++◌, ◌≡◌, length, take, drop, set, get_or, eqb, leb, ltb, Option, Some, None}
 use Rattle.facts.specs.Tables.{tabulate}
 use Rattle.quantity.specs.Limits.{MOST-WAITING}
-use Rattle.meaning.specs.declared.message.Instance.{Instance}
-use Rattle.meaning.specs.declared.message.Context.{Context}
-use Rattle.meaning.specs.declared.message.Status.{Status}
 use Rattle.store.specs.declared.queue.Entry.{Entry}
 use Rattle.store.specs.declared.queue.Queue.{Queue}
 use Rattle.store.specs.Waiting.{no_entry}
@@ -141,17 +140,21 @@ unfoldable pub slot : List ℕ → ℕ → List ℕ
 slot words index = take SLOT (drop (slot_start index) words)
 
 -- ---- what words say: an enum is a tag, and the words of what it holds
-unfoldable pub status_of : (tag value : ℕ) → Status
-status_of tag value = cond (eqb tag ABSENT) Status.Absent (Status.Given value)
+unfoldable pub status_of : (tag value : ℕ) → Option ℕ
+status_of tag value = cond (eqb tag ABSENT) None (Some value)
 
 unfoldable pub flow_of : (tag window : ℕ) → Flow
 flow_of tag window = cond (eqb tag FREE) Flow.Free (cond (eqb tag NO-WINDOW) Flow.NoWindow (Flow.InForce (record { 0 = window })))
 
-unfoldable pub instance_of : (tag value size : ℕ) → Instance
-instance_of tag value size = cond (eqb tag ABSENT) Instance.Absent (Instance.Given (record { 0 = value }) size)
+-- what is stated with a length of its own
+abbrev pub given_of : {A : Type 0} (tag : ℕ) → A → (size : ℕ) → Option (A × ℕ)
+given_of tag stated size = cond (eqb tag ABSENT) None (Some (stated, size))
 
-unfoldable pub context_of : (tag value size : ℕ) → Context
-context_of tag value size = cond (eqb tag ABSENT) Context.Absent (Context.Given (record { 0 = value }) size)
+unfoldable pub instance_of : (tag value size : ℕ) → Option (LinkInstanceId × ℕ)
+instance_of tag value size = given_of tag (record { 0 = value }) size
+
+unfoldable pub context_of : (tag value size : ℕ) → Option (ContextBytes × ℕ)
+context_of tag value size = given_of tag (record { 0 = value }) size
 
 -- ---- what waits: words behind the waiting packets may hold anything, the queue has zeros there
 abbrev pub entry_at : List ℕ → ℕ → Entry
@@ -210,13 +213,13 @@ unfoldable pub state_in : List ℕ → State
 state_in words = cond (readable words) (state_of words) blank_state
 
 -- ---- a channel as words, and the words with one channel replaced
-abbrev pub status_tag : Status → ℕ
-status_tag Status.Absent = ABSENT
-status_tag (Status.Given value) = GIVEN
+abbrev pub status_tag : Option ℕ → ℕ
+status_tag None = ABSENT
+status_tag (Some value) = GIVEN
 
-abbrev pub status_value : Status → ℕ
-status_value Status.Absent = 0
-status_value (Status.Given value) = value
+abbrev pub status_value : Option ℕ → ℕ
+status_value None = 0
+status_value (Some value) = value
 
 abbrev pub flow_tag : Flow → ℕ
 flow_tag Flow.Free = FREE

@@ -1,6 +1,6 @@
 // The endpoint's own words: the datalink's setting, Link Instance, Context and the pacer.
 ghost use Rattle.std.specs.Prelude.{◌≡◌, ◌≤◌, ◌<◌, length};
-ghost use Rattle.ips_words.specs.Words.{HEAD, DATALINK-WORD, CODES-WORD, word, instance_of, context_of, state_of, put_pacer};
+ghost use Rattle.ips_words.specs.Words.{HEAD, DATALINK-WORD, CODES-WORD, word, given_of, state_of, put_pacer};
 
 use crate::layout::{
     ABSENT, CLOCK_WORD, CODES_WORD, CONTEXT_LENGTH, CONTEXT_TAG, CONTEXT_VALUE, DATALINK_WORD,
@@ -8,7 +8,7 @@ use crate::layout::{
 };
 use crate::{slot, waiting};
 use ips_channel::state::DatalinkSetting;
-use meaning::message::{Context, ContextBytes, Instance};
+use meaning::message::ContextBytes;
 use meaning::status::StatusCodes;
 use pacer::Pacer;
 use quantity::count::{DatalinkId, LinkInstanceId};
@@ -31,42 +31,34 @@ pub fn setting(words: &[u64]) -> DatalinkSetting
     }
 }
 
-fn instance_of(tag: u64, value: u64, size: u64) -> Instance
-    ensures { result ≡ instance_of tag value size }
+// What is stated with a length of its own, as a Link Instance and a Context are.
+fn given_of<A: Copy>(tag: u64, stated: A, size: u64) -> Option<(A, usize)>
+    ensures { result ≡ given_of tag stated size }
 {
     if tag == ABSENT {
-        return Instance::Absent;
+        return None;
     }
-    Instance::Given(LinkInstanceId(value), waiting::narrow(size))
+    Some((stated, waiting::narrow(size)))
 }
 
-fn context_of(tag: u64, value: u64, size: u64) -> Context
-    ensures { result ≡ context_of tag value size }
-{
-    if tag == ABSENT {
-        return Context::Absent;
-    }
-    Context::Given(ContextBytes(value), waiting::narrow(size))
-}
-
-pub fn instance(words: &[u64]) -> Instance
+pub fn instance(words: &[u64]) -> Option<(LinkInstanceId, usize)>
     requires { HEAD ≤ length words.now }
     ensures { result ≡ (state_of words.now).instance }
 {
-    instance_of(
+    given_of(
         words[INSTANCE_TAG],
-        words[INSTANCE_VALUE],
+        LinkInstanceId(words[INSTANCE_VALUE]),
         words[INSTANCE_LENGTH],
     )
 }
 
-pub fn context(words: &[u64]) -> Context
+pub fn context(words: &[u64]) -> Option<(ContextBytes, usize)>
     requires { HEAD ≤ length words.now }
     ensures { result ≡ (state_of words.now).context }
 {
-    context_of(
+    given_of(
         words[CONTEXT_TAG],
-        words[CONTEXT_VALUE],
+        ContextBytes(words[CONTEXT_VALUE]),
         words[CONTEXT_LENGTH],
     )
 }

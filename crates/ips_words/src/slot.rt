@@ -9,7 +9,6 @@ use crate::layout::{
 use crate::waiting;
 use flow::Flow;
 use ips_channel::state::{Channel, Setting};
-use meaning::message::Status;
 use quantity::count::{ByteCount, FlowSequence, FlowWindow};
 
 pub(crate) fn byte(value: u64) -> u8
@@ -27,14 +26,14 @@ fn count(value: u64) -> u32
 }
 
 // An enum is a tag, and the word of what it holds.
-fn status_of(tag: u64, value: u64) -> Status
+fn status_of(tag: u64, value: u64) -> Option<u8>
     requires { value < 256 }
     ensures { result ≡ status_of tag value }
 {
     if tag == ABSENT {
-        return Status::Absent;
+        return None;
     }
-    Status::Given(byte(value))
+    Some(byte(value))
 }
 
 fn flow_of(tag: u64, window: u64) -> Flow
@@ -50,21 +49,21 @@ fn flow_of(tag: u64, window: u64) -> Flow
     Flow::InForce(FlowWindow(count(window)))
 }
 
-pub fn status_tag(status: Status) -> u64
+pub fn status_tag(status: Option<u8>) -> u64
     ensures { result ≡ status_tag status }
 {
     match status {
-        Status::Absent => ABSENT,
-        Status::Given(_) => GIVEN,
+        None => ABSENT,
+        Some(_) => GIVEN,
     }
 }
 
-pub fn status_value(status: Status) -> u64
+pub fn status_value(status: Option<u8>) -> u64
     ensures { result ≡ status_value status }
 {
     match status {
-        Status::Absent => 0,
-        Status::Given(value) => value as u64,
+        None => 0,
+        Some(value) => u64::from(value),
     }
 }
 
@@ -84,7 +83,7 @@ pub fn flow_window(flow: Flow) -> u64
     match flow {
         Flow::Free => 0,
         Flow::NoWindow => 0,
-        Flow::InForce(window) => window.0 as u64,
+        Flow::InForce(window) => u64::from(window.0),
     }
 }
 
@@ -120,14 +119,14 @@ fn save_fixed(part: &mut [u64], channel: Channel)
     let status = channel.status;
     let flow = channel.flow;
     let queue = channel.queue;
-    part[ID] = setting.id as u64;
-    part[KIND] = setting.controlled as u64;
+    part[ID] = u64::from(setting.id);
+    part[KIND] = u64::from(setting.controlled);
     part[SIZE] = waiting::wide(setting.size.0);
     part[STATUS_TAG] = status_tag(status);
     part[STATUS_VALUE] = status_value(status);
     part[FLOW_TAG] = flow_tag(flow);
     part[FLOW_WINDOW] = flow_window(flow);
-    part[SEQUENCE] = channel.sequence.0 as u64;
+    part[SEQUENCE] = u64::from(channel.sequence.0);
     part[LATEST] = channel.latest;
     part[WAITING] = waiting::wide(queue.count);
 }

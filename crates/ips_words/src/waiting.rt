@@ -6,7 +6,6 @@ ghost use Rattle.ips_words.specs.Words.{FIXED, SLOT, WAITING, word, queue_in, en
 use crate::layout;
 use crate::layout::{ENTRY, EXPIRY, FIXED};
 use quantity::count::ByteCount;
-use quantity::limit::MOST_WAITING;
 use store::queue;
 use store::queue::{Entry, Queue};
 
@@ -30,17 +29,12 @@ pub(crate) fn load(part: &[u64]) -> Queue
 {
     let mut left = queue::empty();
     let count = narrow(part[layout::WAITING]);
-    let mut at = 0;
-    let mut from = FIXED;
-    while at < count {
-        let length = narrow(part[from]);
-        let expiry = part[from + EXPIRY];
+    for at in 0..count {
+        let from = FIXED + ENTRY * at;
         left.entries[at] = Entry {
-            length: ByteCount(length),
-            expiry,
+            length: ByteCount(narrow(part[from])),
+            expiry: part[from + EXPIRY],
         };
-        at += 1;
-        from += ENTRY;
     }
     left.count = count;
     left
@@ -50,14 +44,9 @@ pub(crate) fn save(part: &mut [u64], queue: Queue)
     requires { length part.old ≡ SLOT }
     ensures { part.new ≡ take FIXED part.old ++ entry_words queue.entries }
 {
-    let mut at = 0;
-    let mut from = FIXED;
-    while at < MOST_WAITING {
-        let entry = queue.entries[at];
-        let length = entry.length;
-        part[from] = wide(length.0);
+    for (at, entry) in queue.entries.iter().enumerate() {
+        let from = FIXED + ENTRY * at;
+        part[from] = wide(entry.length.0);
         part[from + EXPIRY] = entry.expiry;
-        at += 1;
-        from += ENTRY;
     }
 }

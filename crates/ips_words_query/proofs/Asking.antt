@@ -1,4 +1,5 @@
 -- The query of a state is its flow-controlled channels' Flow Sequences, by rising Channel ID. Assumes nothing.
+use Rattle.std.specs.Prelude.{None}
 use Prim.Native.Nat.{ℕ, ◌+◌, ◌<◌}
 use mathlib.Core.Path.{◌≡◌, refl, sym, ap, ◌∙◌}
 use mathlib.Core.Bool.{true, false}
@@ -8,7 +9,6 @@ use lib.ListN.{length, take}
 use Rattle.quantity.specs.Limits.{CHANNEL-IDS}
 use Rattle.wire.specs.Options.{Options, done, option, bytes}
 use Rattle.meaning.specs.Kinds.{DATALINK-IDENTIFIER}
-use Rattle.meaning.specs.declared.message.Sequence.{Sequence}
 use Rattle.writer.specs.Written.{control_written, CONTROL-HEADER}
 use Rattle.ips_state.specs.State.{State, channel_at}
 use Rattle.ips_state.specs.Limits.{state_fits}
@@ -34,7 +34,7 @@ module _ (s : State) (fits : state_fits s ≡ true) (index : ℕ) (inside : inde
     unfolding content
     id_is = id_in_lem (channel_at s index).setting.id (channel_at s index).sequence.0 low
 
-    new : stated_in (id_in content) contents ≡ Sequence.Absent
+    new : stated_in (id_in content) contents ≡ None
     new = ap (λ (id : ℕ). stated_in id contents) id_is ∙ so_far.stated (channel_at s index).setting.id ∙ sequence_new s fits index inside
 
     pub sequences_more : FlowSequences (take (index + 1) s.channels) (inserted (content_of (channel_at s index).setting.id (channel_at s index).sequence.0) contents)
@@ -54,5 +54,5 @@ query_is s contents f =
     ap (λ (options : Options). CONTROL-HEADER ∷ bytes options)
     (query_options s
     ∙ ap (option DATALINK-IDENTIFIER (s.datalink.id.0 ∷ []))
-    (laid_same CHANNEL-IDS 0 (λ id. record { sequence = sequence_for id s.channels }) done contents refl
+    (laid_same CHANNEL-IDS 0 (λ id. sequence_for id s.channels) done contents refl
     (λ id. let z : 0 + id ≡ id = omega arith in rw z (sym (f.stated id))) f.rising))

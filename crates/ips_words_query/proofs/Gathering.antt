@@ -38,21 +38,20 @@ module _ (words : List ℕ) (fits : state_fits (state_in words) ≡ true) where
   said_datalink e = rw (says words (fit_readable words fits)) e
 
 -- ---- the loop: the channels before an index are gathered
-pub record Gathering (words : List ℕ) (count : ℕ) (contents : List ℕ) (gathered at from : ℕ) : Type 0 where
+pub record Gathering (words : List ℕ) (count : ℕ) (contents : List ℕ) (gathered at : ℕ) : Type 0 where
   pub fits : state_fits (state_in words) ≡ true
   pub count_is : count ≡ word words COUNT-WORD
-  pub from_is : from ≡ slot_start at
   pub inside : at ≤ count
   pub few : gathered ≤ at
   pub room : length contents ≡ MOST-CHANNELS
   pub sequences : FlowSequences (take at (state_in words).channels) (take gathered contents)
 
 pub gathering_start : (words : List ℕ) (count : ℕ) (contents : List ℕ) → state_fits (state_in words) ≡ true → count ≡ word words COUNT-WORD → length contents ≡ MOST-CHANNELS
-    → Gathering words count contents 0 0 HEAD
+    → Gathering words count contents 0 0
 gathering_start words count contents f e l =
-    record { fits = f; count_is = e; from_is = omega arith; inside = omega arith; few = omega arith; room = l; sequences = sequences_none }
+    record { fits = f; count_is = e; inside = omega arith; few = omega arith; room = l; sequences = sequences_none }
 
-module _ (words : List ℕ) (count : ℕ) (contents : List ℕ) (gathered at from : ℕ) (g : Gathering words count contents gathered at from) where
+module _ (words : List ℕ) (count : ℕ) (contents : List ℕ) (gathered at : ℕ) (g : Gathering words count contents gathered at) where
   few_gathered : gathered ≤ MOST-CHANNELS
   few_gathered = omega (arith, g.few, g.inside, g.count_is, said_few words g.fits)
 
@@ -67,58 +66,56 @@ module _ (words : List ℕ) (count : ℕ) (contents : List ℕ) (gathered at fro
     within : at < length (state_in words).channels
     within = omega (arith, g.count_is, fit_count words g.fits)
 
-    pub gathering_room : from + SLOT ≤ length words
-    gathering_room = omega (arith, g.from_is, fit_room words g.fits at within)
+    pub gathering_room : slot_start at + SLOT ≤ length words
+    gathering_room = fit_room words g.fits at within
 
-    pub gathering_low : from ≤ HEAD + SLOT * MOST-CHANNELS
-    gathering_low = omega (arith, g.from_is, g.count_is, said_few words g.fits)
+    pub gathering_low : slot_start at ≤ HEAD + SLOT * MOST-CHANNELS
+    gathering_low = omega (arith, g.count_is, said_few words g.fits)
 
     pub gathering_place : gathered < length contents
     gathering_place = omega (arith, g.few, g.room, g.count_is, said_few words g.fits)
 
-    at_word : (k : ℕ) → k < SLOT → word words (from + k) ≡ word (slot words at) k
-    at_word k l = rw g.from_is (sym (slot_word words at k l))
+    at_word : (k : ℕ) → k < SLOT → word words (slot_start at + k) ≡ word (slot words at) k
+    at_word k l = sym (slot_word words at k l)
 
-    id_is : word words (from + ID) ≡ (channel_at (state_in words) at).setting.id
+    id_is : word words (slot_start at + ID) ≡ (channel_at (state_in words) at).setting.id
     unfolding channel_in
     id_is = rw (fit_channel words g.fits at within) (at_word ID (omega arith))
 
-    kind_is : eqb (word words (from + KIND)) CONTROLLED ≡ (channel_at (state_in words) at).setting.controlled
+    kind_is : eqb (word words (slot_start at + KIND)) CONTROLLED ≡ (channel_at (state_in words) at).setting.controlled
     unfolding channel_in
     kind_is = rw (fit_channel words g.fits at within, at_word KIND (omega arith))
 
-    sequence_is : word words (from + SEQUENCE) ≡ (channel_at (state_in words) at).sequence.0
+    sequence_is : word words (slot_start at + SEQUENCE) ≡ (channel_at (state_in words) at).sequence.0
     unfolding channel_in
     sequence_is = rw (fit_channel words g.fits at within) (at_word SEQUENCE (omega arith))
 
-    pub gathering_id : word words (from + ID) < CHANNEL-IDS
+    pub gathering_id : word words (slot_start at + ID) < CHANNEL-IDS
     gathering_id = rw id_is (id_inside (state_in words) g.fits at within)
 
-    pub gathering_sequence : word words (from + SEQUENCE) < COUNT-VALUES
+    pub gathering_sequence : word words (slot_start at + SEQUENCE) < COUNT-VALUES
     gathering_sequence =
         rw (at_word SEQUENCE (omega arith)) (spelled_facts (slot words at) (fit_loadable words g.fits at within).says).sequence
 
-    pub gathering_plain : (word words (from + KIND) ≡ CONTROLLED → ⊥) → Gathering words count contents gathered (at + 1) (from + SLOT)
+    pub gathering_plain : (word words (slot_start at + KIND) ≡ CONTROLLED → ⊥) → Gathering words count contents gathered (at + 1)
     gathering_plain f = record {
       fits = g.fits;
       count_is = g.count_is;
-      from_is = omega (arith, g.from_is);
       inside = omega arith;
       few = omega (arith, g.few);
       room = g.room;
       sequences = sequences_plain (state_in words) g.fits at within (take gathered contents) g.sequences (sym kind_is ∙ ne_eqb _ _ f);
     }
 
-    pub gathering_more : word words (from + KIND) ≡ CONTROLLED → (after : List ℕ) → length after ≡ length contents
-        → take (gathered + 1) after ≡ inserted (content_of (word words (from + ID)) (word words (from + SEQUENCE))) (take gathered contents)
-        → Gathering words count after (gathered + 1) (at + 1) (from + SLOT)
+    pub gathering_more : word words (slot_start at + KIND) ≡ CONTROLLED → (after : List ℕ) → length after ≡ length contents
+        → take (gathered + 1) after ≡ inserted (content_of (word words (slot_start at + ID)) (word words (slot_start at + SEQUENCE))) (take gathered contents)
+        → Gathering words count after (gathered + 1) (at + 1)
     gathering_more f after long is =
         let low : (channel_at (state_in words) at).sequence.0 < COUNT-VALUES = rw sequence_is at gathering_sequence in
         let more = sequences_more (state_in words) g.fits at within (take gathered contents) g.sequences (sym kind_is ∙ eq-eqb _ _ f) low in
         record {
           fits = g.fits;
           count_is = g.count_is;
-          from_is = omega (arith, g.from_is);
           inside = omega arith;
           few = omega (arith, g.few);
           room = long ∙ g.room;

@@ -1,4 +1,5 @@
 -- The query written: its outcome from what the code learns on the way. Assumes nothing.
+use Rattle.std.specs.Prelude.{Ok}
 use Prim.Native.Nat.{ℕ, ◌-◌, ◌≤◌}
 use mathlib.Core.Path.{◌≡◌, refl, sym, ap, ◌∙◌}
 use mathlib.Core.Bool.{Bool, true, false}
@@ -7,7 +8,6 @@ use native.Mathlib.Omega.{arith}
 use lib.ListN.{length, take}
 use Rattle.quantity.specs.declared.count.DatalinkId.{DatalinkId}
 use Rattle.wire.specs.Options.{Laid}
-use Rattle.writer.specs.declared.answer.WriteAnswer.{WriteAnswer}
 use Rattle.writer.specs.Written.{control_written, no_room_of, Outcome}
 use Rattle.writer.proofs.Outcomes.{Judged, room_enough, outcome_wrote}
 use Rattle.ips_state.specs.State.{State}
@@ -37,5 +37,5 @@ module _ (s : State) (contents out : List ℕ) (count : ℕ) (g : Gathered s.cha
         (rw z g.sequences.rising, rw lent at (room_enough j no))
 
     pub query_wrote : {r : ℕ} {exit : List ℕ} → Laid (query_written datalink.0 (take (count - 0) contents)) out exit r
-        → Outcome true (control_written (query_of s)) out (WriteAnswer.Wrote (record { 0 = r })) exit
+        → Outcome true (control_written (query_of s)) out (Ok (record { 0 = r })) exit
     query_wrote laid = outcome_wrote j no (rw lent laid)

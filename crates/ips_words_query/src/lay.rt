@@ -8,7 +8,6 @@ ghost use Rattle.write_option.specs.Laying.{alone, size_of};
 ghost use Rattle.ips_words_query.specs.Rising.{CONTENT-SIZE, CONTENT-VALUES, RisingContents, query_size, contents_then, query_written};
 
 use meaning::kind::FLOW_SEQUENCE;
-use meaning::message::Datalink;
 use quantity::count::DatalinkId;
 use wire::option::FRAME_SIZE;
 use write_option::option;
@@ -57,10 +56,8 @@ fn lay_sequences(out: &mut [u8], contents: &[u64]) -> usize
     ensures { Laid (alone (contents_then contents.now)) out.old out.new result }
 {
     let mut at: usize = 0;
-    let mut place = 0;
-    while place < contents.len() {
-        at = at + lay_sequence(&mut out[at..], contents[place]);
-        place += 1;
+    for content in contents {
+        at += lay_sequence(&mut out[at..], *content);
     }
     at
 }
@@ -73,7 +70,7 @@ pub(crate) fn lay(out: &mut [u8], datalink: DatalinkId, contents: &[u64]) -> usi
 {
     out[0] = HEADER;
     let mut at: usize = 1;
-    at = at + option::lay_datalink(&mut out[at..], Datalink::Given(datalink));
+    at = at + option::lay_datalink(&mut out[at..], Some(datalink));
     at = at + lay_sequences(&mut out[at..], contents);
     at
 }

@@ -11,14 +11,14 @@ use ips_words::head;
 use quantity::count::ByteCount;
 use quantity::limit::MOST_CHANNELS;
 use quantity::refusal;
+use quantity::refusal::Refusal;
 use writer::answer;
-use writer::answer::WriteAnswer;
 
 mod lay;
 mod order;
 
 // 18 is judged before a byte is touched; what it writes is always allowed.
-pub fn write(words: &[u64], out: &mut [u8]) -> WriteAnswer
+pub fn write(words: &[u64], out: &mut [u8]) -> Result<ByteCount, Refusal>
     requires { state_fits (state_in words.now) ≡ true }
     ensures { Outcome true (control_written (query_of (state_in words.now))) out.old result out.new }
 {
@@ -27,5 +27,5 @@ pub fn write(words: &[u64], out: &mut [u8]) -> WriteAnswer
     if answer::no_room(lay::size(count), out.len()) {
         return answer::refused(refusal::NO_ROOM);
     }
-    WriteAnswer::Wrote(ByteCount(lay::lay(out, head::datalink(words), &contents[0..count])))
+    Ok(ByteCount(lay::lay(out, head::datalink(words), &contents[0..count])))
 }

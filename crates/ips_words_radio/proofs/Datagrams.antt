@@ -1,5 +1,8 @@
 -- A datagram from the radio: the message in it, if it is accepted, has no number wider than it may be, so that the words after it stand for the state after it; and so
 -- they do after the pacer was asked. Assumes nothing.
+use Rattle.std.specs.Prelude.{Option, Some, None, Result, Ok, Err}
+use Rattle.quantity.specs.declared.refusal.Refusal.{Refusal}
+use Rattle.meaning.specs.declared.message.Plane.{Plane}
 use Prim.Native.Nat.{ℕ, ◌^◌, ◌≤◌, ◌<◌}
 use mathlib.Core.Bool.{Bool, true, false, cond, and-eq-true_iff}
 use mathlib.Core.List.{List}
@@ -11,12 +14,10 @@ use Rattle.quantity.specs.declared.count.DatalinkId.{DatalinkId}
 use Rattle.wire.specs.Numbers.{Octets}
 use Rattle.meaning.specs.declared.message.End.TheVariants as ends
 use Rattle.meaning.specs.declared.message.Plane.TheVariants as planes
-use Rattle.meaning.specs.declared.message.Status.{Status}
 use Rattle.meaning.specs.declared.message.Window.{Window}
 use Rattle.meaning.specs.declared.message.Control.{Control}
 use Rattle.meaning.specs.Kinds.{CHANNEL-STATUS}
 use Rattle.reader.specs.Readings.{Verdict, read_control, read_data, plane_of}
-use Rattle.reader.specs.declared.answer.PlaneAnswer.{PlaneAnswer}
 use Rattle.writable.specs.Allowed.{may, datalink_allowed, instance_allowed, context_allowed, status_allowed, statuses_allowed, control_allowed}
 use Rattle.roundtrip.specs.Values.{WindowWord, ControlValue}
 use Rattle.roundtrip.proofs.Writable.{control_writable, control_is_value}
@@ -36,16 +37,16 @@ use Rattle.ips_words_radio.specs.HeardWords.{heard_words, silenced_words, receiv
 use Rattle.ips_words_radio.proofs.Heard.{heard_pacer, heard_readable, heard_in_lem, silenced_pacer, silenced_readable, silenced_in}
 
 -- ---- a message that the radio may state, as a value of its struct
-low_status : (status : Status) → status_allowed ends.Radio status ≡ true → status_value status < 256
-low_status Status.Absent e = omega arith
-low_status (Status.Given value) e =
+low_status : (status : Option ℕ) → status_allowed ends.Radio status ≡ true → status_value status < 256
+low_status None e = omega arith
+low_status (Some value) e =
     let low : value ≤ HIGHEST-STATUS = leb-true value HIGHEST-STATUS ((and-eq-true_iff (may planes.Control ends.Radio CHANNEL-STATUS) _).0 e).1 in
     omega arith
 
-low_window : (window : Window) → WindowWord window → flow_window (flow_after window) < 2 ^ 32
-low_window Window.Absent h = omega arith
-low_window Window.Empty h = omega arith
-low_window (Window.Given window) h = h
+low_window : (window : Option Window) → WindowWord window → flow_window (flow_after window) < 2 ^ 32
+low_window None h = omega arith
+low_window (Some Window.Empty) h = omega arith
+low_window (Some (Window.Given window)) h = h
 
 allowed_slender : (m : Control) → control_allowed ends.Radio m ≡ true → ControlValue m → Slender m
 unfolding control_allowed
@@ -79,10 +80,10 @@ received_slender datalink datagram octets = plane (plane_of datagram)
     data' Verdict.OtherPlane = nothing
     data' (Verdict.Refused refusal) = nothing
 
-    plane : (p : PlaneAnswer) → SlenderIn (by_plane p (control_read (read_control ends.Radio datalink datagram)) (data_read (read_data ends.Radio datalink datagram)))
-    plane PlaneAnswer.Control = control _ refl
-    plane PlaneAnswer.Data = data' (read_data ends.Radio datalink datagram).verdict
-    plane (PlaneAnswer.Refused refusal) = nothing
+    plane : (p : Result Plane Refusal) → SlenderIn (by_plane p (control_read (read_control ends.Radio datalink datagram)) (data_read (read_data ends.Radio datalink datagram)))
+    plane (Ok Plane.Control) = control _ refl
+    plane (Ok Plane.Data) = data' (read_data ends.Radio datalink datagram).verdict
+    plane (Err refusal) = nothing
 
 -- ---- the words after a datagram, and after the pacer was asked
 module _ (time : ℕ) (words : List ℕ) (fits : state_fits (state_in words) ≡ true) where

@@ -1,4 +1,5 @@
 -- The words after a radio message, or a silence, say the state after it, and still say something. Assumes nothing.
+use Rattle.std.specs.Prelude.{Option, Some, None}
 use Prim.Native.Nat.{ℕ, zero, suc, ◌^◌, ◌≤◌, ◌<◌}
 use mathlib.Core.Bool.{true}
 use mathlib.Core.List.{List, ◌∷◌, map}
@@ -6,7 +7,6 @@ use mathlib.Core.Path.{◌≡◌, refl, sym, ap, ap₂, ◌∙◌}
 use native.Mathlib.Omega.{arith}
 use lib.ListN.{length}
 use Rattle.facts.specs.Tables.{tabulate}
-use Rattle.meaning.specs.declared.message.Status.{Status}
 use Rattle.meaning.specs.declared.message.Window.{Window}
 use Rattle.meaning.specs.declared.message.Control.{Control}
 use Rattle.flow.specs.Counting.{flow_after}
@@ -27,7 +27,7 @@ tabulate_mapped {B = B} h (suc n) f g e =
     ap₂ (λ (x : B) (xs : List B). x ∷ xs) (e 0 (omega arith)) (tabulate_mapped h n (λ k. f (suc k)) (λ k. g (suc k)) (λ i l. e (suc i) (omega arith)))
 
 -- ---- of each channel only status and flow state are written: the channels that such words say have heard it, and each is spelled
-module _ (status : ℕ → Status) (window : ℕ → Window) (words : List ℕ) (t : state_fits (state_in words) ≡ true) where
+module _ (status : ℕ → Option ℕ) (window : ℕ → Option Window) (words : List ℕ) (t : state_fits (state_in words) ≡ true) where
   abbrev count : ℕ
   count = word words COUNT-WORD
 
@@ -140,8 +140,8 @@ module _ (message : Control) (words : List ℕ) (t : state_fits (state_in words)
 
 -- ---- a silence
 module _ (words : List ℕ) (t : state_fits (state_in words) ≡ true) where
-  q : Passed (λ id. Status.Absent) (λ id. Window.Empty) words (word words COUNT-WORD)
-  q = all_passed (λ id. Status.Absent) (λ id. Window.Empty) words t
+  q : Passed (λ id. None) (λ id. (Some Window.Empty)) words (word words COUNT-WORD)
+  q = all_passed (λ id. None) (λ id. (Some Window.Empty)) words t
 
   pub silenced_length : length (silenced_words words) ≡ length words
   unfolding silenced_words
@@ -158,7 +158,7 @@ module _ (words : List ℕ) (t : state_fits (state_in words) ≡ true) where
 
   channels_silenced : tabulate (word words COUNT-WORD) (λ i. channel_in (slot (silenced_words words) i)) ≡ map silenced (tabulate (word words COUNT-WORD) (λ i. channel_in (slot words i)))
   unfolding silenced
-  channels_silenced = channels_told (λ id. Status.Absent) (λ id. Window.Empty) words t (silenced_words words) silenced_slot_lem
+  channels_silenced = channels_told (λ id. None) (λ id. (Some Window.Empty)) words t (silenced_words words) silenced_slot_lem
 
   pub silenced_pacer : pacer_in (silenced_words words) ≡ pacer_in words
   silenced_pacer =
@@ -174,7 +174,7 @@ module _ (words : List ℕ) (t : state_fits (state_in words) ≡ true) where
   silenced_readable = readable_by (silenced_words words) (record {
     long = silenced_length ∙ said.long ∙ ap words_for (sym (silenced_head COUNT-WORD (omega arith)));
     head = record { datalink = rw (silenced_head DATALINK-WORD (omega arith)) said.head.datalink; instance = rw (silenced_head INSTANCE-TAG (omega arith)) said.head.instance; context = rw (silenced_head CONTEXT-TAG (omega arith)) said.head.context; codes = rw (silenced_head CODES-WORD (omega arith)) said.head.codes };
-    each = λ i h. slots_spelled (λ id. Status.Absent) (λ id. Window.Empty) words t (silenced_words words) silenced_slot_lem (λ id. omega arith) (λ id. omega arith) i (rw (silenced_head COUNT-WORD (omega arith)) at h);
+    each = λ i h. slots_spelled (λ id. None) (λ id. (Some Window.Empty)) words t (silenced_words words) silenced_slot_lem (λ id. omega arith) (λ id. omega arith) i (rw (silenced_head COUNT-WORD (omega arith)) at h);
   })
     where
       said : Readable words

@@ -1,4 +1,6 @@
 -- The channels are told something one after another. Assumes nothing.
+use Rattle.std.specs.Prelude.{Option}
+use Rattle.quantity.specs.declared.count.LinkInstanceId.{LinkInstanceId}
 use Prim.Native.Nat.{ℕ, zero, suc, ◌+◌, ◌*◌, ◌-◌, ◌≤◌, ◌<◌}
 use mathlib.Core.Bool.{true}
 use mathlib.Core.List.{List}
@@ -11,9 +13,7 @@ use borrow.Rule.Slice.PartMut.{put_mid}
 use lib.ListN.{length, take, drop, get_or}
 use lib.Seq.{drop-drop}
 use Rattle.quantity.specs.Limits.{MOST-CHANNELS, RESERVED-CHANNEL}
-use Rattle.meaning.specs.declared.message.Status.{Status}
 use Rattle.meaning.specs.declared.message.Window.{Window}
-use Rattle.meaning.specs.declared.message.Instance.{Instance}
 use Rattle.meaning.specs.declared.message.Control.{Control}
 use Rattle.ips_state.specs.Limits.{state_fits}
 use Rattle.ips_state.proofs.Channels.{ChannelFit}
@@ -25,7 +25,7 @@ use Rattle.ips_words_radio.specs.HeardWords.{heard_part, told_slot, told_slots, 
 use Rattle.ips_words_radio.proofs.Parts.{part_length, instance_length_lem}
 
 -- ---- the first channels of the words, so many
-module _ (status : ℕ → Status) (window : ℕ → Window) (words : List ℕ) where
+module _ (status : ℕ → Option ℕ) (window : ℕ → Option Window) (words : List ℕ) where
   abbrev told_to : ℕ → List ℕ
   told_to n = told_slots status window words n
 
@@ -72,22 +72,21 @@ fit_long words t = (readable_facts words (fit_readable words t)).long
 pub head_there : (words : List ℕ) → state_fits (state_in words) ≡ true → HEAD ≤ length words
 head_there words t = omega (arith, fit_long words t)
 
-pub all_passed : (status : ℕ → Status) (window : ℕ → Window) (words : List ℕ) → state_fits (state_in words) ≡ true → Passed status window words (word words COUNT-WORD)
+pub all_passed : (status : ℕ → Option ℕ) (window : ℕ → Option Window) (words : List ℕ) → state_fits (state_in words) ≡ true → Passed status window words (word words COUNT-WORD)
 all_passed status window words t = passed status window words (word words COUNT-WORD) (omega (arith, fit_long words t))
 
 -- ---- the loop
-pub record Hears (words : List ℕ) (status : ℕ → Status) (window : ℕ → Window) (count : ℕ) (words' : List ℕ) (at from : ℕ) : Type 0 where
+pub record Hears (words : List ℕ) (status : ℕ → Option ℕ) (window : ℕ → Option Window) (count : ℕ) (words' : List ℕ) (at : ℕ) : Type 0 where
   pub fits : state_fits (state_in words) ≡ true
   pub count_is : count ≡ word words COUNT-WORD
   pub inside : at ≤ count
-  pub from_is : from ≡ slot_start at
   pub heard : words' ≡ told_slots status window words at
 
-pub hears_start : (words : List ℕ) (status : ℕ → Status) (window : ℕ → Window) (count : ℕ) → state_fits (state_in words) ≡ true → count ≡ word words COUNT-WORD → Hears words status window count words 0 HEAD
+pub hears_start : (words : List ℕ) (status : ℕ → Option ℕ) (window : ℕ → Option Window) (count : ℕ) → state_fits (state_in words) ≡ true → count ≡ word words COUNT-WORD → Hears words status window count words 0
 unfolding told_slots
-hears_start words status window count t e = record { fits = t; count_is = e; inside = omega arith; from_is = refl; heard = refl }
+hears_start words status window count t e = record { fits = t; count_is = e; inside = omega arith; heard = refl }
 
-module _ (words : List ℕ) (status : ℕ → Status) (window : ℕ → Window) (count : ℕ) (words' : List ℕ) (at from : ℕ) (h : Hears words status window count words' at from) where
+module _ (words : List ℕ) (status : ℕ → Option ℕ) (window : ℕ → Option Window) (count : ℕ) (words' : List ℕ) (at : ℕ) (h : Hears words status window count words' at) where
   pub few : count ≤ MOST-CHANNELS
   few = omega (arith, h.count_is, fit_count words h.fits, (fit (state_in words) h.fits).few)
 
@@ -101,48 +100,47 @@ module _ (words : List ℕ) (status : ℕ → Status) (window : ℕ → Window) 
   same_long = rw h.heard passed_here.long
 
   module _ (within : at < count) where
-    pub slot_ends : from + SLOT ≤ length words'
-    slot_ends = omega (arith, same_long, room, h.from_is)
+    pub slot_ends : slot_start at + SLOT ≤ length words'
+    slot_ends = omega (arith, same_long, room)
 
-    pub from_few : from ≤ HEAD + SLOT * MOST-CHANNELS
-    from_few = omega (arith, few, h.from_is)
+    pub from_few : slot_start at ≤ HEAD + SLOT * MOST-CHANNELS
+    from_few = omega (arith, few)
 
     same_slot : slot words' at ≡ slot words at
     same_slot = rw h.heard (passed_here.rest at (omega arith))
 
-    lent_slot : take (from + SLOT - from) (drop from words') ≡ slot words' at
+    lent_slot : take (slot_start at + SLOT - slot_start at) (drop (slot_start at) words') ≡ slot words' at
     unfolding slot
-    lent_slot = let n : from + SLOT - from ≡ SLOT = omega arith in rw (n, h.from_is)
+    lent_slot = let n : slot_start at + SLOT - slot_start at ≡ SLOT = omega arith in rw n
 
-    pub lent_long : length (take (from + SLOT - from) (drop from words')) ≡ SLOT
-    lent_long = rw lent_slot (slot_length words' at (omega (arith, slot_ends, h.from_is)))
+    pub lent_long : length (take (slot_start at + SLOT - slot_start at) (drop (slot_start at) words')) ≡ SLOT
+    lent_long = rw lent_slot (slot_length words' at (omega (arith, slot_ends)))
 
-    id_same : get_or words' (from + ID) 0 ≡ word (slot words' at) ID
-    id_same = rw h.from_is (sym (slot_word words' at ID (omega arith)))
+    id_same : get_or words' (slot_start at + ID) 0 ≡ word (slot words' at) ID
+    id_same = sym (slot_word words' at ID (omega arith))
 
     fitting_here : ChannelFit (channel_in (slot words at))
     fitting_here =
         let inside : at < length (state_in words).channels = omega (arith, h.count_is, fit_count words h.fits) in
         rw (fit_channel words h.fits at inside) at (channel_fitting_at (state_in words) h.fits at inside)
 
-    pub id_here : (id : ℕ) → id ≡ get_or words' (from + ID) 0 → id < RESERVED-CHANNEL
+    pub id_here : (id : ℕ) → id ≡ get_or words' (slot_start at + ID) 0 → id < RESERVED-CHANNEL
     unfolding channel_in
     id_here id e = rw (e, id_same, same_slot) fitting_here.unreserved
 
-    module _ (id : ℕ) (read : id ≡ get_or words' (from + ID) 0) (part : List ℕ) (is : part ≡ heard_part (status id) (window id) (take (from + SLOT - from) (drop from words'))) where
+    module _ (id : ℕ) (read : id ≡ get_or words' (slot_start at + ID) 0) (part : List ℕ) (is : part ≡ heard_part (status id) (window id) (take (slot_start at + SLOT - slot_start at) (drop (slot_start at) words'))) where
       part_is : part ≡ told_slot status window (slot words' at)
       part_is = is ∙ rw (lent_slot, read, id_same)
 
-      turn_words : put_mid from (from + SLOT - from) words' part ≡ told_slots status window words (suc at)
+      turn_words : put_mid (slot_start at) (slot_start at + SLOT - slot_start at) words' part ≡ told_slots status window words (suc at)
       unfolding told_slots put_slot
-      turn_words = let n : from + SLOT - from ≡ SLOT = omega arith in rw (n, part_is, drop-drop, h.from_is, h.heard)
+      turn_words = let n : slot_start at + SLOT - slot_start at ≡ SLOT = omega arith in rw (n, part_is, drop-drop, h.heard)
 
-      pub hears_turn : Hears words status window count (put_mid from (from + SLOT - from) words' part) (at + 1) (from + SLOT)
+      pub hears_turn : Hears words status window count (put_mid (slot_start at) (slot_start at + SLOT - slot_start at) words' part) (at + 1)
       hears_turn = record {
         fits = h.fits;
         count_is = h.count_is;
         inside = omega arith;
-        from_is = omega (arith, h.from_is);
         heard = turn_words ∙ ap (told_slots status window words) (sym (add-one at));
       }
 
@@ -153,5 +151,5 @@ module _ (words : List ℕ) (status : ℕ → Status) (window : ℕ → Window) 
 pub slots_room : (message : Control) (words w : List ℕ) → state_fits (state_in words) ≡ true → w ≡ heard_slots message words (word words COUNT-WORD) → HEAD ≤ length w
 slots_room message words w t e = rw e (omega (arith, (all_passed (status_in message) (window_in message) words t).long, head_there words t))
 
-pub instance_room : (given : Instance) (w w' : List ℕ) → HEAD ≤ length w → w' ≡ instance_heard given w → HEAD ≤ length w'
+pub instance_room : (given : Option (LinkInstanceId × ℕ)) (w w' : List ℕ) → HEAD ≤ length w → w' ≡ instance_heard given w → HEAD ≤ length w'
 instance_room given w w' h e = rw e (omega (arith, instance_length_lem w given))

@@ -1,4 +1,7 @@
 -- What a radio message writes: four words of a channel, and the endpoint's Link Instance and Context. Assumes nothing.
+use Rattle.std.specs.Prelude.{Option, Some, None}
+use Rattle.quantity.specs.declared.count.LinkInstanceId.{LinkInstanceId}
+use Rattle.meaning.specs.declared.message.ContextBytes.{ContextBytes}
 use Prim.Native.Nat.{ℕ, ◌+◌, ◌*◌, ◌^◌, ◌≤◌, ◌<◌}
 use mathlib.Core.Bool.{Bool, true, false, cond}
 use mathlib.Core.List.{List}
@@ -9,10 +12,7 @@ use lib.ListN.{length, set, length-set}
 use lib.Seq.{get_or-set_same, get_or-set_other}
 use Rattle.facts.specs.Tables.{tabulate}
 use Rattle.quantity.specs.Limits.{MOST-WAITING}
-use Rattle.meaning.specs.declared.message.Status.{Status}
 use Rattle.meaning.specs.declared.message.Window.{Window}
-use Rattle.meaning.specs.declared.message.Instance.{Instance}
-use Rattle.meaning.specs.declared.message.Context.{Context}
 use Rattle.store.specs.Waiting.{no_entry}
 use Rattle.flow.specs.declared.Flow.{Flow}
 use Rattle.flow.specs.Counting.{flow_after}
@@ -24,7 +24,7 @@ use Rattle.ips_words.proofs.Pacers.{three_other, three_slot, three_first, three_
 use Rattle.ips_words_radio.specs.HeardWords.{status_heard, flow_heard, heard_part, instance_heard, context_tag, context_value, context_size, context_heard}
 
 -- ---- one channel's words
-pub part_length : (status : Status) (window : Window) (w : List ℕ) → length (heard_part status window w) ≡ length w
+pub part_length : (status : Option ℕ) (window : Option Window) (w : List ℕ) → length (heard_part status window w) ≡ length w
 unfolding heard_part
 part_length status window w = go (eqb (word (status_heard status w) KIND) CONTROLLED)
   where
@@ -32,7 +32,7 @@ part_length status window w = go (eqb (word (status_heard status w) KIND) CONTRO
     go true = simp length-set
     go false = simp length-set
 
-module _ (status : Status) (window : Window) (w : List ℕ) (long : length w ≡ SLOT) where
+module _ (status : Option ℕ) (window : Option Window) (w : List ℕ) (long : length w ≡ SLOT) where
   abbrev first : List ℕ
   first = status_heard status w
 
@@ -143,52 +143,52 @@ module _ (status : Status) (window : Window) (w : List ℕ) (long : length w ≡
         })
 
 -- what the code writes there
-pub flow_set : (w : List ℕ) (window : Window) (flow : Flow) (tag limit : ℕ) → word w KIND ≡ CONTROLLED → flow ≡ flow_after window → tag ≡ flow_tag flow → limit ≡ flow_window flow
+pub flow_set : (w : List ℕ) (window : Option Window) (flow : Flow) (tag limit : ℕ) → word w KIND ≡ CONTROLLED → flow ≡ flow_after window → tag ≡ flow_tag flow → limit ≡ flow_window flow
     → set (set w FLOW-TAG tag) FLOW-WINDOW limit ≡ flow_heard window w
 flow_set w window flow tag limit one e t l = rw (one, t, l, e)
 
 -- ---- the Link Instance
 module _ (w : List ℕ) where
-  pub instance_length_lem : (given : Instance) → length (instance_heard given w) ≡ length w
-  instance_length_lem Instance.Absent = refl
-  instance_length_lem (Instance.Given id size) = simp length-set
+  pub instance_length_lem : (given : Option (LinkInstanceId × ℕ)) → length (instance_heard given w) ≡ length w
+  instance_length_lem None = refl
+  instance_length_lem (Some (id, size)) = simp length-set
 
-  pub instance_slot : (given : Instance) (i : ℕ) → slot (instance_heard given w) i ≡ slot w i
-  instance_slot Instance.Absent i = refl
-  instance_slot (Instance.Given id size) i = three_slot w INSTANCE-TAG GIVEN id.0 size (omega arith) i
+  pub instance_slot : (given : Option (LinkInstanceId × ℕ)) (i : ℕ) → slot (instance_heard given w) i ≡ slot w i
+  instance_slot None i = refl
+  instance_slot (Some (id, size)) i = three_slot w INSTANCE-TAG GIVEN id.0 size (omega arith) i
 
-  pub instance_before : (given : Instance) (k : ℕ) → k < INSTANCE-TAG → word (instance_heard given w) k ≡ word w k
-  instance_before Instance.Absent k h = refl
-  instance_before (Instance.Given id size) k h = three_other w INSTANCE-TAG GIVEN id.0 size k (λ e. omega arith) (λ e. omega arith) (λ e. omega arith)
+  pub instance_before : (given : Option (LinkInstanceId × ℕ)) (k : ℕ) → k < INSTANCE-TAG → word (instance_heard given w) k ≡ word w k
+  instance_before None k h = refl
+  instance_before (Some (id, size)) k h = three_other w INSTANCE-TAG GIVEN id.0 size k (λ e. omega arith) (λ e. omega arith) (λ e. omega arith)
 
-  pub instance_behind : (given : Instance) (k : ℕ) → INSTANCE-LENGTH < k → word (instance_heard given w) k ≡ word w k
-  instance_behind Instance.Absent k h = refl
-  instance_behind (Instance.Given id size) k h = three_other w INSTANCE-TAG GIVEN id.0 size k (λ e. omega arith) (λ e. omega arith) (λ e. omega arith)
+  pub instance_behind : (given : Option (LinkInstanceId × ℕ)) (k : ℕ) → INSTANCE-LENGTH < k → word (instance_heard given w) k ≡ word w k
+  instance_behind None k h = refl
+  instance_behind (Some (id, size)) k h = three_other w INSTANCE-TAG GIVEN id.0 size k (λ e. omega arith) (λ e. omega arith) (λ e. omega arith)
 
   module _ (room : HEAD ≤ length w) where
-    pub instance_said_lem : (given : Instance)
+    pub instance_said_lem : (given : Option (LinkInstanceId × ℕ))
         → instance_of (word (instance_heard given w) INSTANCE-TAG) (word (instance_heard given w) INSTANCE-VALUE) (word (instance_heard given w) INSTANCE-LENGTH)
         ≡ kept_instance (instance_of (word w INSTANCE-TAG) (word w INSTANCE-VALUE) (word w INSTANCE-LENGTH)) given
     unfolding instance_of
-    instance_said_lem Instance.Absent = refl
-    instance_said_lem (Instance.Given id size) =
+    instance_said_lem None = refl
+    instance_said_lem (Some (id, size)) =
         rw (three_first w INSTANCE-TAG GIVEN id.0 size (omega arith), three_second w INSTANCE-TAG GIVEN id.0 size (omega arith), three_third w INSTANCE-TAG GIVEN id.0 size (omega arith))
 
-    pub instance_tag : (given : Instance) → word w INSTANCE-TAG ≤ GIVEN → word (instance_heard given w) INSTANCE-TAG ≤ GIVEN
-    instance_tag Instance.Absent h = h
-    instance_tag (Instance.Given id size) h = rw (three_first w INSTANCE-TAG GIVEN id.0 size (omega arith)) (omega arith)
+    pub instance_tag : (given : Option (LinkInstanceId × ℕ)) → word w INSTANCE-TAG ≤ GIVEN → word (instance_heard given w) INSTANCE-TAG ≤ GIVEN
+    instance_tag None h = h
+    instance_tag (Some (id, size)) h = rw (three_first w INSTANCE-TAG GIVEN id.0 size (omega arith)) (omega arith)
 
 -- ---- the Context
-context_back : (given : Context) → context_of (context_tag given) (context_value given) (context_size given) ≡ given
+context_back : (given : Option (ContextBytes × ℕ)) → context_of (context_tag given) (context_value given) (context_size given) ≡ given
 unfolding context_of
-context_back Context.Absent = refl
-context_back (Context.Given bytes size) = refl
+context_back None = refl
+context_back (Some (bytes, size)) = refl
 
-context_few : (given : Context) → context_tag given ≤ GIVEN
-context_few Context.Absent = omega arith
-context_few (Context.Given bytes size) = omega arith
+context_few : (given : Option (ContextBytes × ℕ)) → context_tag given ≤ GIVEN
+context_few None = omega arith
+context_few (Some (bytes, size)) = omega arith
 
-module _ (w : List ℕ) (given : Context) where
+module _ (w : List ℕ) (given : Option (ContextBytes × ℕ)) where
   pub context_length_lem : length (context_heard given w) ≡ length w
   unfolding context_heard
   context_length_lem = simp length-set

@@ -14,35 +14,34 @@ use ips_words::layout::{
     STATUS_TAG, STATUS_VALUE,
 };
 use ips_words::{slot, waiting};
-use meaning::message::{Context, Control, Instance, Status, StatusCell, Window, WindowCell};
+use meaning::message::{ContextBytes, Control, Window};
+use quantity::count::LinkInstanceId;
 
 // A channel that the message doesn't name is not reported.
-fn hear_status(part: &mut [u64], cell: StatusCell)
+fn hear_status(part: &mut [u64], status: Option<u8>)
     requires { length part.old ≡ SLOT }
-    ensures { part.new ≡ status_heard cell.status part.old }
+    ensures { part.new ≡ status_heard status part.old }
 {
-    let status = cell.status;
     part[STATUS_TAG] = slot::status_tag(status);
     part[STATUS_VALUE] = slot::status_value(status);
 }
 
 // A plain channel's flow state stays.
-fn hear_flow(part: &mut [u64], cell: WindowCell)
+fn hear_flow(part: &mut [u64], window: Option<Window>)
     requires { length part.old ≡ SLOT }
-    ensures { part.new ≡ flow_heard cell.window part.old }
+    ensures { part.new ≡ flow_heard window part.old }
 {
     if part[KIND] != CONTROLLED {
         return;
     }
-    let window = cell.window;
     let flow = flow::heard(true, Flow::Free, window);
     part[FLOW_TAG] = slot::flow_tag(flow);
     part[FLOW_WINDOW] = slot::flow_window(flow);
 }
 
-fn hear_slot(part: &mut [u64], status: StatusCell, window: WindowCell)
+fn hear_slot(part: &mut [u64], status: Option<u8>, window: Option<Window>)
     requires { length part.old ≡ SLOT }
-    ensures { part.new ≡ heard_part status.status window.window part.old }
+    ensures { part.new ≡ heard_part status window part.old }
 {
     hear_status(part, status);
     hear_flow(part, window);
@@ -54,9 +53,8 @@ fn hear_slots(words: &mut [u64], message: Control)
     ensures { words.new ≡ heard_slots message words.old (word words.old COUNT-WORD) }
 {
     let count = waiting::narrow(words[COUNT_WORD]);
-    let mut at = 0;
-    let mut from = HEAD;
-    while at < count {
+    for at in 0..count {
+        let from = HEAD + SLOT * at;
         let end = from + SLOT;
         let id = waiting::narrow(words[from + ID]);
         hear_slot(
@@ -64,16 +62,14 @@ fn hear_slots(words: &mut [u64], message: Control)
             message.statuses[id],
             message.windows[id],
         );
-        at += 1;
-        from = end;
     }
 }
 
-fn hear_instance(words: &mut [u64], given: Instance)
+fn hear_instance(words: &mut [u64], given: Option<(LinkInstanceId, usize)>)
     requires { HEAD ≤ length words.old }
     ensures { words.new ≡ instance_heard given words.old }
 {
-    let Instance::Given(id, size) = given else {
+    let Some((id, size)) = given else {
         return;
     };
     words[INSTANCE_TAG] = GIVEN;
@@ -82,11 +78,11 @@ fn hear_instance(words: &mut [u64], given: Instance)
 }
 
 // A message without a Context leaves none.
-fn hear_context(words: &mut [u64], given: Context)
+fn hear_context(words: &mut [u64], given: Option<(ContextBytes, usize)>)
     requires { HEAD ≤ length words.old }
     ensures { words.new ≡ context_heard given words.old }
 {
-    let Context::Given(bytes, size) = given else {
+    let Some((bytes, size)) = given else {
         words[CONTEXT_TAG] = ABSENT;
         words[CONTEXT_VALUE] = 0;
         words[CONTEXT_LENGTH] = 0;
@@ -114,15 +110,7 @@ fn silence_slot(part: &mut [u64])
     requires { length part.old ≡ SLOT }
     ensures { part.new ≡ silenced_slot part.old }
 {
-    hear_slot(
-        part,
-        StatusCell {
-            status: Status::Absent,
-        },
-        WindowCell {
-            window: Window::Empty,
-        },
-    );
+    hear_slot(part, None, Some(Window::Empty));
 }
 
 // The words after a silence: every configured channel's, and none of the endpoint's own.
@@ -131,12 +119,9 @@ pub fn silence(words: &mut [u64])
     ensures { words.new ≡ silenced_words words.old }
 {
     let count = waiting::narrow(words[COUNT_WORD]);
-    let mut at = 0;
-    let mut from = HEAD;
-    while at < count {
+    for at in 0..count {
+        let from = HEAD + SLOT * at;
         let end = from + SLOT;
         silence_slot(&mut words[from..end]);
-        at += 1;
-        from = end;
     }
 }

@@ -1,4 +1,5 @@
 -- A start is not refused by 19 exactly where `StartsExactly` says so, and not by 22 where `WaitsExactly` does, fact by fact; and what it leaves. Assumes nothing.
+use Rattle.std.specs.Prelude.{Result, Ok, Err}
 use Prim.Native.Nat.{ℕ, zero, suc, ◌+◌, ◌*◌, ◌^◌, ◌≤◌, ◌<◌}
 use mathlib.Core.Bool.{Bool, true, false, ◌&&◌, and-false, and-eq-true_iff}
 use mathlib.Core.List.{List, [], ◌∷◌, map}
@@ -15,7 +16,6 @@ use Rattle.quantity.specs.Limits.{FEWEST-CHANNELS, MOST-CHANNELS}
 use Rattle.quantity.specs.Refusals.{OUTSIDE-LIMITS, NO-WAIT}
 use Rattle.quantity.specs.declared.refusal.Refusal.{Refusal}
 use Rattle.meaning.specs.Kinds.{among}
-use Rattle.ips_state.specs.declared.StartAnswer.{StartAnswer}
 use Rattle.ips_state.specs.State.{ChannelStart, no_start, fresh_of, fresh_state}
 use Rattle.ips_state.specs.Limits.{setting_fits, starts_fit, start_ids, distinct, sizes, index_of, configuration_fits, waits_fit}
 use Rattle.ips_state.specs.Memory.{memory_fits}
@@ -85,9 +85,9 @@ unfolding starts_fit
 starts_fit_by [] h = refl
 starts_fit_by (k ∷ ks) h = rw (h 0 (omega arith), starts_fit_by ks (λ i l. h (suc i) (omega arith)))
 
-abbrev numbered : StartAnswer → ℕ
-numbered StartAnswer.Started = 0
-numbered (StartAnswer.Refused refusal) = refusal.number
+abbrev numbered : Result (Unit {0}) Refusal → ℕ
+numbered (Ok tt) = 0
+numbered (Err refusal) = refusal.number
 
 -- what a start that is not refused leaves
 pub record StartLeaves (w memory words' memory' : List ℕ) : Type 0 where
@@ -194,8 +194,8 @@ module _ (w words memory : List ℕ) where
         ⊎_elim (λ (e : get_or w 2 0 ≡ 0). waits_are ∙ rw e) (λ (e : get_or w 3 0 ≡ 0). waits_are ∙ rw (e, and-false))
 
   -- ---- of the call: started, 22 and 19, each exactly when
-  module _ {answer : StartAnswer} {words' memory' : List ℕ} (started : StartedIn w words memory answer words' memory') where
-    by_way : {X : Type 0} → (starts_in w words memory ≡ true → waits_fit (configuration_in w) ≡ true → answer ≡ StartAnswer.Started → X)
+  module _ {answer : Result (Unit {0}) Refusal} {words' memory' : List ℕ} (started : StartedIn w words memory answer words' memory') where
+    by_way : {X : Type 0} → (starts_in w words memory ≡ true → waits_fit (configuration_in w) ≡ true → answer ≡ Ok tt → X)
         → (starts_in w words memory ≡ true → waits_fit (configuration_in w) ≡ false → answer ≡ not_started NO-WAIT → X)
         → (starts_in w words memory ≡ false → answer ≡ not_started OUTSIDE-LIMITS → X) → X
     by_way {X = X} begins no_wait outside = go (starts_in w words memory) (waits_fit (configuration_in w)) refl refl
@@ -206,34 +206,34 @@ module _ (w words memory : List ℕ) where
         go false b e f = outside e (started.answer_is ∙ rw e)
 
     -- two answers with other numbers
-    apart_answers : {X : Type 0} (a b : StartAnswer) → answer ≡ a → answer ≡ b → (numbered a ≡ numbered b → ⊥) → X
+    apart_answers : {X : Type 0} (a b : Result (Unit {0}) Refusal) → answer ≡ a → answer ≡ b → (numbered a ≡ numbered b → ⊥) → X
     apart_answers a b e f g = absurd (g (ap numbered (sym e ∙ f)))
 
-    pub started_exactly : (answer ≡ StartAnswer.Started → StartsExactly w words memory × WaitsExactly w) × (StartsExactly w words memory → WaitsExactly w → answer ≡ StartAnswer.Started)
+    pub started_exactly : (answer ≡ Ok tt → StartsExactly w words memory × WaitsExactly w) × (StartsExactly w words memory → WaitsExactly w → answer ≡ Ok tt)
     started_exactly = (
       λ e. by_way (λ s t a. (starts_exactly s, waits_exactly s t)) (λ s t a. apart_answers _ _ e a (λ n. omega arith)) (λ s a. apart_answers _ _ e a (λ n. omega arith)),
       λ x y. started.answer_is ∙ rw (exactly_starts x, exactly_waits (exactly_starts x) y),
     )
 
-    pub no_wait_exactly : (answer ≡ StartAnswer.Refused (record { number = 22; place = 0 }) → StartsExactly w words memory × ((get_or w 2 0 ≡ 0) ⊎ (get_or w 3 0 ≡ 0)))
-        × (StartsExactly w words memory → (get_or w 2 0 ≡ 0) ⊎ (get_or w 3 0 ≡ 0) → answer ≡ StartAnswer.Refused (record { number = 22; place = 0 }))
+    pub no_wait_exactly : (answer ≡ Err (record { number = 22; place = 0 }) → StartsExactly w words memory × ((get_or w 2 0 ≡ 0) ⊎ (get_or w 3 0 ≡ 0)))
+        × (StartsExactly w words memory → (get_or w 2 0 ≡ 0) ⊎ (get_or w 3 0 ≡ 0) → answer ≡ Err (record { number = 22; place = 0 }))
     no_wait_exactly = (
       λ e. by_way (λ s t a. apart_answers _ _ e a (λ n. omega arith)) (λ s t a. (starts_exactly s, wait_missing s t)) (λ s a. apart_answers _ _ e a (λ n. omega arith)),
       λ x y. started.answer_is ∙ rw (exactly_starts x, missing_wait (exactly_starts x) y),
     )
 
-    pub outside_exactly : (answer ≡ StartAnswer.Refused (record { number = 19; place = 0 }) → StartsExactly w words memory → ⊥)
-        × ((StartsExactly w words memory → ⊥) → answer ≡ StartAnswer.Refused (record { number = 19; place = 0 }))
+    pub outside_exactly : (answer ≡ Err (record { number = 19; place = 0 }) → StartsExactly w words memory → ⊥)
+        × ((StartsExactly w words memory → ⊥) → answer ≡ Err (record { number = 19; place = 0 }))
     outside_exactly = (
       λ e x. by_way (λ s t a. apart_answers _ _ e a (λ n. omega arith)) (λ s t a. apart_answers _ _ e a (λ n. omega arith)) (λ s a. clash (sym s ∙ exactly_starts x)),
       λ f. by_way (λ s t a. absurd (f (starts_exactly s))) (λ s t a. absurd (f (starts_exactly s))) (λ s a. a),
     )
 
     -- what a start leaves, and that a refusal is 19 or 22 and leaves every word and byte
-    pub started_leaves : answer ≡ StartAnswer.Started → StartLeaves w memory words' memory'
+    pub started_leaves : answer ≡ Ok tt → StartLeaves w memory words' memory'
     started_leaves e = by_way left (λ s t a. apart_answers _ _ e a (λ n. omega arith)) (λ s a. apart_answers _ _ e a (λ n. omega arith))
       where
-        left : starts_in w words memory ≡ true → waits_fit (configuration_in w) ≡ true → answer ≡ StartAnswer.Started → StartLeaves w memory words' memory'
+        left : starts_in w words memory ≡ true → waits_fit (configuration_in w) ≡ true → answer ≡ Ok tt → StartLeaves w memory words' memory'
         left s t a =
             let fits = starts_parts s in
             let words_are : words' ≡ fresh_words (configuration_in w) = rw (s, t) at started.words_are in
@@ -246,7 +246,7 @@ module _ (w words memory : List ℕ) where
               zeros = rw (s, t) at started.memory_is;
             }
 
-    pub refused_leaves : (refusal : Refusal) → answer ≡ StartAnswer.Refused refusal
+    pub refused_leaves : (refusal : Refusal) → answer ≡ Err refusal
         → ((refusal ≡ record { number = OUTSIDE-LIMITS; place = 0 }) ⊎ (refusal ≡ record { number = NO-WAIT; place = 0 })) × (words' ≡ words) × (memory' ≡ memory)
     refused_leaves refusal e =
-        by_way (λ s t a. let yes : StartAnswer.Started ≡ StartAnswer.Refused refusal = sym a ∙ e in clash (cc)) (λ s t a. (inr (cc), started.words_are ∙ rw (s, t), started.memory_is ∙ rw (s, t))) (λ s a. (inl (cc), started.words_are ∙ rw s, started.memory_is ∙ rw s))
+        by_way (λ s t a. let yes : Ok tt ≡ Err refusal = sym a ∙ e in clash (cc)) (λ s t a. (inr (cc), started.words_are ∙ rw (s, t), started.memory_is ∙ rw (s, t))) (λ s a. (inl (cc), started.words_are ∙ rw s, started.memory_is ∙ rw s))

@@ -9,13 +9,15 @@ use native.Mathlib.Omega.{arith}
 use borrow.Author.Tests.{le-leb, lt-ltb, le-ltb, eq-eqb, ne_eqb}
 use lib.ListN.{length, get_or, take, drop, set, replicate, length-append, length-replicate, length-set, get_or-replicate}
 use lib.Seq.{take_all, length-take-le, get_or-set_same, get_or-set_other}
+use Rattle.std.specs.Prelude.{Option, Some}
+use Rattle.quantity.specs.declared.count.ByteCount.{ByteCount}
 use Rattle.quantity.specs.Limits.{FEWEST-CHANNELS, MOST-CHANNELS, LARGEST-STORE, CHANNEL-IDS}
 use Rattle.meaning.specs.Kinds.{among}
 use Rattle.ips_state.specs.State.{ChannelStart, fresh_of, blank_configuration}
 use Rattle.ips_state.specs.Limits.{setting_fits, starts_fit, start_ids, distinct, sizes, count_fits, configuration_fits_under, configuration_fits}
 use Rattle.ips_state.proofs.Channels.{same_or_not, among_first, among_later, among_join, distinct_more, distinct_twice}
 use Rattle.ips_words.specs.Words.{word}
-use Rattle.ips_words_start.specs.Start.{CONFIGURATION-HEAD, CONFIGURATION-SLOT, CONFIGURED-DATALINK, CONFIGURED-CODES, CONFIGURED-COUNT, START-ID, START-KIND, START-FIRST, START-SIZE, configuration_length, start_word, start_in, starts_of, start_spelled, starts_spelled, start_fits_of, configuration_of, configuration_readable, configuration_in, unfit, judged_by, together_fit, walked, judged_of}
+use Rattle.ips_words_start.specs.Start.{CONFIGURATION-HEAD, CONFIGURED-DATALINK, CONFIGURED-CODES, CONFIGURED-COUNT, START-ID, START-KIND, START-FIRST, START-SIZE, configuration_length, start_word, start_in, starts_of, start_spelled, starts_spelled, start_fits_of, configuration_of, configuration_readable, configuration_in, unfit, judged_by, together_fit, walked, judged_of}
 use Rattle.ips_words_start.proofs.Starts.{starts_length, upcoming, one_more, starts_join, start_ids_join, stores_more, setting_fit, spelled_at}
 
 -- ---- where the starts `done` are passed
@@ -80,9 +82,8 @@ unfolding together_fit starts_fit
 walk_unfit starts done rest k d e = rw (d, starts_join done (k ∷ rest), e, and-false)
 
 -- ---- the pass over the words
-pub record Judging (w : List ℕ) (count : ℕ) (seen : List Bool) (total at from : ℕ) : Type 0 where
+pub record Judging (w : List ℕ) (count : ℕ) (seen : List Bool) (total at : ℕ) : Type 0 where
   pub inside : at ≤ count
-  pub from_is : from ≡ configuration_length at
   pub spell : starts_spelled w at ≡ true
   pub walking : Walking (take at (starts_of w count)) seen total
 
@@ -92,11 +93,11 @@ unfolding judged_by
 out fits starts e = rw e
 
 module _ (w : List ℕ) (count : ℕ) where
-  pub judge_start : Judging w count (replicate CHANNEL-IDS false) 0 0 CONFIGURATION-HEAD
+  pub judge_start : Judging w count (replicate CHANNEL-IDS false) 0 0
   unfolding starts_spelled
-  judge_start = record { inside = omega arith; from_is = refl; spell = refl; walking = walk_start }
+  judge_start = record { inside = omega arith; spell = refl; walking = walk_start }
 
-  module _ (seen : List Bool) (total at from : ℕ) (v : Judging w count seen total at from) where
+  module _ (seen : List Bool) (total at : ℕ) (v : Judging w count seen total at) where
     passed : length (take at (starts_of w count)) ≡ at
     passed = length-take-le at (starts_of w count) (omega (arith, starts_length w count, v.inside))
 
@@ -104,17 +105,11 @@ module _ (w : List ℕ) (count : ℕ) where
     judge_most = omega (arith, v.walking.most, passed)
 
     -- ---- one channel
-    module _ (inside : at < count) (id kind first size : ℕ) (id_is : id ≡ word w (from + START-ID)) (kind_is : kind ≡ word w (from + START-KIND))
-        (first-is : first ≡ word w (from + START-FIRST)) (size_is : size ≡ word w (from + START-SIZE)) where
-      id_here : id ≡ start_word w at START-ID
-      id_here = rw (id_is, v.from_is)
-
-      size_here : size ≡ start_word w at START-SIZE
-      size_here = rw (size_is, v.from_is)
-
+    module _ (inside : at < count) (id kind first size : ℕ) (id_is : id ≡ start_word w at START-ID) (kind_is : kind ≡ start_word w at START-KIND)
+        (first-is : first ≡ start_word w at START-FIRST) (size_is : size ≡ start_word w at START-SIZE) where
       judged_here : start_fits_of id kind first size ≡ (start_spelled (start_word w at START-KIND) (start_word w at START-FIRST) && setting_fits (start_in w at).setting)
       unfolding start_in
-      judged_here = rw (id_is, kind_is, first-is, size_is, v.from_is)
+      judged_here = rw (id_is, kind_is, first-is, size_is)
 
       pub out_unfit : start_fits_of id kind first size ≡ false → unfit ≡ walked w count
       unfolding walked
@@ -133,21 +128,20 @@ module _ (w : List ℕ) (count : ℕ) where
 
         pub id_small : id < CHANNEL-IDS
         unfolding start_in
-        id_small = omega (arith, id_here, (setting_fit (start_in w at).setting parts.1).unreserved)
+        id_small = omega (arith, id_is, (setting_fit (start_in w at).setting parts.1).unreserved)
 
         pub out_twice : get_or seen id false ≡ true → unfit ≡ walked w count
         unfolding walked start_in
         out_twice e =
             out _ (starts_of w count)
-            (rw (walk_twice (take at (starts_of w count)) seen total v.walking (start_in w at) parts.1 (starts_of w count) _ (upcoming w count at inside) (rw id_here at e), and-false))
+            (rw (walk_twice (take at (starts_of w count)) seen total v.walking (start_in w at) parts.1 (starts_of w count) _ (upcoming w count at inside) (rw id_is at e), and-false))
 
-        pub judge_on : get_or seen id false ≡ false → Judging w count (set seen id true) (total + size) (at + 1) (from + CONFIGURATION-SLOT)
+        pub judge_on : get_or seen id false ≡ false → Judging w count (set seen id true) (total + size) (at + 1)
         unfolding starts_spelled start_in
         judge_on e = record {
           inside = omega arith;
-          from_is = omega (arith, v.from_is);
           spell = rw (add-one at, v.spell, parts.0);
-          walking = rw (one_more w count at inside, id_here, size_here) (walk_on (take at (starts_of w count)) seen total v.walking (start_in w at) parts.1 (rw id_here at e));
+          walking = rw (one_more w count at inside, id_is, size_is) (walk_on (take at (starts_of w count)) seen total v.walking (start_in w at) parts.1 (rw id_is at e));
         }
 
     -- ---- all are passed
@@ -162,7 +156,7 @@ module _ (w : List ℕ) (count : ℕ) where
       unfolding walked together_fit
       out_none e = out _ _ (rw (all_spelled_lem, all_walked.fit, all_walked.apart, sym (all_walked.seen_is 0 (omega arith)) ∙ e))
 
-      pub judge_end : get_or seen 0 false ≡ true → record { fits = true; total = record { 0 = total } } ≡ walked w count
+      pub judge_end : get_or seen 0 false ≡ true → ◌≡◌ {A = Option ByteCount} (Some (record { 0 = total })) (walked w count)
       unfolding walked together_fit judged_by
       judge_end e = rw (all_spelled_lem, all_walked.fit, all_walked.apart, sym (all_walked.seen_is 0 (omega arith)) ∙ e, all_walked.total_is)
 

@@ -1,17 +1,17 @@
 -- A fresh start on words: what the words of a configuration say, and the words that a fresh start leaves. The words are named as in src/layout.rt, with `-` for
 -- `_`.
-use Rattle.std.specs.Prelude.{ℕ, zero, suc, ◌+◌, ◌*◌, ◌^◌, ◌≤◌, ◌<◌, Bool, true, false, cond, ◌&&◌, List, [], ◌∷◌, ◌++◌, map, ◌≡◌, length, replicate, eqb, leb, ltb}
+use Rattle.quantity.specs.declared.refusal.Refusal.{Refusal}
+use Rattle.std.specs.Prelude.{ℕ, zero, suc, ◌+◌, ◌*◌, ◌^◌, ◌≤◌, ◌<◌, Bool, true, cond, ◌&&◌, List, [], ◌∷◌, ◌++◌, map, ◌≡◌, length, replicate, eqb, leb, ltb, Result, Ok, Err, Option, None, Some}
 use Rattle.facts.specs.Tables.{tabulate}
 use Rattle.quantity.specs.Limits.{MOST-CHANNELS, RESERVED-CHANNEL}
 use Rattle.quantity.specs.Refusals.{OUTSIDE-LIMITS, NO-WAIT}
 use Rattle.meaning.specs.Kinds.{among}
 use Rattle.ips_channel.specs.declared.state.Channel.{Channel}
-use Rattle.ips_state.specs.declared.StartAnswer.{StartAnswer}
 use Rattle.ips_state.specs.State.{ChannelStart, Configuration, fresh_of, fresh_state, blank_configuration}
 use Rattle.ips_state.specs.Limits.{setting_fits, starts_fit, start_ids, distinct, sizes, configuration_fits_under, configuration_fits, waits_fit}
 use Rattle.ips_state.specs.Memory.{memory_fits}
 use Rattle.ips_words.specs.Words.{CONTROLLED, ABSENT, word, words_for, channel_words}
-use Rattle.ips_words_start.specs.declared.judge.Judged.{Judged}
+use Rattle.quantity.specs.declared.count.ByteCount.{ByteCount}
 
 -- ---- a configuration in words: the Datalink ID, the count of channels, HelloTime, silence limit, the setting of the statuses 8 to 15, then for each channel its ID,
 -- its kind, its first sequence and the length of its store
@@ -114,32 +114,32 @@ starts_in configuration words memory = starts_in_under MOST-CHANNELS configurati
 abbrev pub begins_in : (configuration words memory : List ℕ) → Bool
 begins_in configuration words memory = starts_in configuration words memory && waits_fit (configuration_in configuration)
 
-abbrev pub not_started : (number : ℕ) → StartAnswer
-not_started number = StartAnswer.Refused (record { number = number; place = 0 })
+abbrev pub not_started : (number : ℕ) → Result (Unit {0}) Refusal
+not_started number = Err (record { number = number; place = 0 })
 
 -- THE CONTRACT OF A START ON WORDS: "A fresh start fills each store with zeros"; a refusal "changes no state and no lent byte"
-pub record StartedIn (configuration words memory : List ℕ) (answer : StartAnswer) (words' memory' : List ℕ) : Type 0 where
-  pub answer_is : answer ≡ cond (starts_in configuration words memory) (cond (waits_fit (configuration_in configuration)) StartAnswer.Started (not_started NO-WAIT)) (not_started OUTSIDE-LIMITS)
+pub record StartedIn (configuration words memory : List ℕ) (answer : Result (Unit {0}) Refusal) (words' memory' : List ℕ) : Type 0 where
+  pub answer_is : answer ≡ cond (starts_in configuration words memory) (cond (waits_fit (configuration_in configuration)) (Ok tt) (not_started NO-WAIT)) (not_started OUTSIDE-LIMITS)
   pub words_are : words' ≡ cond (begins_in configuration words memory) (fresh_words (configuration_in configuration)) words
   pub memory_is : memory' ≡ cond (begins_in configuration words memory) (replicate (length memory) 0) memory
 
 -- ---- what the pass over a configuration gives: whether it is within the limits, and "the sum of the stores"
-abbrev pub unfit : Judged
-unfit = record { fits = false; total = record { 0 = 0 } }
+abbrev pub unfit : Option ByteCount
+unfit = None
 
 abbrev pub start_fits_of : (id kind first size : ℕ) → Bool
 start_fits_of id kind first size = start_spelled kind first && setting_fits (start_with id kind first size).setting
 
-unfoldable pub judged_by : Bool → List ChannelStart → Judged
-judged_by fits starts = cond fits (record { fits = true; total = record { 0 = sizes (map fresh_of starts) } }) unfit
+unfoldable pub judged_by : Bool → List ChannelStart → Option ByteCount
+judged_by fits starts = cond fits (Some (record { 0 = sizes (map fresh_of starts) })) unfit
 
 unfoldable pub together_fit : List ChannelStart → Bool
 together_fit starts = starts_fit starts && (distinct (start_ids starts) && among 0 (start_ids starts))
 
-unfoldable pub walked : List ℕ → ℕ → Judged
+unfoldable pub walked : List ℕ → ℕ → Option ByteCount
 walked w count = judged_by (starts_spelled w count && together_fit (starts_of w count)) (starts_of w count)
 
-unfoldable pub judged_of : List ℕ → Judged
+unfoldable pub judged_of : List ℕ → Option ByteCount
 judged_of w = judged_by (configuration_fits (configuration_in w)) (configuration_in w).starts
 
 -- ---- what a fresh start is written from

@@ -1,7 +1,7 @@
-// A configuration in words: whether it is within the limits, and the sum of its stores.
+// A configuration in words: the sum of its stores where it is within the limits.
 ghost use Rattle.std.specs.Prelude.{◌≡◌, ◌≤◌, length};
 ghost use Rattle.quantity.specs.Limits.{MOST-CHANNELS};
-ghost use Rattle.ips_words_start.specs.Start.{configuration_length, start_fits_of, unfit, walked, judged_of};
+ghost use Rattle.ips_words_start.specs.Start.{configuration_length, start_fits_of, walked, judged_of};
 
 use crate::layout::{
     CONFIGURATION_HEAD, CONFIGURATION_SLOT, CONFIGURED_CODES, CONFIGURED_COUNT,
@@ -12,22 +12,6 @@ use ips_words::waiting;
 use quantity::count::ByteCount;
 use quantity::limit::{CHANNEL_IDS, FEWEST_CHANNELS, LARGEST_STORE, MOST_CHANNELS, SMALLEST_STORE};
 
-#[derive(Clone, Copy)]
-pub struct Judged {
-    pub fits: bool,
-    pub total: ByteCount,
-}
-
-// A configuration outside the limits has no stores.
-fn outside() -> Judged
-    ensures { result ≡ unfit }
-{
-    Judged {
-        fits: false,
-        total: ByteCount(0),
-    }
-}
-
 fn start_fits(id: usize, kind: u64, first: u64, size: usize) -> bool
     ensures { result ≡ start_fits_of id kind first size }
 {
@@ -37,15 +21,14 @@ fn start_fits(id: usize, kind: u64, first: u64, size: usize) -> bool
 }
 
 // The channels one after another: `seen` has the Channel IDs before.
-fn walk(configuration: &[u64], count: usize) -> Judged
+fn walk(configuration: &[u64], count: usize) -> Option<ByteCount>
     requires { (length configuration.now ≡ configuration_length count) × (count ≤ MOST-CHANNELS) }
     ensures { result ≡ walked configuration.now count }
 {
     let mut seen = [false; CHANNEL_IDS];
     let mut total: usize = 0;
-    let mut at = 0;
-    let mut from = CONFIGURATION_HEAD;
-    while at < count {
+    for at in 0..count {
+        let from = CONFIGURATION_HEAD + CONFIGURATION_SLOT * at;
         let id = waiting::narrow(configuration[from + START_ID]);
         let size = waiting::narrow(configuration[from + START_SIZE]);
         if !start_fits(
@@ -54,47 +37,42 @@ fn walk(configuration: &[u64], count: usize) -> Judged
             configuration[from + START_FIRST],
             size,
         ) {
-            return outside();
+            return None;
         }
         if seen[id] {
-            return outside();
+            return None;
         }
         seen[id] = true;
         total += size;
-        at += 1;
-        from += CONFIGURATION_SLOT;
     }
     if !seen[0] {
-        return outside();
+        return None;
     }
-    Judged {
-        fits: true,
-        total: ByteCount(total),
-    }
+    Some(ByteCount(total))
 }
 
-// The count is judged before it is multiplied.
-pub fn judge(configuration: &[u64]) -> Judged
+// The count is judged before it is multiplied. A configuration outside the limits has no stores.
+pub fn judge(configuration: &[u64]) -> Option<ByteCount>
     ensures { result ≡ judged_of configuration.now }
 {
     if configuration.len() < CONFIGURATION_HEAD {
-        return outside();
+        return None;
     }
     let count = waiting::narrow(configuration[CONFIGURED_COUNT]);
     if count < FEWEST_CHANNELS {
-        return outside();
+        return None;
     }
     if count > MOST_CHANNELS {
-        return outside();
+        return None;
     }
     if configuration.len() != CONFIGURATION_HEAD + CONFIGURATION_SLOT * count {
-        return outside();
+        return None;
     }
     if configuration[CONFIGURED_DATALINK] >= BYTE_VALUES {
-        return outside();
+        return None;
     }
     if configuration[CONFIGURED_CODES] >= BYTE_VALUES {
-        return outside();
+        return None;
     }
     walk(configuration, count)
 }

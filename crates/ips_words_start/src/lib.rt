@@ -5,32 +5,28 @@ ghost use Rattle.std.specs.Prelude.{◌≡◌};
 ghost use Rattle.ips_words_start.specs.Start.{not_started, StartedIn};
 
 use crate::layout::{CONFIGURED_COUNT, CONFIGURED_HELLO, CONFIGURED_LIMIT};
-use ips_state::StartAnswer;
 use ips_words::layout::{HEAD, SLOT};
 use ips_words::waiting;
 use quantity::refusal;
 use quantity::refusal::Refusal;
-use store::stretch;
 
 mod fresh;
 mod judge;
 pub mod layout;
 
-fn refused(number: u8) -> StartAnswer
+fn refused(number: u8) -> Result<(), Refusal>
     ensures { result ≡ not_started number }
 {
-    StartAnswer::Refused(Refusal { number, place: 0 })
+    Err(Refusal { number, place: 0 })
 }
 
 // 19, then 22, before anything is written; else the words of the fresh state, and zeros in each store. What stood in words and memory does not matter.
-pub fn begin(words: &mut [u64], memory: &mut [u8], configuration: &[u64]) -> StartAnswer
+pub fn begin(words: &mut [u64], memory: &mut [u8], configuration: &[u64]) -> Result<(), Refusal>
     ensures { StartedIn configuration.now words.old memory.old result words.new memory.new }
 {
-    let judged = judge::judge(configuration);
-    if !judged.fits {
+    let Some(total) = judge::judge(configuration) else {
         return refused(refusal::OUTSIDE_LIMITS);
-    }
-    let total = judged.total;
+    };
     if total.0 != memory.len() {
         return refused(refusal::OUTSIDE_LIMITS);
     }
@@ -45,6 +41,6 @@ pub fn begin(words: &mut [u64], memory: &mut [u8], configuration: &[u64]) -> Sta
         return refused(refusal::NO_WAIT);
     }
     fresh::write(words, configuration, count);
-    stretch::fill_zeros(memory);
-    StartAnswer::Started
+    memory.fill(0);
+    Ok(())
 }

@@ -15,8 +15,8 @@ use Rattle.store.proofs.Entries.{upcoming, nothing_left}
 use Rattle.store.proofs.Turns.{Judging, judge_start, judge_on, judge_out, judge_end, ill_many, ill_length}
 use Rattle.flow.specs.declared.Flow.{Flow}
 use Rattle.ips_state.specs.Limits.{flow_fits, channel_fits_under, channel_fits}
-use Rattle.ips_words.specs.Words.{CONTROLLED, FREE, NO-WINDOW, FIXED, ENTRY, WAITING, ID, SIZE, KIND, STATUS-TAG, STATUS-VALUE, FLOW-TAG, FLOW-WINDOW, word, status_of, flow_of, queue_in, channel_in}
-use Rattle.ips_words.proofs.Entries.{entry_from, entries_length, entries_waiting}
+use Rattle.ips_words.specs.Words.{CONTROLLED, FREE, NO-WINDOW, FIXED, ENTRY, WAITING, ID, SIZE, KIND, STATUS-TAG, STATUS-VALUE, FLOW-TAG, FLOW-WINDOW, word, status_of, flow_of, entry_at, queue_in, channel_in}
+use Rattle.ips_words.proofs.Entries.{entries_length, entries_waiting}
 use Rattle.ips_words_survey.specs.Survey.{plain_free}
 
 plain_free_lem : (kind tag window : ℕ) → flow_fits (eqb kind CONTROLLED) (flow_of tag window) ≡ plain_free kind tag
@@ -40,36 +40,35 @@ count_is : (w : List ℕ) → (queue_in w).count ≡ word w WAITING
 unfolding queue_in
 count_is w = refl
 
-in_queue : (w : List ℕ) (at from : ℕ) → word w WAITING ≤ MOST-WAITING → at < word w WAITING → from ≡ FIXED + ENTRY * at
-    → drop at (waiting (queue_in w)) ≡ entry_from w from ∷ drop (at + 1) (waiting (queue_in w))
+in_queue : (w : List ℕ) (at : ℕ) → word w WAITING ≤ MOST-WAITING → at < word w WAITING
+    → drop at (waiting (queue_in w)) ≡ entry_at w at ∷ drop (at + 1) (waiting (queue_in w))
 unfolding queue_in
-in_queue w at from few h f =
+in_queue w at few h =
     let q : Queue = queue_in w in
-    rw f (rw (entries_waiting w (word w WAITING) at (omega arith) h) at (upcoming q at (entries_length w (word w WAITING)) few h))
+    rw (entries_waiting w (word w WAITING) at (omega arith) h) at (upcoming q at (entries_length w (word w WAITING)) few h)
 
-pub record Summing (w : List ℕ) (count bytes at from : ℕ) : Type 0 where
+pub record Summing (w : List ℕ) (count bytes at : ℕ) : Type 0 where
   pub counted : count ≡ word w WAITING
   pub few : count ≤ MOST-WAITING
-  pub stands : from ≡ FIXED + ENTRY * at
   pub judging : Judging (waiting (queue_in w)) (drop at (waiting (queue_in w))) bytes at
 
 module _ (w : List ℕ) (count : ℕ) (counted : count ≡ word w WAITING) where
   pub sum_many : (size : ℕ) → MOST-WAITING < count → false ≡ well_formed (queue_in w) size
   sum_many size h = ill_many (queue_in w) size (omega (arith, count_is w))
 
-  pub sum_start : count ≤ MOST-WAITING → Summing w count 0 0 FIXED
-  sum_start few = record { counted = counted; few = few; stands = omega arith; judging = judge_start (waiting (queue_in w)) }
+  pub sum_start : count ≤ MOST-WAITING → Summing w count 0 0
+  sum_start few = record { counted = counted; few = few; judging = judge_start (waiting (queue_in w)) }
 
-module _ (w : List ℕ) (count bytes at from : ℕ) (s : Summing w count bytes at from) where
-  module _ (h : at < count) (length : ℕ) (is : length ≡ word w from) where
-    step : drop at (waiting (queue_in w)) ≡ entry_from w from ∷ drop (at + 1) (waiting (queue_in w))
-    step = in_queue w at from (omega (arith, s.counted, s.few)) (omega (arith, s.counted)) s.stands
+module _ (w : List ℕ) (count bytes at : ℕ) (s : Summing w count bytes at) where
+  module _ (h : at < count) (length : ℕ) (is : length ≡ word w (FIXED + ENTRY * at)) where
+    step : drop at (waiting (queue_in w)) ≡ entry_at w at ∷ drop (at + 1) (waiting (queue_in w))
+    step = in_queue w at (omega (arith, s.counted, s.few)) (omega (arith, s.counted))
 
     pub sum_out : (size : ℕ) → within length ≡ false → false ≡ well_formed (queue_in w) size
-    sum_out size e = ill_length (queue_in w) size (omega (arith, count_is w, s.counted, s.few)) (judge_out _ _ _ (entry_from w from) _ _ step s.judging (rw is at e))
+    sum_out size e = ill_length (queue_in w) size (omega (arith, count_is w, s.counted, s.few)) (judge_out _ _ _ (entry_at w at) _ _ step s.judging (rw is at e))
 
-    pub sum_on : within length ≡ true → Summing w count (bytes + length) (at + 1) (from + ENTRY)
-    sum_on e = record { counted = s.counted; few = s.few; stands = omega (arith, s.stands); judging = rw is (judge_on _ _ _ (entry_from w from) _ _ step s.judging (rw is at e)) }
+    pub sum_on : within length ≡ true → Summing w count (bytes + length) (at + 1)
+    sum_on e = record { counted = s.counted; few = s.few; judging = rw is (judge_on _ _ _ (entry_at w at) _ _ step s.judging (rw is at e)) }
 
   pub sum_end : count ≤ at → (size : ℕ) → leb bytes size ≡ well_formed (queue_in w) size
   sum_end h size =

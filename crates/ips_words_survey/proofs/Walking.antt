@@ -1,4 +1,5 @@
 -- The pass over the channels: what holds before a channel, where it starts, goes on and ends. Assumes nothing.
+use Rattle.std.specs.Prelude.{Some}
 use Prim.Native.Nat.{ℕ, suc, ◌+◌, ◌*◌, ◌≤◌, ◌<◌}
 use mathlib.Core.Bool.{Bool, true, false, cond, and-false}
 use mathlib.Core.List.{List, [], ◌∷◌, ◌++◌}
@@ -148,7 +149,7 @@ module _ (id count : ℕ) (cs : List Channel) (seen : List Bool) (total index st
   unfolding walked channels_fit_under
   walk_none e = rw (w.fit, w.apart, sym (w.seen_is 0 (omega arith)) ∙ e)
 
-  pub walk_end : get_or seen 0 false ≡ true → count ≡ length cs → record { fits = true; total = record { 0 = total }; index = index; start = record { 0 = start } } ≡ walked cs id
+  pub walk_end : get_or seen 0 false ≡ true → count ≡ length cs → Some (record { total = record { 0 = total }; index = index; start = record { 0 = start } }) ≡ walked cs id
   unfolding walked channels_fit_under surveyed
   walk_end e l = rw (w.fit, w.apart, sym (w.seen_is 0 (omega arith)) ∙ e, w.total_is, w.start_is, place)
     where

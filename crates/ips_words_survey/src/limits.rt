@@ -34,7 +34,7 @@ fn is_spelled(part: &[u64]) -> bool
 fn setting_fits(id: u64, size: usize) -> bool
     ensures { result ≡ (ltb id RESERVED-CHANNEL && (leb SMALLEST-STORE size && leb size LARGEST-STORE)) }
 {
-    id < RESERVED_CHANNEL as u64 && (SMALLEST_STORE <= size && size <= LARGEST_STORE)
+    id < u64::from(RESERVED_CHANNEL) && (SMALLEST_STORE <= size && size <= LARGEST_STORE)
 }
 
 fn status_fits(tag: u64, value: u64) -> bool
@@ -43,7 +43,7 @@ fn status_fits(tag: u64, value: u64) -> bool
     if tag == ABSENT {
         return true;
     }
-    value <= HIGHEST_STATUS as u64
+    value <= u64::from(HIGHEST_STATUS)
 }
 
 // A plain channel is free.
@@ -66,10 +66,8 @@ fn well_formed(part: &[u64], size: usize) -> bool
         return false;
     }
     let mut bytes = 0;
-    let mut at = 0;
-    let mut from = FIXED;
-    while at < count {
-        let length = waiting::narrow(part[from]);
+    for at in 0..count {
+        let length = waiting::narrow(part[FIXED + ENTRY * at]);
         if length < SHORTEST_PACKET {
             return false;
         }
@@ -77,8 +75,6 @@ fn well_formed(part: &[u64], size: usize) -> bool
             return false;
         }
         bytes += length;
-        at += 1;
-        from += ENTRY;
     }
     bytes <= size
 }

@@ -15,30 +15,21 @@ pub struct Found {
     pub start: usize,
 }
 
-#[derive(Clone, Copy)]
-pub enum Place {
-    At(Found),
-    Refused(u8),
-}
-
 // The place of a channel's words and store, where the memory has this length.
-pub fn find(words: &[u64], id: u8, size: usize) -> Place
+pub fn find(words: &[u64], id: u8, size: usize) -> Result<Found, u8>
     ensures { result ≡ place_of (state_in words.now) id size }
 {
-    let survey = survey::survey_words(words, id);
-    if !survey.fits {
-        return Place::Refused(refusal::OUTSIDE_LIMITS);
-    }
-    let total = survey.total;
-    if total.0 != size {
-        return Place::Refused(refusal::OUTSIDE_LIMITS);
+    let Some(survey) = survey::survey_words(words, id) else {
+        return Err(refusal::OUTSIDE_LIMITS);
+    };
+    if survey.total.0 != size {
+        return Err(refusal::OUTSIDE_LIMITS);
     }
     if survey.index == waiting::narrow(words[COUNT_WORD]) {
-        return Place::Refused(refusal::NO_CHANNEL);
+        return Err(refusal::NO_CHANNEL);
     }
-    let start = survey.start;
-    Place::At(Found {
+    Ok(Found {
         index: survey.index,
-        start: start.0,
+        start: survey.start.0,
     })
 }

@@ -2,7 +2,7 @@
 ghost use Rattle.std.specs.Prelude.{◌≡◌, ◌≤◌, length};
 ghost use Rattle.ips_state.specs.Limits.{names_fit, head_fits};
 ghost use Rattle.ips_words.specs.Words.{HEAD, state_of, state_in, head_spelled};
-ghost use Rattle.ips_words_survey.specs.Survey.{unfit, Counted, walked_in, survey_of};
+ghost use Rattle.ips_words_survey.specs.Survey.{Counted, walked_in, survey_of, within_limits};
 
 use crate::limits;
 use ips_words::layout::{
@@ -13,12 +13,13 @@ use ips_words::{head, layout, waiting};
 use meaning::message::End;
 use quantity::count::ByteCount;
 use quantity::limit::{FEWEST_CHANNELS, MOST_CHANNELS};
+use quantity::refusal;
+use quantity::refusal::Refusal;
 use writable::part;
 
-// A channel that is not configured has the index behind the last.
+// Of a state within the limits. A channel that is not configured has the index behind the last.
 #[derive(Clone, Copy)]
 pub struct Survey {
-    pub fits: bool,
     pub total: ByteCount,
     pub index: usize,
     pub start: ByteCount,
@@ -27,20 +28,8 @@ pub struct Survey {
 // The values of a byte.
 const BYTES: usize = 256;
 
-// A state outside the limits has no places.
-fn outside() -> Survey
-    ensures { result ≡ unfit }
-{
-    Survey {
-        fits: false,
-        total: ByteCount(0),
-        index: 0,
-        start: ByteCount(0),
-    }
-}
-
 // The channels one after another: `seen` has the Channel IDs before.
-fn walk(words: &[u64], count: usize, id: u8) -> Survey
+fn walk(words: &[u64], count: usize, id: u8) -> Option<Survey>
     requires { Counted words.now count }
     ensures { result ≡ walked_in words.now count id }
 {
@@ -48,35 +37,31 @@ fn walk(words: &[u64], count: usize, id: u8) -> Survey
     let mut total: usize = 0;
     let mut index = count;
     let mut start: usize = 0;
-    let mut at = 0;
-    let mut from = layout::HEAD;
-    while at < count {
-        let end = from + SLOT;
-        if !limits::channel_fits(&words[from..end]) {
-            return outside();
+    for at in 0..count {
+        let from = layout::HEAD + SLOT * at;
+        let part = &words[from..from + SLOT];
+        if !limits::channel_fits(part) {
+            return None;
         }
-        let here = waiting::narrow(words[from + ID]);
+        let here = waiting::narrow(part[ID]);
         if seen[here] {
-            return outside();
+            return None;
         }
         seen[here] = true;
-        if here == id as usize {
+        if here == usize::from(id) {
             index = at;
             start = total;
         }
-        total += waiting::narrow(words[from + SIZE]);
-        at += 1;
-        from = end;
+        total += waiting::narrow(part[SIZE]);
     }
     if !seen[0] {
-        return outside();
+        return None;
     }
-    Survey {
-        fits: true,
+    Some(Survey {
         total: ByteCount(total),
         index,
         start: ByteCount(start),
-    }
+    })
 }
 
 // Link Instance and Context within their lengths.
@@ -107,28 +92,41 @@ fn head_spelled(words: &[u64]) -> bool
             && (words[CONTEXT_TAG] <= GIVEN && words[CODES_WORD] < BYTE_VALUES))
 }
 
-// Whether the state is within the limits, the length of the memory it asks for, and where the channel of an ID and its store stand.
-pub fn survey_words(words: &[u64], id: u8) -> Survey
+// Of a state within the limits: the length of the memory it asks for, and where the channel of an ID and its store stand.
+pub fn survey_words(words: &[u64], id: u8) -> Option<Survey>
     ensures { result ≡ survey_of (state_in words.now) id }
 {
     if words.len() < layout::HEAD {
-        return outside();
+        return None;
     }
     let count = waiting::narrow(words[COUNT_WORD]);
     if count < FEWEST_CHANNELS {
-        return outside();
+        return None;
     }
     if count > MOST_CHANNELS {
-        return outside();
+        return None;
     }
     if words.len() != layout::HEAD + SLOT * count {
-        return outside();
+        return None;
     }
     if !head_spelled(words) {
-        return outside();
+        return None;
     }
     if !head_fits(words) {
-        return outside();
+        return None;
     }
     walk(words, count, id)
+}
+
+// Number 19 alone.
+pub fn judge(words: &[u64]) -> Result<(), Refusal>
+    ensures { result ≡ within_limits (state_in words.now) }
+{
+    match survey_words(words, 0) {
+        Some(_) => Ok(()),
+        None => Err(Refusal {
+            number: refusal::OUTSIDE_LIMITS,
+            place: 0,
+        }),
+    }
 }

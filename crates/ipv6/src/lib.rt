@@ -16,13 +16,11 @@ const PAYLOAD_LENGTH_AT: usize = 4;
 const PAYLOAD_LENGTH_END: usize = 6;
 
 // Whether number 13 lets a packet pass: 40 bytes, version 6, and the Payload Length is the rest.
+#[tactic(auto, unfolding(crate::specs::Ipv6::is_ipv6))]
 pub fn is_ipv6(packet: &[u8]) -> bool
     ensures { result ≡ is_ipv6 packet.now }
 {
-    if packet.len() < SHORTEST_PACKET {
-        return false;
-    }
-    if packet[0] / VERSION_UNIT != VERSION {
+    if packet.len() < SHORTEST_PACKET || packet[0] / VERSION_UNIT != VERSION {
         return false;
     }
     let payload = wire::number::read(&packet[PAYLOAD_LENGTH_AT..PAYLOAD_LENGTH_END]) as usize;

@@ -1,5 +1,7 @@
 -- The joined ends, of the code's own outcomes: after two starts and any calls, whatever the net does, no Next that hands over a packet goes past the highest window
 -- ever granted. Assumes nothing.
+use Rattle.std.specs.Prelude.{Result, Ok}
+use Rattle.quantity.specs.declared.refusal.Refusal.{Refusal}
 use Prim.Native.Nat.{ℕ, ◌^◌, ◌<◌}
 use mathlib.Core.Path.{◌≡◌, refl, sym, ap, subst, ◌∙◌}
 use mathlib.Core.Bool.{true}
@@ -14,7 +16,6 @@ use Rattle.radio_end_run.specs.Run as station
 use Rattle.radio_end_run.proofs.Steps.{step_own}
 use Rattle.radio_end_run.proofs.Fresh.{fresh_inside}
 use Rattle.radio_end_words.specs.Words as far-words
-use Rattle.radio_end_start.specs.declared.StartAnswer as far-answer
 use Rattle.radio_end_start.specs.Start as far-start
 use Rattle.radio_end_start.proofs.Exactly.{started_leaves}
 use Rattle.radio_end.specs.Ran as far
@@ -34,7 +35,6 @@ use Rattle.endpoint.specs.Lent.{Lent, lent, world_in}
 use Rattle.endpoint.specs.Calls.{PerformedIn}
 use Rattle.endpoint.proofs.Simulating.{performed_in}
 use Rattle.endpoint.proofs.Whole.{started_in}
-use Rattle.ips_state.specs.declared.StartAnswer as own-answer
 use Rattle.ips_words_start.specs.Start.{configuration_in, StartedIn}
 use Rattle.ips_words_start.proofs.Exactly as own-starts
 use Rattle.ips_words_start.proofs.FreshWords.{configuration_small}
@@ -57,12 +57,12 @@ module _ (k : Terms) (j : ℕ) where
   abbrev leaving : station.Call → Lents → radio.State → (datagrams : List (List ℕ)) → Ends
   leaving c x s datagrams = record { world = world_in x.own; station = s; watched = told (heard_in k c (ends_in x)) (radio.channel_at s j) datagrams x.watched }
 
-  call_in : (x : Lents) (c : station.Call) (answer : Answer) (left out : List ℕ) → MayCall k c x.watched → far.PerformedIn c x.far answer left out
+  call_in : (x : Lents) (c : station.Call) (answer : Result Answer Refusal) (left out : List ℕ) → MayCall k c x.watched → far.PerformedIn c x.far answer left out
       → bound_if (written_by answer out) (heard_after k c (ends_in x)) (allowance_at (channel_in j left)) → ends.Step k j (ends_in x) (ends_in (after_calling k j c answer left out x))
   call_in x c answer left out may h bound =
       let after = station.after_call c (far-words.state_in x.far) in
       let s : far-words.state_in left ≡ station.state_after c (far-words.state_in x.far) = far-ran.performed_in c x.far answer left out h in
-      let ds : written_by answer out ≡ written_in after = ap (λ (a : Answer). written_by a out) h.answer_is ∙ ap (written_by after.answer) h.output_is in
+      let ds : written_by answer out ≡ written_in after = ap (λ (a : Result Answer Refusal). written_by a out) h.answer_is ∙ ap (written_by after.answer) h.output_is in
       let same : ends_in (after_calling k j c answer left out x) ≡ after_call k j c (ends_in x) =
       ap (λ (z : radio.State). leaving c x z (written_by answer out)) s ∙ ap (leaving c x (station.state_after c (far-words.state_in x.far))) ds in
       let heard = heard_after k c (ends_in x) in
@@ -83,7 +83,7 @@ module _ (k : Terms) (j : ℕ) where
     here : j < length (far-words.state_in x.far).channels
     modest : Modest (channel_in j x.far).setting
 
-  settled_on : (x : Lents) → Settled x → (c : station.Call) (answer : Answer) (left out : List ℕ) → far.PerformedIn c x.far answer left out → Settled (after_calling k j c answer left out x)
+  settled_on : (x : Lents) → Settled x → (c : station.Call) (answer : Result Answer Refusal) (left out : List ℕ) → far.PerformedIn c x.far answer left out → Settled (after_calling k j c answer left out x)
   settled_on x m c answer left out h =
       let s = far-words.state_in x.far in
       let is : far-words.state_in left ≡ station.state_after c s = far-ran.performed_in c x.far answer left out h in
@@ -108,14 +108,14 @@ module _ (k : Terms) (j : ℕ) where
       record { reach = goes_on b y z i.reach (calls x c answer left out may h bound); settled = after }
 
 -- ---- from two starts that are made, on any words and any memory
-module _ {configuration words memory words' memory' : List ℕ} (begun : StartedIn configuration words memory own-answer.StartAnswer.Started words' memory') where
+module _ {configuration words memory words' memory' : List ℕ} (begun : StartedIn configuration words memory (Ok tt) words' memory') where
   abbrev conf : Configuration
   conf = configuration_in configuration
 
   taken : configuration_taken conf ≡ true
   taken = let left = own-starts.started_leaves configuration words memory begun refl in rw (left.configuration_fits_lem, left.waits_fit_lem)
 
-  module _ {setting before after' : List ℕ} (far-begun : far-start.StartedIn setting before far-answer.StartAnswer.Started after') where
+  module _ {setting before after' : List ℕ} (far-begun : far-start.StartedIn setting before (Ok tt) after') where
     abbrev far_conf : radio.Configuration
     far_conf = far-start.configuration_in setting
 
@@ -140,7 +140,7 @@ module _ {configuration words memory words' memory' : List ℕ} (begun : Started
 
       -- THE THEOREM, of the code's own outcomes: "Then, counting without wrap, the endpoint never sends past the highest window the radio has ever granted"
       pub joined_never_past : (x : Lents) → Reach (Step k j bound_if) begins x → (time : ℕ) (out out' : List ℕ) (n : ByteCount) (left : Lent)
-          → PerformedIn (on k.id (next time out)) x.own (of_channel (asked (NextAnswer.Sent n) out')) left → NotPast k time out (ends_in x)
+          → PerformedIn (on k.id (next time out)) x.own (of_channel (asked (Ok (NextAnswer.Sent n)) out')) left → NotPast k time out (ends_in x)
       joined_never_past x r time out out' n left h = go (calling k.id (next time out) w).answer refl h.reply_is
         where
           w : World
@@ -149,7 +149,7 @@ module _ {configuration words memory words' memory' : List ℕ} (begun : Started
           reached : Reach (ends.Step k j) (ends.start (fresh_world conf) (far-words.state_in after') (simply_at conf index)) (ends_in x)
           reached = subst (λ (v : World). Reach (ends.Step k j) (ends.start v (far-words.state_in after') (simply_at conf index)) (ends_in x)) (started_in begun) (reach_in k j begins x r)
 
-          go : (a : rules.Answer Tried) → (calling k.id (next time out) w).answer ≡ a → of_channel (asked (NextAnswer.Sent n) out') ≡ reply_of (on k.id (next time out)) w
+          go : (a : rules.Answer Tried) → (calling k.id (next time out) w).answer ≡ a → of_channel (asked (Ok (NextAnswer.Sent n)) out') ≡ reply_of (on k.id (next time out)) w
               → NotPast k time out (ends_in x)
           go (refused number) e f = clash (cc (rw e at f))
           go (answered nothing_waiting) e f = clash (cc (rw e at f))
@@ -160,7 +160,7 @@ module _ {configuration words memory words' memory' : List ℕ} (begun : Started
 
       -- THE COROLLARY: with watermark plus throughput at most 2^30 in the radio's configuration nothing is asked of any window, for good
       pub joined_modest : Modest (get_or far_conf.settings j radio.no_setting) → (x : Lents) → Reach (Step k j nothing_asked) begins x → (time : ℕ) (out out' : List ℕ) (n : ByteCount) (left : Lent)
-          → PerformedIn (on k.id (next time out)) x.own (of_channel (asked (NextAnswer.Sent n) out')) left → NotPast k time out (ends_in x)
+          → PerformedIn (on k.id (next time out)) x.own (of_channel (asked (Ok (NextAnswer.Sent n)) out')) left → NotPast k time out (ends_in x)
       joined_modest modest x r = joined_never_past x (modest_reach k j begins x settled r).reach
         where
           settled : Settled k j begins

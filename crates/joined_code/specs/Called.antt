@@ -1,5 +1,6 @@
 -- Document 02, §14, as the code is called: both ends hold their states in lent words, and each call gives what its own contract says.
-use Rattle.std.specs.Prelude.{ℕ, List}
+use Rattle.quantity.specs.declared.refusal.Refusal.{Refusal}
+use Rattle.std.specs.Prelude.{ℕ, List, Result}
 use Rattle.quantity.specs.declared.count.ByteCount.{ByteCount}
 use Rattle.radio_end_state.specs.declared.answer.Answer.{Answer}
 use Rattle.radio_end_state.specs.declared.channel.Channel.{Channel}
@@ -41,10 +42,10 @@ after_acting k c reply left x = record { own = left; far = x.far; watched = acte
 
 module _ (k : Terms) (j : ℕ) where
   -- a call of the radio's end, by its answer and by the words and the output that it left
-  abbrev pub after_calling : station.Call → Answer → (left out : List ℕ) → Lents → Lents
+  abbrev pub after_calling : station.Call → Result Answer Refusal → (left out : List ℕ) → Lents → Lents
   after_calling c answer left out x = record { own = x.own; far = left; watched = told (heard_in k c (ends_in x)) (channel_in j left) (written_by answer out) x.watched }
 
   pub data Step (asked : Asking) : Lents → Lents → Type 0 where
     acts : (x : Lents) (c : Call) (reply : EndpointReply) (left : Lent) → MayAct c x.watched → PerformedIn c x.own reply left → Step asked x (after_acting k c reply left x)
-    calls : (x : Lents) (c : station.Call) (answer : Answer) (left out : List ℕ) → MayCall k c x.watched → far.PerformedIn c x.far answer left out
+    calls : (x : Lents) (c : station.Call) (answer : Result Answer Refusal) (left out : List ℕ) → MayCall k c x.watched → far.PerformedIn c x.far answer left out
         → asked (written_by answer out) (heard_after k c (ends_in x)) (allowance_at (channel_in j left)) → Step asked x (after_calling c answer left out x)

@@ -1,5 +1,6 @@
 -- Both ends joined, with all their channels and calls: on each channel that is flow-controlled at both, the endpoint never sends past the highest window that the radio's
 -- end has ever granted. Assumes nothing.
+use Rattle.std.specs.Prelude.{Option, None}
 use Prim.Native.Nat.{ℕ, ◌+◌, ◌^◌, ◌<◌, ◌≤◌, max}
 use mathlib.Core.Path.{◌≡◌, refl, sym, ap, subst, ◌∙◌}
 use mathlib.Core.Bool.{Bool, true, false, cond}
@@ -15,7 +16,6 @@ use Rattle.quantity.specs.declared.count.ByteCount.{ByteCount}
 use Rattle.quantity.specs.declared.count.DatalinkId.{DatalinkId}
 use Rattle.quantity.specs.declared.count.FlowSequence.{FlowSequence}
 use Rattle.quantity.specs.Window.{sequence_at}
-use Rattle.meaning.specs.declared.message.Sequence.{Sequence}
 use Rattle.meaning.specs.declared.message.Window.{Window}
 use Rattle.meaning.specs.declared.message.Control.{Control}
 use Rattle.radio_flow.specs.Granting.{granted}
@@ -69,7 +69,7 @@ among {A} {B} f (a ∷ xs) ys b m =
     later (inl x) = inl (x.0, Memᴰ.tail x.1, x.2)
     later (inr n) = inr n
 
-told_same : (a b : ℕ) (v w : Window) (p q : ℕ) → a ≡ b → v ≡ w → p ≡ q → ◌≡◌ {A = Told} (record { at = a; window = v; reaches = p }) (record { at = b; window = w; reaches = q })
+told_same : (a b : ℕ) (v w : Option Window) (p q : ℕ) → a ≡ b → v ≡ w → p ≡ q → ◌≡◌ {A = Told} (record { at = a; window = v; reaches = p }) (record { at = b; window = w; reaches = q })
 told_same a b v w p q e f g = rw (e, f, g)
 
 -- ---- what was heard, in the net
@@ -188,7 +188,7 @@ module _ (conf : Configuration) (fits : configuration_taken conf ≡ true) (smal
         let states : StatesOf x.station.datalink k.id datagram u.at =
         subst (λ (id : DatalinkId). StatesOf id k.id datagram u.at) (sym i.far.datalink_is) (subst (λ (d : List ℕ). StatesOf k.datalink k.id d u.at) (sym m.is) (i.ups_state u m.there)) in
         let few = heard_few x.station k.id u.at datagram out states in
-        let old : stated_in k datagram ≡ Sequence.Absent → Listens i.net_is x.watched.heard (station.heard_by (station.hear datagram out) x.station k.id) =
+        let old : stated_in k datagram ≡ None → Listens i.net_is x.watched.heard (station.heard_by (station.hear datagram out) x.station k.id) =
         (λ e. nothing (station.hear datagram out) (heard_none x.station k.id datagram out (ap (λ (id : DatalinkId). station.stated_of k.id (station.received_in id datagram)) i.far.datalink_is ∙ e))) in
         ⊎_elim old
         (λ (young : count_of x.watched < u.at + AGE).
@@ -322,7 +322,7 @@ module _ (conf : Configuration) (fits : configuration_taken conf ≡ true) (smal
           downs_state = λ d m. absurd (Memᴰ.not-nil m);
         }
 
-    goes : (x : Ends) → Reach (Step k j) fresh x → (time : ℕ) (out packet : List ℕ) (carried : Sequence)
+    goes : (x : Ends) → Reach (Step k j) fresh x → (time : ℕ) (out packet : List ℕ) (carried : Option FlowSequence)
         → (calling k.id (next time out) x.world).answer ≡ answered (sent packet carried) → Went packet carried x.watched.life.counting (step simple k (call (next time out)) x.watched.life).counting
     goes x r time out packet carried given =
         let i = keeps_all fresh x r joined_fresh in
@@ -330,7 +330,7 @@ module _ (conf : Configuration) (fits : configuration_taken conf ≡ true) (smal
         (own_after conf fits small index inside controlled x.world x.watched.life i.own (next time out))
 
     -- THE THEOREM: whatever is called at either end, and whatever the net does: a packet that Next hands over on the channel isn't past the highest window ever granted
-    pub all_never_past : (x : Ends) → Reach (Step k j) fresh x → (time : ℕ) (out packet : List ℕ) (carried : Sequence)
+    pub all_never_past : (x : Ends) → Reach (Step k j) fresh x → (time : ℕ) (out packet : List ℕ) (carried : Option FlowSequence)
         → (calling k.id (next time out) x.world).answer ≡ answered (sent packet carried) → count_of x.watched + length packet ≤ x.watched.top
     all_never_past x r time out packet carried given =
         let i = keeps_all fresh x r joined_fresh in
@@ -346,7 +346,7 @@ module _ (conf : Configuration) (fits : configuration_taken conf ≡ true) (smal
         never_free (start_at conf index).first (small index inside) i.net_is i.reach (ap (λ (y : Counter). y.limit) i.counter_is ∙ e)
 
     -- each of its bytes is counted: the channel is never free
-    pub all_counted : (x : Ends) → Reach (Step k j) fresh x → (time : ℕ) (out packet : List ℕ) (carried : Sequence)
+    pub all_counted : (x : Ends) → Reach (Step k j) fresh x → (time : ℕ) (out packet : List ℕ) (carried : Option FlowSequence)
         → (calling k.id (next time out) x.world).answer ≡ answered (sent packet carried) → count_of (after_act k (on k.id (next time out)) x).watched ≡ count_of x.watched + length packet
     all_counted x r time out packet carried given = by (eqb k.id k.id) refl
       where
@@ -359,7 +359,7 @@ module _ (conf : Configuration) (fits : configuration_taken conf ≡ true) (smal
             ap (λ (y : Counter). y.count) went.counter_is ∙ grows_all c.count c.limit (length packet) (never_free_there x r) went.fits
         by false e = absurd (eqb-false k.id k.id e refl)
 
-    pub all_not_past : (x : Ends) → Reach (Step k j) fresh x → (time : ℕ) (out packet : List ℕ) (carried : Sequence)
+    pub all_not_past : (x : Ends) → Reach (Step k j) fresh x → (time : ℕ) (out packet : List ℕ) (carried : Option FlowSequence)
         → (calling k.id (next time out) x.world).answer ≡ answered (sent packet carried) → NotPast k time out x
     all_not_past x r time out packet carried given =
         record {

@@ -1,11 +1,11 @@
 -- Document 02, §14: both ends joined, each with all its channels and all its calls. What one end hands over may arrive at the other any number of times, in any order,
 -- or never, as long as it is young enough. One channel is watched: beside the ends stand its numbers that never wrap, which no end sees.
-use Rattle.std.specs.Prelude.{ℕ, ◌+◌, ◌≤◌, ◌<◌, max, ◌≡◌, ◌⊎◌, length, take}
+use Rattle.quantity.specs.declared.refusal.Refusal.{Refusal}
+use Rattle.std.specs.Prelude.{ℕ, ◌+◌, ◌≤◌, ◌<◌, max, ◌≡◌, ◌⊎◌, length, take, Option, None, Result, Ok, Err}
 use mathlib.Core.List.{List, [], ◌∷◌, ◌++◌, map, Memᴰ}
 use Rattle.quantity.specs.declared.count.FlowSequence.{FlowSequence}
 use Rattle.quantity.specs.declared.count.ByteCount.{ByteCount}
 use Rattle.wire.specs.Numbers.{Octets}
-use Rattle.meaning.specs.declared.message.Sequence.{Sequence}
 use Rattle.radio_flow.specs.Granting.{allowance_of}
 use Rattle.radio_end_state.specs.declared.answer.Answer.{Answer}
 use Rattle.radio_end_state.specs.declared.channel.Setting.{Setting}
@@ -23,11 +23,11 @@ use Rattle.ips_calls.specs.Replies.{reply_of, handed_out}
 use Rattle.joined.specs.Net.{Heard, unheard, after_hearing, reach_of, Bounded, Told, AGE, MOST-GRANTED}
 
 -- ---- which datagrams the radio's end hands over, the answer to one or unasked: as many first bytes of the output as it answered (`handed_out` has the endpoint's)
-abbrev pub written_by : Answer → (out : List ℕ) → List (List ℕ)
-written_by (Answer.Answered bytes) out = take bytes.0 out ∷ []
-written_by (Answer.Unasked bytes) out = take bytes.0 out ∷ []
-written_by Answer.Quiet out = []
-written_by (Answer.Refused refusal) out = []
+abbrev pub written_by : Result Answer Refusal → (out : List ℕ) → List (List ℕ)
+written_by (Ok (Answer.Answered bytes)) out = take bytes.0 out ∷ []
+written_by (Ok (Answer.Unasked bytes)) out = take bytes.0 out ∷ []
+written_by (Ok Answer.Quiet) out = []
+written_by (Err refusal) out = []
 
 abbrev pub written_in : After → List (List ℕ)
 written_in r = written_by r.answer r.output
@@ -54,7 +54,7 @@ abbrev pub count_of : Watched → ℕ
 count_of x = x.life.counting.count
 
 -- what a datagram states of the watched channel, as a radio's end of that Datalink ID receives it
-abbrev pub stated_in : Terms → List ℕ → Sequence
+abbrev pub stated_in : Terms → List ℕ → Option FlowSequence
 stated_in k datagram = station.stated_of k.id (station.received_in k.datalink datagram)
 
 -- "none arrives after 2^30 bytes or more were counted on its channel since it was sent": a datagram that arrives is one that was handed over, young enough on the
@@ -64,7 +64,7 @@ pub record UpArrives (k : Terms) (x : Watched) (datagram : List ℕ) : Type 0 wh
   pub there : Memᴰ one x.ups
   pub is : datagram ≡ one.datagram
   -- one that states nothing of the channel may be of any age on it
-  pub young : (stated_in k datagram ≡ Sequence.Absent) ⊎ (count_of x < one.at + AGE)
+  pub young : (stated_in k datagram ≡ None) ⊎ (count_of x < one.at + AGE)
   pub octets : Octets datagram
 
 pub record DownArrives (x : Watched) (datagram : List ℕ) : Type 0 where
@@ -179,7 +179,7 @@ module _ (k : Terms) (j : ℕ) where
 -- granted, and each of them is counted
 pub record NotPast (k : Terms) (time : ℕ) (out : List ℕ) (x : Ends) : Type 0 where
   pub packet : List ℕ
-  pub carried : Sequence
+  pub carried : Option FlowSequence
   pub goes : (calling k.id (next time out) x.world).answer ≡ answered (sent packet carried)
   pub below : count_of x.watched + length packet ≤ x.watched.top
   pub counted : count_of (after_act k (on k.id (next time out)) x).watched ≡ count_of x.watched + length packet

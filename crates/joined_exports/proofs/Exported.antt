@@ -1,5 +1,7 @@
 -- Both libraries joined: after two exported starts and any exported calls, whatever the net does, no Next that answers SENT goes past the highest window ever granted.
 -- Assumes nothing.
+use Rattle.quantity.specs.declared.refusal.Refusal.{Refusal}
+use Rattle.std.specs.Prelude.{Result, Ok, Err}
 use Prim.Native.Nat.{ℕ, zero, suc, ◌<◌}
 use mathlib.Core.Path.{◌≡◌, refl, sym, ap, subst, ◌∙◌}
 use mathlib.Core.Bool.{true}
@@ -23,7 +25,6 @@ use Rattle.ips_words_start.specs.Start.{configuration_in}
 use Rattle.endpoint.specs.Lent.{Lent, lent, world_in}
 use Rattle.endpoint.specs.Ran.{RanIn, over, ran}
 use Rattle.endpoint.proofs.Simulating.{performed_in}
-use Rattle.handful.specs.declared.HandfulAnswer.{HandfulAnswer}
 use Rattle.handful.specs.Handful.{Handful}
 use Rattle.handful_laws.specs.Plain.{call_at}
 use Rattle.handful_laws.specs.Acts.{several, each, calls_by, replies_by}
@@ -86,9 +87,9 @@ unfolding tabulate
 tabulated zero f each-one = tt
 tabulated (suc n) f each-one = (each-one 0, tabulated n (λ i. f (suc i)) (λ i. each-one (suc i)))
 
-handful_offers : (h : Handful) (answers answers' : List ℕ) (a : HandfulAnswer) → AllOffers (calls_by (several h answers) (each a answers'))
-handful_offers h answers answers' HandfulAnswer.Offered = tabulated (length h.channels) (call_at h) (λ i. tt)
-handful_offers h answers answers' (HandfulAnswer.Refused refusal) = tt
+handful_offers : (h : Handful) (answers answers' : List ℕ) (a : Result (Unit {0}) Refusal) → AllOffers (calls_by (several h answers) (each a answers'))
+handful_offers h answers answers' (Ok tt) = tabulated (length h.channels) (call_at h) (λ i. tt)
+handful_offers h answers answers' (Err refusal) = tt
 
 module _ (k : Terms) (j : ℕ) (asked : Asking) (from : Lents) where
   -- ---- a handful is the steps of its offers

@@ -1,18 +1,16 @@
 -- A turn by what came, and what holds between two turns. Assumes nothing.
 use mathlib.Core.Path.{◌≡◌, refl, ap, ◌∙◌}
 use mathlib.Core.List.{List}
-use Prim.Native.Nat.{ℕ, suc, ◌-◌, ◌≤◌, ◌<◌}
-use native.Mathlib.Omega.{arith}
+use Prim.Native.Nat.{ℕ, suc, ◌-◌}
 use lib.ListN.{length, take, drop, replicate}
 use Rattle.octets.specs.Bytes.{slice}
 use Rattle.quantity.specs.declared.count.DatalinkId.{DatalinkId}
 use Rattle.lines.proofs.Laws.{slice_is}
 use Rattle.records.specs.declared.Input.{Input}
 use Rattle.records.specs.declared.Came.{Came}
-use Rattle.records.specs.Unread.{start_of}
 use Rattle.records.specs.Files.{Report}
 use Rattle.records.specs.Reading.{MOST-TURNS, Comes}
-use Rattle.records.proofs.Pieces.{came_inside, Going, Gone, going_start, going_on, going_end, going_refused, going_tired}
+use Rattle.records.proofs.Pieces.{came_inside, Going, Gone, going_on, going_end, going_refused, going_tired}
 use Rattle.ethernet.specs.declared.Ports.{Ports}
 use Rattle.conduct.specs.declared.verdict.Seen.{Seen}
 use Rattle.conduct.specs.declared.verdict.Tally.{Tally}
@@ -50,15 +48,11 @@ module _ (ports : Ports) (id : DatalinkId) where
   abbrev pub judging : Made → List Report → List ℕ × Tally
   judging made reports = (judged_all ports id made.0 reports made.1, tallied_all ports id reports made.2)
 
-  pub record Serving (lent words₀ buffer words : List ℕ) (input : Input) (tally : Tally) (number : ℕ) : Type 0 where
-    pub going : Going judging lent (1, words₀, no_tally) number buffer input (suc number, words, tally)
-    pub words_size : length words ≡ length words₀
-    pub most : number ≤ MOST-TURNS
+  -- what holds between two turns, after so many of them
+  abbrev pub Serving : (lent words₀ buffer words : List ℕ) → Input → Tally → (number : ℕ) → Type 0
+  Serving lent words₀ buffer words input tally number = Going judging lent (1, words₀, no_tally) number buffer input (suc number, words, tally)
 
 module _ {ports : Ports} {id : DatalinkId} where
-  pub serving_start : (lent words : List ℕ) → Serving ports id lent words lent words start_of no_tally 0
-  serving_start lent words = record { going = going_start (judging ports id) lent (1, words, no_tally); words_size = refl; most = omega arith }
-
   served : {lent words₀ words : List ℕ} {tally : Tally} → Gone (judging ports id) lent (1, words₀, no_tally) (words, tally) → Served ports id lent words₀ tally words
   served gone =
       record {
@@ -69,9 +63,9 @@ module _ {ports : Ports} {id : DatalinkId} where
       }
 
   module _ {lent words₀ buffer words : List ℕ} {input : Input} {tally : Tally} {number : ℕ} (k : Serving ports id lent words₀ buffer words input tally number) where
-    pub serving_tired : MOST-TURNS ≤ number → Served ports id lent words₀ tally words
+    pub serving_tired : number ≡ MOST-TURNS → Served ports id lent words₀ tally words
     unfolding judged_all tallied_all
-    serving_tired e = served (going_tired (judging ports id) k.going (omega (arith, e, k.most)))
+    serving_tired e = served (going_tired (judging ports id) k e)
 
     module _ {number' : ℕ} {left : Left} {buffer' words' : List ℕ} (n : number' ≡ suc number) (t : TurnedTo ports id number' buffer input tally words left buffer' words') where
       pub serving_end : left.came ≡ Came.End → Served ports id lent words₀ left.tally words'
@@ -80,7 +74,7 @@ module _ {ports : Ports} {id : DatalinkId} where
           let comes : Comes buffer input Came.End buffer' = rw (← e) t.comes in
           let w : words' ≡ words = t.words_are ∙ rw e in
           let s : left.tally ≡ tally = t.tally_is ∙ rw e in
-          rw (w, s) (served (going_end (judging ports id) k.going comes))
+          rw (w, s) (served (going_end (judging ports id) k comes))
 
       pub serving_refused : {refusal : ℕ} → left.came ≡ Came.Refused refusal → Served ports id lent words₀ left.tally words'
       unfolding judged_all tallied_all
@@ -88,18 +82,18 @@ module _ {ports : Ports} {id : DatalinkId} where
           let comes : Comes buffer input (Came.Refused refusal) buffer' = rw (← e) t.comes in
           let w : words' ≡ undecided words = t.words_are ∙ rw e in
           let s : left.tally ≡ tally = t.tally_is ∙ rw e in
-          rw (w, s) (served (going_refused (judging ports id) k.going comes))
+          rw (w, s) (served (going_refused (judging ports id) k comes))
 
-      pub serving_on : {from to original : ℕ} {rest : Input} → number < MOST-TURNS → left.came ≡ Came.Record from to original rest → length buffer' ≡ length buffer → length words' ≡ length words
+      pub serving_on : {from to original : ℕ} {rest : Input} → left.came ≡ Came.Record from to original rest → length buffer' ≡ length buffer
           → Serving ports id lent words₀ buffer' words' rest left.tally number'
       unfolding judged_all tallied_all
-      serving_on {from} {to} {original} {rest} m e b s =
+      serving_on {from} {to} {original} {rest} e b =
           let comes : Comes buffer input (Came.Record from to original rest) buffer' = rw (← e) t.comes in
           let w : words' ≡ judged_by number' (outcome_of ports id original (slice from to buffer')) words = t.words_are ∙ rw e in
           let c : left.tally ≡ tallied_by tally (seen_of ports id original (slice from to buffer')) = t.tally_is ∙ rw e in
           let on : Going (judging ports id) lent (1, words₀, no_tally) (suc number) buffer' rest (suc number', words', left.tally) =
-          going_on (judging ports id) k.going comes b (λ more. rw (w, c, n) refl) in
-          record { going = rw n (rw n at on); words_size = s ∙ k.words_size; most = omega (arith, n, m) }
+          going_on (judging ports id) k comes b (λ more. rw (w, c, n) refl) in
+          rw n (rw n at on)
 
   -- the turns from zeros on
   pub judged_by_lem : {lent words₀ words : List ℕ} {n : ℕ} {tally : Tally} → words₀ ≡ replicate n 0 → Served ports id lent words₀ tally words → Judged ports id lent n words

@@ -31,6 +31,7 @@ fn put_finding(out: &mut [u8], at: usize, finding: Finding) -> usize {
 }
 
 // Says something on standard error, where nothing is left to say of what can't be written there.
+// Each program has its own `complain` and `print`: `Print` promises nothing of what it writes, and a public function promises its whole outcome.
 fn complain(complaints: &impl Print, text: &[u8]) {
     let _said = complaints.write_all(text).is_ok();
 }
@@ -65,18 +66,11 @@ fn say_findings(
     out: &mut [u8],
     words: &[u64],
 ) -> bool {
-    let mut channel: usize = 0;
-    while channel < CHANNEL_IDS {
-        if !say_finding(
-            printer,
-            complaints,
-            out,
-            channel as u8,
-            conduct::finding(words, channel as u8),
-        ) {
+    for channel in 0..CHANNEL_IDS as u8 {
+        let finding = conduct::finding(words, channel);
+        if !say_finding(printer, complaints, out, channel, finding) {
             return false;
         }
-        channel += 1;
     }
     true
 }
@@ -89,6 +83,7 @@ struct Left {
 }
 
 // One turn: the next record is judged by its number, and counted; "a capture .. refused with 25 or 26, is reported as undecided for all channels".
+#[tactic(auto, using(records::proofs::Pieces::came_inside))]
 fn turn<R: Read>(
     reader: &mut R,
     buffer: &mut [u8],
@@ -138,9 +133,8 @@ fn serve<R: Read>(
         judged: 0,
         skipped: 0,
     };
-    let mut number: u64 = 0;
-    while number < u64::MAX {
-        number += 1;
+    for before in 0..u64::MAX {
+        let number = before + 1;
         let left = turn(reader, buffer, words, input, tally, number, ports, id);
         let came = left.came;
         tally = left.tally;
@@ -165,6 +159,7 @@ fn say_tally(complaints: &impl Print, out: &mut [u8], tally: Tally) {
     }
 }
 
+#[tactic(auto, using(crate::proofs::Serving::judged_by_lem))]
 fn judge<R: Read, O: Print, E: Print>(
     reader: &mut R,
     printer: &O,
@@ -182,20 +177,6 @@ fn judge<R: Read, O: Print, E: Print>(
     if say_findings(printer, complaints, out, words) {
         say_tally(complaints, out, tally);
     }
-}
-
-// An array that is lent as an array asks no proof of its length.
-fn hold(
-    reader: &mut impl Read,
-    printer: &impl Print,
-    complaints: &impl Print,
-    buffer: &mut [u8; ROOM],
-    words: &mut [u64; WORDS],
-    out: &mut [u8; LINE],
-    ports: Ports,
-    id: DatalinkId,
-) {
-    judge(reader, printer, complaints, buffer, words, out, ports, id);
 }
 
 fn main(rt: HostRuntime) {
@@ -216,7 +197,7 @@ fn main(rt: HostRuntime) {
     let mut buffer = [0u8; ROOM];
     let mut words = [0u64; WORDS];
     let mut out = [0u8; LINE];
-    hold(
+    judge(
         &mut reader,
         &printer,
         &complaints,

@@ -1,4 +1,9 @@
 -- What is put into words is read out of them again. Assumes nothing.
+use Rattle.std.specs.Prelude.{Option, Some, None}
+use Rattle.quantity.specs.declared.count.DatalinkId.{DatalinkId}
+use Rattle.quantity.specs.declared.count.LinkInstanceId.{LinkInstanceId}
+use Rattle.quantity.specs.declared.count.FlowSequence.{FlowSequence}
+use Rattle.meaning.specs.declared.message.ContextBytes.{ContextBytes}
 use Prim.Native.Nat.{ℕ, zero, suc, ◌+◌, ◌*◌, ◌<◌}
 use mathlib.Core.Path.{◌≡◌, refl, sym, ap, ◌∙◌}
 use mathlib.Core.Logic.{⊎_elim}
@@ -10,69 +15,60 @@ use lib.Seq.{ext_get_or, get_or-append-add}
 use Rattle.facts.specs.Tables.{tabulate}
 use Rattle.facts.proofs.Tables.{length_tabulate, get_d_tabulate}
 use Rattle.quantity.specs.Limits.{CHANNEL-IDS}
-use Rattle.meaning.specs.declared.message.Datalink.{Datalink}
-use Rattle.meaning.specs.declared.message.Instance.{Instance}
-use Rattle.meaning.specs.declared.message.Context.{Context}
-use Rattle.meaning.specs.declared.message.Status.{Status}
-use Rattle.meaning.specs.declared.message.Sequence.{Sequence}
 use Rattle.meaning.specs.declared.message.Window.{Window}
-use Rattle.meaning.specs.declared.message.Counted.{Counted}
-use Rattle.meaning.specs.declared.message.Channel.{Channel}
-use Rattle.meaning.specs.declared.message.Expiration.{Expiration}
 use Rattle.meaning.specs.declared.message.Control.{Control}
 use Rattle.meaning.specs.declared.message.Data.{Data}
-use Rattle.meaning.specs.Cells.{no_status, no_sequence, no_window}
 use Rattle.lent_messages.specs.Layout as layout
 use Rattle.lent_messages.specs.Layout.{CONTROL-HEAD, CHANNEL-WORDS, CONTROL-WORDS}
 use Rattle.lent_messages.specs.Stated.{datalink_stated, instance_stated, context_stated, status_stated, sequence_stated, window_stated, counted_stated, channel_stated, expiration_stated, datalink_of, instance_of, context_of, status_of, sequence_of, window_of, counted_of, channel_of, expiration_of}
 use Rattle.lent_messages.specs.Words.{word, channel_start, status_at, sequence_at, window_at, control_of, head_words, words_at, joined, control_words, data_of, data_words}
 
 -- ---- one thing that may be stated
-datalink_back : (stated : Datalink) → datalink_of (datalink_stated stated).tag (datalink_stated stated).first ≡ stated
+datalink_back : (stated : Option DatalinkId) → datalink_of (datalink_stated stated).tag (datalink_stated stated).first ≡ stated
 unfolding datalink_of
-datalink_back Datalink.Absent = refl
-datalink_back (Datalink.Given id) = refl
+datalink_back None = refl
+datalink_back (Some id) = refl
 
-instance_back : (stated : Instance) → instance_of (instance_stated stated).tag (instance_stated stated).first (instance_stated stated).second ≡ stated
+instance_back : (stated : Option (LinkInstanceId × ℕ)) → instance_of (instance_stated stated).tag (instance_stated stated).first (instance_stated stated).second ≡ stated
 unfolding instance_of
-instance_back Instance.Absent = refl
-instance_back (Instance.Given id size) = refl
+instance_back None = refl
+instance_back (Some (id, size)) = refl
 
-context_back : (stated : Context) → context_of (context_stated stated).tag (context_stated stated).first (context_stated stated).second ≡ stated
+context_back : (stated : Option (ContextBytes × ℕ)) → context_of (context_stated stated).tag (context_stated stated).first (context_stated stated).second ≡ stated
 unfolding context_of
-context_back Context.Absent = refl
-context_back (Context.Given bytes size) = refl
+context_back None = refl
+context_back (Some (bytes, size)) = refl
 
-status_back : (stated : Status) → status_of (status_stated stated).tag (status_stated stated).first ≡ stated
+status_back : (stated : Option ℕ) → status_of (status_stated stated).tag (status_stated stated).first ≡ stated
 unfolding status_of
-status_back Status.Absent = refl
-status_back (Status.Given value) = refl
+status_back None = refl
+status_back (Some value) = refl
 
-sequence_back : (stated : Sequence) → sequence_of (sequence_stated stated).tag (sequence_stated stated).first ≡ stated
+sequence_back : (stated : Option FlowSequence) → sequence_of (sequence_stated stated).tag (sequence_stated stated).first ≡ stated
 unfolding sequence_of
-sequence_back Sequence.Absent = refl
-sequence_back (Sequence.Given value) = refl
+sequence_back None = refl
+sequence_back (Some value) = refl
 
-window_back : (stated : Window) → window_of (window_stated stated).tag (window_stated stated).first ≡ stated
+window_back : (stated : Option Window) → window_of (window_stated stated).tag (window_stated stated).first ≡ stated
 unfolding window_of
-window_back Window.Absent = refl
-window_back Window.Empty = refl
-window_back (Window.Given value) = refl
+window_back None = refl
+window_back (Some Window.Empty) = refl
+window_back (Some (Window.Given value)) = refl
 
-counted_back : (stated : Counted) → counted_of (counted_stated stated).tag (counted_stated stated).first (counted_stated stated).second ≡ stated
+counted_back : (stated : Option (ℕ × FlowSequence)) → counted_of (counted_stated stated).tag (counted_stated stated).first (counted_stated stated).second ≡ stated
 unfolding counted_of
-counted_back Counted.Absent = refl
-counted_back (Counted.Given id value) = refl
+counted_back None = refl
+counted_back (Some (id, value)) = refl
 
-channel_back : (stated : Channel) → channel_of (channel_stated stated).tag (channel_stated stated).first ≡ stated
+channel_back : (stated : Option ℕ) → channel_of (channel_stated stated).tag (channel_stated stated).first ≡ stated
 unfolding channel_of
-channel_back Channel.Absent = refl
-channel_back (Channel.Given id) = refl
+channel_back None = refl
+channel_back (Some id) = refl
 
-expiration_back : (stated : Expiration) → expiration_of (expiration_stated stated).tag (expiration_stated stated).first ≡ stated
+expiration_back : (stated : Option ℕ) → expiration_of (expiration_stated stated).tag (expiration_stated stated).first ≡ stated
 unfolding expiration_of
-expiration_back Expiration.Absent = refl
-expiration_back (Expiration.Given time) = refl
+expiration_back None = refl
+expiration_back (Some time) = refl
 
 -- ---- words one behind another, as many for each
 module _ (words_of : ℕ → List ℕ) (six : (id : ℕ) → length (words_of id) ≡ CHANNEL-WORDS) where
@@ -116,23 +112,23 @@ module _ (m : Control) where
       let place : channel_start id + k ≡ CONTROL-HEAD + (CHANNEL-WORDS * id + k) = omega arith in
       rw place (get_or-append-add (head_words m.datalink m.instance m.context) (joined stated CHANNEL-IDS) (CHANNEL-WORDS * id + k) 0 ∙ joined_at stated six CHANNEL-IDS id k h less)
 
-  status_cell : (id : ℕ) → id < CHANNEL-IDS → status_at (control_words m) (channel_start id) ≡ get_or m.statuses id no_status
+  status_cell : (id : ℕ) → id < CHANNEL-IDS → status_at (control_words m) (channel_start id) ≡ get_or m.statuses id None
   unfolding status_at words_at
   status_cell id h =
       rw (at_channel_lem id layout.STATUS-TAG h (omega arith), at_channel_lem id layout.STATUS-VALUE h (omega arith))
-      (ap (λ (stated : Status). record { status = stated }) (status_back (get_or m.statuses id no_status).status))
+      (ap (λ (stated : Option ℕ). stated) (status_back (get_or m.statuses id None)))
 
-  sequence_cell : (id : ℕ) → id < CHANNEL-IDS → sequence_at (control_words m) (channel_start id) ≡ get_or m.sequences id no_sequence
+  sequence_cell : (id : ℕ) → id < CHANNEL-IDS → sequence_at (control_words m) (channel_start id) ≡ get_or m.sequences id None
   unfolding sequence_at words_at
   sequence_cell id h =
       rw (at_channel_lem id layout.SEQUENCE-TAG h (omega arith), at_channel_lem id layout.SEQUENCE-VALUE h (omega arith))
-      (ap (λ (stated : Sequence). record { sequence = stated }) (sequence_back (get_or m.sequences id no_sequence).sequence))
+      (ap (λ (stated : Option FlowSequence). stated) (sequence_back (get_or m.sequences id None)))
 
-  window_cell : (id : ℕ) → id < CHANNEL-IDS → window_at (control_words m) (channel_start id) ≡ get_or m.windows id no_window
+  window_cell : (id : ℕ) → id < CHANNEL-IDS → window_at (control_words m) (channel_start id) ≡ get_or m.windows id None
   unfolding window_at words_at
   window_cell id h =
       rw (at_channel_lem id layout.WINDOW-TAG h (omega arith), at_channel_lem id layout.WINDOW-VALUE h (omega arith))
-      (ap (λ (stated : Window). record { window = stated }) (window_back (get_or m.windows id no_window).window))
+      (ap (λ (stated : Option Window). stated) (window_back (get_or m.windows id None)))
 
   head_datalink : datalink_of (word (control_words m) layout.DATALINK-TAG) (word (control_words m) layout.DATALINK-VALUE) ≡ m.datalink
   unfolding control_words
@@ -150,9 +146,9 @@ module _ (m : Control) where
   pub control_back : length m.statuses ≡ CHANNEL-IDS → length m.sequences ≡ CHANNEL-IDS → length m.windows ≡ CHANNEL-IDS → control_of (control_words m) ≡ m
   unfolding control_of
   control_back a b c =
-      let statuses = table_back no_status CHANNEL-IDS (λ id. status_at (control_words m) (channel_start id)) m.statuses a status_cell in
-      let sequences = table_back no_sequence CHANNEL-IDS (λ id. sequence_at (control_words m) (channel_start id)) m.sequences b sequence_cell in
-      let windows = table_back no_window CHANNEL-IDS (λ id. window_at (control_words m) (channel_start id)) m.windows c window_cell in
+      let statuses = table_back None CHANNEL-IDS (λ id. status_at (control_words m) (channel_start id)) m.statuses a status_cell in
+      let sequences = table_back None CHANNEL-IDS (λ id. sequence_at (control_words m) (channel_start id)) m.sequences b sequence_cell in
+      let windows = table_back None CHANNEL-IDS (λ id. window_at (control_words m) (channel_start id)) m.windows c window_cell in
       rw (statuses, sequences, windows, head_datalink, head_instance, head_context)
 
 -- ---- a data message

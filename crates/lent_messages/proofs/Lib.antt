@@ -1,3 +1,4 @@
+pub mod Back
+pub mod Ranges
 pub mod Saving
 pub mod Saying
-pub mod Back

@@ -1,6 +1,6 @@
 -- What the writes of `control` and `data` leave. Assumes nothing.
 use Prim.Native.Nat.{ℕ, suc, ◌+◌, ◌≤◌, ◌<◌}
-use mathlib.Core.Path.{◌≡◌, refl, sym, ap, ◌∙◌}
+use mathlib.Core.Path.{◌≡◌, sym, ap, ◌∙◌}
 use mathlib.Core.List.{List, [], ◌∷◌, ◌++◌, append_assoc, append-nil}
 use native.Mathlib.Numerals.{add-one}
 use native.Mathlib.Omega.{arith}
@@ -30,37 +30,34 @@ channel_set w from a b c d e f long =
     rw (first, second, third, fourth, fifth, sixth) (sets-eq (a ∷ b ∷ c ∷ d ∷ e ∷ f ∷ []) w from (omega arith) ∙ append_assoc (take from w) (a ∷ b ∷ c ∷ d ∷ e ∷ f ∷ []) (drop (from + CHANNEL-WORDS) w))
 
 -- where the loop over the Channel IDs stands: the words of those passed stand behind the first words
-pub record Going (words_of : ℕ → List ℕ) (head w : List ℕ) (from id : ℕ) : Type 0 where
-  pub most : id ≤ CHANNEL-IDS
-  pub place : from ≡ channel_start id
+pub record Going (words_of : ℕ → List ℕ) (head w : List ℕ) (id : ℕ) : Type 0 where
   pub long : length w ≡ CONTROL-WORDS
-  pub saved : take from w ≡ head ++ joined words_of id
+  pub saved : take (channel_start id) w ≡ head ++ joined words_of id
 
 module _ (words_of : ℕ → List ℕ) (head : List ℕ) where
-  pub going_start : (w : List ℕ) → length w ≡ CONTROL-WORDS → head ≡ take CONTROL-HEAD w → Going words_of head w CONTROL-HEAD 0
+  pub going_start : (w : List ℕ) → length w ≡ CONTROL-WORDS → head ≡ take CONTROL-HEAD w → Going words_of head w 0
   unfolding joined
-  going_start w long same = record { most = omega arith; place = refl; long = long; saved = rw same (sym (append-nil (take CONTROL-HEAD w))) }
+  going_start w long same = record { long = long; saved = rw same (sym (append-nil (take CONTROL-HEAD w))) }
 
-  pub going_on : (w w' : List ℕ) (from id : ℕ) → Going words_of head w from id → id < CHANNEL-IDS → length (words_of id) ≡ CHANNEL-WORDS → length w' ≡ length w
-      → w' ≡ take from w ++ (words_of id ++ drop (from + CHANNEL-WORDS) w) → Going words_of head w' (from + CHANNEL-WORDS) (id + 1)
+  pub going_on : (w w' : List ℕ) (from id : ℕ) → Going words_of head w id → id < CHANNEL-IDS → from ≡ channel_start id → length (words_of id) ≡ CHANNEL-WORDS → length w' ≡ length w
+      → w' ≡ take from w ++ (words_of id ++ drop (from + CHANNEL-WORDS) w) → Going words_of head w' (id + 1)
   unfolding joined
-  going_on w w' from id g more six same e =
-      let taken : length (take from w) ≡ from = simp length-take (omega (arith, g.place, g.long)) in
+  going_on w w' from id g more place six same e =
+      let taken : length (take from w) ≡ from = simp length-take (omega (arith, g.long)) in
       let reached : length (take from w ++ words_of id) ≡ from + CHANNEL-WORDS = simp length-append (omega arith) in
+      let next : channel_start (id + 1) ≡ from + CHANNEL-WORDS = omega arith in
       record {
-        most = omega arith;
-        place = omega (arith, g.place);
         long = same ∙ g.long;
         saved =
-            rw (e, sym (append_assoc (take from w) (words_of id) (drop (from + CHANNEL-WORDS) w)), take_at (take from w ++ words_of id) (drop (from + CHANNEL-WORDS) w) (from + CHANNEL-WORDS) reached, g.saved, add-one id)
+            rw (next, e, sym (append_assoc (take from w) (words_of id) (drop (from + CHANNEL-WORDS) w)), take_at (take from w ++ words_of id) (drop (from + CHANNEL-WORDS) w) (from + CHANNEL-WORDS) reached, place, g.saved, add-one id)
             (append_assoc head (joined words_of id) (words_of id));
       }
 
-  pub going_end : (w : List ℕ) (from id : ℕ) → Going words_of head w from id → CHANNEL-IDS ≤ id → w ≡ head ++ joined words_of CHANNEL-IDS
-  going_end w from id g done =
-      let last : id ≡ CHANNEL-IDS = omega (arith, g.most) in
-      let whole : length w ≤ from = omega (arith, g.long, g.place) in
-      sym (take_all from w whole) ∙ g.saved ∙ ap (λ (n : ℕ). head ++ joined words_of n) last
+  pub going_end : (w : List ℕ) (id : ℕ) → Going words_of head w id → id ≤ CHANNEL-IDS → CHANNEL-IDS ≤ id → w ≡ head ++ joined words_of CHANNEL-IDS
+  going_end w id g most done =
+      let last : id ≡ CHANNEL-IDS = omega arith in
+      let whole : length w ≤ channel_start id = omega (arith, g.long) in
+      sym (take_all (channel_start id) w whole) ∙ g.saved ∙ ap (λ (n : ℕ). head ++ joined words_of n) last
 
 pub whole_saved : (m : Control) (w w' w'' : List ℕ) → w' ≡ head_words m.datalink m.instance m.context ++ drop CONTROL-HEAD w
     → w'' ≡ take CONTROL-HEAD w' ++ joined (words_at m.statuses m.sequences m.windows) CHANNEL-IDS → w'' ≡ control_words m

@@ -1,19 +1,14 @@
 -- The meaning of a message in words: what is stated, as the words say it, and the words that say it.
-use Rattle.std.specs.Prelude.{ℕ, zero, suc, ◌+◌, ◌*◌, ◌≤◌, ◌<◌, ◌≡◌, Bool, true, ◌&&◌, List, [], ◌∷◌, ◌++◌, length, get_or, eqb, leb}
+use Rattle.quantity.specs.declared.count.DatalinkId.{DatalinkId}
+use Rattle.quantity.specs.declared.count.LinkInstanceId.{LinkInstanceId}
+use Rattle.quantity.specs.declared.count.FlowSequence.{FlowSequence}
+use Rattle.meaning.specs.declared.message.ContextBytes.{ContextBytes}
+use Rattle.std.specs.Prelude.{ℕ, zero, suc, ◌+◌, ◌*◌, ◌≤◌, ◌<◌, ◌≡◌, Bool, true, ◌&&◌, List, [], ◌∷◌, ◌++◌, length, get_or, eqb, leb, Option, None}
 use Rattle.facts.specs.Tables.{tabulate}
 use Rattle.quantity.specs.Limits.{CHANNEL-IDS}
-use Rattle.meaning.specs.declared.message.Datalink.{Datalink}
-use Rattle.meaning.specs.declared.message.Instance.{Instance}
-use Rattle.meaning.specs.declared.message.Context.{Context}
-use Rattle.meaning.specs.declared.message.Status.{Status}
-use Rattle.meaning.specs.declared.message.Sequence.{Sequence}
 use Rattle.meaning.specs.declared.message.Window.{Window}
-use Rattle.meaning.specs.declared.message.StatusCell.{StatusCell}
-use Rattle.meaning.specs.declared.message.SequenceCell.{SequenceCell}
-use Rattle.meaning.specs.declared.message.WindowCell.{WindowCell}
 use Rattle.meaning.specs.declared.message.Control.{Control}
 use Rattle.meaning.specs.declared.message.Data.{Data}
-use Rattle.meaning.specs.Cells.{no_status, no_sequence, no_window}
 use Rattle.lent_messages.specs.Layout as layout
 use Rattle.lent_messages.specs.Layout.{GIVEN, FIELD-GIVEN, CONTROL-HEAD, CHANNEL-WORDS, CONTROL-WORDS, DATA-WORDS, BYTE, HALF}
 use Rattle.lent_messages.specs.Stated.{fits, datalink_stated, instance_stated, context_stated, status_stated, sequence_stated, window_stated, counted_stated, channel_stated, expiration_stated, datalink_of, instance_of, context_of, status_of, sequence_of, window_of, counted_of, channel_of, expiration_of}
@@ -26,14 +21,14 @@ abbrev pub channel_start : ℕ → ℕ
 channel_start id = CONTROL-HEAD + CHANNEL-WORDS * id
 
 -- ---- a control message from its words
-unfoldable pub status_at : List ℕ → ℕ → StatusCell
-status_at words from = record { status = status_of (word words (from + layout.STATUS-TAG)) (word words (from + layout.STATUS-VALUE)) }
+unfoldable pub status_at : List ℕ → ℕ → Option ℕ
+status_at words from = status_of (word words (from + layout.STATUS-TAG)) (word words (from + layout.STATUS-VALUE))
 
-unfoldable pub sequence_at : List ℕ → ℕ → SequenceCell
-sequence_at words from = record { sequence = sequence_of (word words (from + layout.SEQUENCE-TAG)) (word words (from + layout.SEQUENCE-VALUE)) }
+unfoldable pub sequence_at : List ℕ → ℕ → Option FlowSequence
+sequence_at words from = sequence_of (word words (from + layout.SEQUENCE-TAG)) (word words (from + layout.SEQUENCE-VALUE))
 
-unfoldable pub window_at : List ℕ → ℕ → WindowCell
-window_at words from = record { window = window_of (word words (from + layout.WINDOW-TAG)) (word words (from + layout.WINDOW-VALUE)) }
+unfoldable pub window_at : List ℕ → ℕ → Option Window
+window_at words from = window_of (word words (from + layout.WINDOW-TAG)) (word words (from + layout.WINDOW-VALUE))
 
 unfoldable pub control_of : List ℕ → Control
 control_of words = record {
@@ -46,19 +41,19 @@ control_of words = record {
 }
 
 -- ---- the words of a control message
-abbrev pub head_words : Datalink → Instance → Context → List ℕ
+abbrev pub head_words : Option DatalinkId → Option (LinkInstanceId × ℕ) → Option (ContextBytes × ℕ) → List ℕ
 head_words datalink instance context =
     (datalink_stated datalink).tag ∷ (datalink_stated datalink).first ∷ (instance_stated instance).tag ∷ (instance_stated instance).first ∷ (instance_stated instance).second
     ∷ (context_stated context).tag ∷ (context_stated context).first ∷ (context_stated context).second ∷ []
 
-abbrev pub channel_words : Status → Sequence → Window → List ℕ
+abbrev pub channel_words : Option ℕ → Option FlowSequence → Option Window → List ℕ
 channel_words status sequence window =
     (status_stated status).tag ∷ (status_stated status).first ∷ (sequence_stated sequence).tag ∷ (sequence_stated sequence).first ∷ (window_stated window).tag ∷ (window_stated window).first ∷ []
 
 -- what three tables state of a Channel ID
-unfoldable pub words_at : List StatusCell → List SequenceCell → List WindowCell → ℕ → List ℕ
+unfoldable pub words_at : List (Option ℕ) → List (Option FlowSequence) → List (Option Window) → ℕ → List ℕ
 words_at statuses sequences windows id =
-    channel_words (get_or statuses id no_status).status (get_or sequences id no_sequence).sequence (get_or windows id no_window).window
+    channel_words (get_or statuses id None) (get_or sequences id None) (get_or windows id None)
 
 -- the words of the first Channel IDs, so many, one behind another
 unfoldable pub joined : (ℕ → List ℕ) → ℕ → List ℕ

@@ -1,8 +1,8 @@
 // A control message in words.
-ghost use Rattle.std.specs.Prelude.{◌≡◌, ◌++◌, ◌+◌, ◌≤◌, length, take, drop};
+ghost use Rattle.std.specs.Prelude.{◌≡◌, ◌++◌, ◌+◌, ◌≤◌, ◌<◌, length, take, drop};
 ghost use Rattle.quantity.specs.Limits.{CHANNEL-IDS};
 ghost use Rattle.lent_messages.specs.Layout.{CONTROL-HEAD, CHANNEL-WORDS, CONTROL-WORDS};
-ghost use Rattle.lent_messages.specs.Words.{head_words, channel_words, words_at, joined, control_words, status_at, sequence_at, window_at, control_of, head_spelled, channel_spelled, channels_spelled, ChannelSays, ControlSays, control_spelled};
+ghost use Rattle.lent_messages.specs.Words.{head_words, channel_words, channel_start, words_at, joined, control_words, status_at, sequence_at, window_at, control_of, head_spelled, channel_spelled, channels_spelled, ChannelSays, ControlSays, control_spelled};
 
 use crate::layout::{
     BYTE, CHANNEL_WORDS, CONTEXT_LENGTH, CONTEXT_TAG, CONTEXT_VALUE, CONTROL_HEAD, CONTROL_WORDS,
@@ -11,17 +11,21 @@ use crate::layout::{
     WINDOW_VALUE,
 };
 use crate::stated;
-use meaning::message::{
-    Context, Control, Datalink, Instance, Sequence, SequenceCell, Status, StatusCell, Window,
-    WindowCell,
-};
+use meaning::message::{ContextBytes, Control, Window};
+use quantity::count::{DatalinkId, FlowSequence, LinkInstanceId};
 use quantity::limit::CHANNEL_IDS;
+use std::array;
 
-fn save_head(words: &mut [u64], datalink: Datalink, instance: Instance, context: Context)
+fn save_head(
+    words: &mut [u64],
+    datalink: Option<DatalinkId>,
+    instance: Option<(LinkInstanceId, usize)>,
+    context: Option<(ContextBytes, usize)>,
+)
     requires { CONTROL-HEAD ≤ length words.old }
     ensures { words.new ≡ head_words datalink instance context ++ drop CONTROL-HEAD words.old }
 {
-    let link = stated::datalink(datalink);
+    let link = stated::one(datalink);
     let named = stated::instance(instance);
     let told = stated::context(context);
     words[DATALINK_TAG] = link.tag;
@@ -34,13 +38,27 @@ fn save_head(words: &mut [u64], datalink: Datalink, instance: Instance, context:
     words[CONTEXT_LENGTH] = told.second;
 }
 
+// Where the words of a Channel ID start.
+fn channel_start(id: usize) -> usize
+    requires { id < CHANNEL-IDS }
+    ensures { result ≡ channel_start id }
+{
+    CONTROL_HEAD + CHANNEL_WORDS * id
+}
+
 // The words of one Channel ID, from a place on.
-fn save_channel(words: &mut [u64], from: usize, status: Status, sequence: Sequence, window: Window)
+fn save_channel(
+    words: &mut [u64],
+    from: usize,
+    status: Option<u8>,
+    sequence: Option<FlowSequence>,
+    window: Option<Window>,
+)
     requires { from + CHANNEL-WORDS ≤ length words.old }
     ensures { words.new ≡ take from words.old ++ (channel_words status sequence window ++ drop (from + CHANNEL-WORDS) words.old) }
 {
-    let state = stated::status(status);
-    let counted = stated::sequence(sequence);
+    let state = stated::one(status);
+    let counted = stated::one(sequence);
     let opened = stated::window(window);
     words[from + STATUS_TAG] = state.tag;
     words[from + STATUS_VALUE] = state.first;
@@ -52,25 +70,21 @@ fn save_channel(words: &mut [u64], from: usize, status: Status, sequence: Sequen
 
 fn save_channels(
     words: &mut [u64],
-    statuses: [StatusCell; CHANNEL_IDS],
-    sequences: [SequenceCell; CHANNEL_IDS],
-    windows: [WindowCell; CHANNEL_IDS],
+    statuses: [Option<u8>; CHANNEL_IDS],
+    sequences: [Option<FlowSequence>; CHANNEL_IDS],
+    windows: [Option<Window>; CHANNEL_IDS],
 )
     requires { length words.old ≡ CONTROL-WORDS }
     ensures { words.new ≡ take CONTROL-HEAD words.old ++ joined (words_at statuses sequences windows) CHANNEL-IDS }
 {
-    let mut from = CONTROL_HEAD;
-    let mut id = 0;
-    while id < CHANNEL_IDS {
-        let state = statuses[id];
-        let counted = sequences[id];
-        let opened = windows[id];
-        let status = state.status;
-        let sequence = counted.sequence;
-        let window = opened.window;
-        save_channel(words, from, status, sequence, window);
-        from += CHANNEL_WORDS;
-        id += 1;
+    for id in 0..CHANNEL_IDS {
+        save_channel(
+            words,
+            channel_start(id),
+            statuses[id],
+            sequences[id],
+            windows[id],
+        );
     }
 }
 
@@ -98,10 +112,12 @@ fn head_spelled(words: &[u64]) -> bool
         && (words[INSTANCE_TAG] <= GIVEN && words[CONTEXT_TAG] <= GIVEN)
 }
 
-fn channel_spelled(words: &[u64], from: usize) -> bool
-    requires { from + CHANNEL-WORDS ≤ length words.now }
-    ensures { result ≡ channel_spelled words.now from }
+fn channel_spelled(words: &[u64], id: usize) -> bool
+    requires below { id < CHANNEL-IDS }
+    requires whole { length words.now ≡ CONTROL-WORDS }
+    ensures { result ≡ channel_spelled words.now (channel_start id) }
 {
+    let from = channel_start(id);
     stated::fits(
         words[from + STATUS_TAG],
         GIVEN,
@@ -124,16 +140,7 @@ fn channels_spelled(words: &[u64]) -> bool
     requires { length words.now ≡ CONTROL-WORDS }
     ensures { result ≡ channels_spelled words.now CHANNEL-IDS }
 {
-    let mut from = CONTROL_HEAD;
-    let mut id = 0;
-    while id < CHANNEL_IDS {
-        if !channel_spelled(words, from) {
-            return false;
-        }
-        from += CHANNEL_WORDS;
-        id += 1;
-    }
-    true
+    (0..CHANNEL_IDS).all(|id| channel_spelled(words, id))
 }
 
 pub fn spelled(words: &[u64]) -> bool
@@ -142,32 +149,32 @@ pub fn spelled(words: &[u64]) -> bool
     words.len() == CONTROL_WORDS && (head_spelled(words) && channels_spelled(words))
 }
 
-// What is stated of one Channel ID, whose words start at a place.
-fn status_at(words: &[u64], from: usize) -> StatusCell
-    requires { ChannelSays words.now from }
-    ensures { result ≡ status_at words.now from }
+// What is stated of one Channel ID.
+fn status_at(words: &[u64], id: usize) -> Option<u8>
+    requires below { id < CHANNEL-IDS }
+    requires says { ControlSays words.now }
+    ensures { result ≡ status_at words.now (channel_start id) }
 {
-    StatusCell {
-        status: stated::status_of(words[from + STATUS_TAG], words[from + STATUS_VALUE]),
-    }
+    let from = channel_start(id);
+    stated::one_of(words[from + STATUS_TAG], words[from + STATUS_VALUE])
 }
 
-fn sequence_at(words: &[u64], from: usize) -> SequenceCell
-    requires { ChannelSays words.now from }
-    ensures { result ≡ sequence_at words.now from }
+fn sequence_at(words: &[u64], id: usize) -> Option<FlowSequence>
+    requires below { id < CHANNEL-IDS }
+    requires says { ControlSays words.now }
+    ensures { result ≡ sequence_at words.now (channel_start id) }
 {
-    SequenceCell {
-        sequence: stated::sequence_of(words[from + SEQUENCE_TAG], words[from + SEQUENCE_VALUE]),
-    }
+    let from = channel_start(id);
+    stated::one_of(words[from + SEQUENCE_TAG], words[from + SEQUENCE_VALUE])
 }
 
-fn window_at(words: &[u64], from: usize) -> WindowCell
-    requires { ChannelSays words.now from }
-    ensures { result ≡ window_at words.now from }
+fn window_at(words: &[u64], id: usize) -> Option<Window>
+    requires below { id < CHANNEL-IDS }
+    requires says { ControlSays words.now }
+    ensures { result ≡ window_at words.now (channel_start id) }
 {
-    WindowCell {
-        window: stated::window_of(words[from + WINDOW_TAG], words[from + WINDOW_VALUE]),
-    }
+    let from = channel_start(id);
+    stated::window_of(words[from + WINDOW_TAG], words[from + WINDOW_VALUE])
 }
 
 // The message that the words state.
@@ -175,26 +182,8 @@ pub fn load(words: &[u64]) -> Control
     requires { ControlSays words.now }
     ensures { result ≡ control_of words.now }
 {
-    let mut statuses = [StatusCell {
-        status: Status::Absent,
-    }; CHANNEL_IDS];
-    let mut sequences = [SequenceCell {
-        sequence: Sequence::Absent,
-    }; CHANNEL_IDS];
-    let mut windows = [WindowCell {
-        window: Window::Absent,
-    }; CHANNEL_IDS];
-    let mut from = CONTROL_HEAD;
-    let mut id = 0;
-    while id < CHANNEL_IDS {
-        statuses[id] = status_at(words, from);
-        sequences[id] = sequence_at(words, from);
-        windows[id] = window_at(words, from);
-        from += CHANNEL_WORDS;
-        id += 1;
-    }
     Control {
-        datalink: stated::datalink_of(words[DATALINK_TAG], words[DATALINK_VALUE]),
+        datalink: stated::one_of(words[DATALINK_TAG], words[DATALINK_VALUE]),
         instance: stated::instance_of(
             words[INSTANCE_TAG],
             words[INSTANCE_VALUE],
@@ -205,8 +194,8 @@ pub fn load(words: &[u64]) -> Control
             words[CONTEXT_VALUE],
             words[CONTEXT_LENGTH],
         ),
-        statuses,
-        sequences,
-        windows,
+        statuses: array::from_fn(|id| status_at(words, id)),
+        sequences: array::from_fn(|id| sequence_at(words, id)),
+        windows: array::from_fn(|id| window_at(words, id)),
     }
 }

@@ -20,10 +20,10 @@ pub fn save(words: &mut [u64], message: Data, start: usize, size: usize)
     let sequence = message.sequence;
     let channel = message.channel;
     let expiration = message.expiration;
-    let link = stated::datalink(datalink);
+    let link = stated::one(datalink);
     let counted = stated::counted(sequence);
-    let named = stated::channel(channel);
-    let lasting = stated::expiration(expiration);
+    let named = stated::one(channel);
+    let lasting = stated::one(expiration);
     words[DATALINK_TAG] = link.tag;
     words[DATALINK_VALUE] = link.first;
     words[COUNTED_TAG] = counted.tag;
@@ -61,13 +61,13 @@ pub fn load(words: &[u64]) -> Data
     ensures { result ≡ data_of words.now }
 {
     Data {
-        datalink: stated::datalink_of(words[DATALINK_TAG], words[DATALINK_VALUE]),
+        datalink: stated::one_of(words[DATALINK_TAG], words[DATALINK_VALUE]),
         sequence: stated::counted_of(
             words[COUNTED_TAG],
             words[COUNTED_CHANNEL],
             words[COUNTED_SEQUENCE],
         ),
-        channel: stated::channel_of(words[CHANNEL_TAG], words[CHANNEL_VALUE]),
-        expiration: stated::expiration_of(words[EXPIRATION_TAG], words[EXPIRATION_VALUE]),
+        channel: stated::one_of(words[CHANNEL_TAG], words[CHANNEL_VALUE]),
+        expiration: stated::one_of(words[EXPIRATION_TAG], words[EXPIRATION_VALUE]),
     }
 }

@@ -1,13 +1,10 @@
 // One thing that a message may state, as numbers and back.
-ghost use Rattle.std.specs.Prelude.{◌≡◌, ◌<◌, ◌^◌, true};
+ghost use Rattle.std.specs.Prelude.{◌≡◌, ℕ, ◌<◌, true};
 ghost use Rattle.lent_messages.specs.Layout.{BYTE, HALF, GIVEN, FIELD-GIVEN};
-ghost use Rattle.lent_messages.specs.Stated.{fits, unstated, stated_as, datalink_stated, instance_stated, context_stated, status_stated, sequence_stated, window_stated, counted_stated, channel_stated, expiration_stated, datalink_of, instance_of, context_of, status_of, sequence_of, window_of, counted_of, channel_of, expiration_of};
+ghost use Rattle.lent_messages.specs.Stated.{fits, unstated, stated_as, one_stated, instance_stated, context_stated, window_stated, counted_stated, one_of, instance_of, context_of, window_of, counted_of};
 
 use crate::layout::{ABSENT, FIELD_EMPTY, FIELD_GIVEN, GIVEN};
-use meaning::message::{
-    Channel, Context, ContextBytes, Counted, Datalink, Expiration, Instance, Sequence, Status,
-    Window,
-};
+use meaning::message::{ContextBytes, Window};
 use quantity::count::{DatalinkId, FlowSequence, FlowWindow, LinkInstanceId};
 
 // The tag and the numbers of what is stated, 0 where there are fewer.
@@ -18,28 +15,92 @@ pub struct Stated {
     pub second: u64,
 }
 
-fn byte(value: u64) -> u8
-    requires { value < 256 }
-    ensures { result ≡ value }
-{
-    value as u8
+// What may be stated as one number.
+pub trait Number: Copy {
+    ghost value: { Self → ℕ };
+
+    ghost valued: { ℕ → Self };
+
+    // Each value's number is below it.
+    ghost limit: { ℕ };
+
+    fn number(self) -> u64
+        ensures { result ≡ value self };
+
+    fn numbered(number: u64) -> Self
+        requires { number < limit }
+        ensures { result ≡ valued number };
 }
 
-fn half(value: u64) -> u32
-    requires { value < 2 ^ 32 }
-    ensures { result ≡ value }
-{
-    value as u32
+impl Number for u8 {
+    ghost value = { λ number. number };
+
+    ghost valued = { λ number. number };
+
+    ghost limit = { BYTE };
+
+    fn number(self) -> u64 {
+        self as u64
+    }
+
+    fn numbered(number: u64) -> u8 {
+        number as u8
+    }
+}
+
+impl Number for u32 {
+    ghost value = { λ number. number };
+
+    ghost valued = { λ number. number };
+
+    ghost limit = { HALF };
+
+    fn number(self) -> u64 {
+        self as u64
+    }
+
+    fn numbered(number: u64) -> u32 {
+        number as u32
+    }
+}
+
+impl Number for DatalinkId {
+    ghost value = { λ id. id.0 };
+
+    ghost valued = { λ number. record { 0 = number } };
+
+    ghost limit = { BYTE };
+
+    fn number(self) -> u64 {
+        self.0 as u64
+    }
+
+    fn numbered(number: u64) -> DatalinkId {
+        DatalinkId(number as u8)
+    }
+}
+
+impl Number for FlowSequence {
+    ghost value = { λ sequence. sequence.0 };
+
+    ghost valued = { λ number. record { 0 = number } };
+
+    ghost limit = { HALF };
+
+    fn number(self) -> u64 {
+        self.0 as u64
+    }
+
+    fn numbered(number: u64) -> FlowSequence {
+        FlowSequence(number as u32)
+    }
 }
 
 // A tag that there is: below the one that gives a value, or that one, with a value below the limit.
 pub fn fits(tag: u64, given: u64, value: u64, limit: u64) -> bool
     ensures { result ≡ fits tag given value limit }
 {
-    if tag < given {
-        return true;
-    }
-    tag == given && value < limit
+    tag < given || (tag == given && value < limit)
 }
 
 // Nothing is stated.
@@ -63,89 +124,55 @@ fn given(first: u64, second: u64) -> Stated
     }
 }
 
-pub fn datalink(stated: Datalink) -> Stated
-    ensures { result ≡ datalink_stated stated }
+// A Datalink ID, a status, a Flow Sequence, a Channel ID or an expiration.
+pub fn one<T: Number>(stated: Option<T>) -> Stated
+    ensures { result ≡ one_stated T.value stated }
 {
     match stated {
-        Datalink::Absent => nothing(),
-        Datalink::Given(id) => given(id.0 as u64, 0),
+        None => nothing(),
+        Some(value) => given(value.number(), 0),
     }
 }
 
-pub fn instance(stated: Instance) -> Stated
+// A Link Instance, and below a Context: kept two, since one generic over both asks for a limit of 2^64, which is none.
+pub fn instance(stated: Option<(LinkInstanceId, usize)>) -> Stated
     ensures { result ≡ instance_stated stated }
 {
     match stated {
-        Instance::Absent => nothing(),
-        Instance::Given(id, length) => given(id.0, length as u64),
+        None => nothing(),
+        Some((id, length)) => given(id.0, length as u64),
     }
 }
 
-pub fn context(stated: Context) -> Stated
+pub fn context(stated: Option<(ContextBytes, usize)>) -> Stated
     ensures { result ≡ context_stated stated }
 {
     match stated {
-        Context::Absent => nothing(),
-        Context::Given(bytes, length) => given(bytes.0, length as u64),
+        None => nothing(),
+        Some((bytes, length)) => given(bytes.0, length as u64),
     }
 }
 
-pub fn status(stated: Status) -> Stated
-    ensures { result ≡ status_stated stated }
-{
-    match stated {
-        Status::Absent => nothing(),
-        Status::Given(value) => given(value as u64, 0),
-    }
-}
-
-pub fn sequence(stated: Sequence) -> Stated
-    ensures { result ≡ sequence_stated stated }
-{
-    match stated {
-        Sequence::Absent => nothing(),
-        Sequence::Given(sequence) => given(sequence.0 as u64, 0),
-    }
-}
-
-pub fn counted(stated: Counted) -> Stated
+pub fn counted(stated: Option<(u8, FlowSequence)>) -> Stated
     ensures { result ≡ counted_stated stated }
 {
     match stated {
-        Counted::Absent => nothing(),
-        Counted::Given(channel, sequence) => given(channel as u64, sequence.0 as u64),
+        None => nothing(),
+        Some((channel, sequence)) => given(channel as u64, sequence.0 as u64),
     }
 }
 
-pub fn channel(stated: Channel) -> Stated
-    ensures { result ≡ channel_stated stated }
-{
-    match stated {
-        Channel::Absent => nothing(),
-        Channel::Given(id) => given(id as u64, 0),
-    }
-}
-
-pub fn expiration(stated: Expiration) -> Stated
-    ensures { result ≡ expiration_stated stated }
-{
-    match stated {
-        Expiration::Absent => nothing(),
-        Expiration::Given(time) => given(time as u64, 0),
-    }
-}
-
-pub fn window(stated: Window) -> Stated
+pub fn window(stated: Option<Window>) -> Stated
     ensures { result ≡ window_stated stated }
 {
     match stated {
-        Window::Absent => nothing(),
-        Window::Empty => Stated {
+        None => nothing(),
+        Some(Window::Empty) => Stated {
             tag: FIELD_EMPTY,
             first: 0,
             second: 0,
         },
-        Window::Given(window) => Stated {
+        Some(Window::Given(window)) => Stated {
             tag: FIELD_GIVEN,
             first: window.0 as u64,
             second: 0,
@@ -153,94 +180,54 @@ pub fn window(stated: Window) -> Stated
     }
 }
 
-pub fn datalink_of(tag: u64, value: u64) -> Datalink
-    requires { fits tag GIVEN value BYTE ≡ true }
-    ensures { result ≡ datalink_of tag value }
+pub fn one_of<T: Number>(tag: u64, value: u64) -> Option<T>
+    requires { fits tag GIVEN value T.limit ≡ true }
+    ensures { result ≡ one_of T.valued tag value }
 {
     if tag == ABSENT {
-        return Datalink::Absent;
+        return None;
     }
-    Datalink::Given(DatalinkId(byte(value)))
+    Some(T::numbered(value))
 }
 
-pub fn instance_of(tag: u64, value: u64, length: u64) -> Instance
+pub fn instance_of(tag: u64, value: u64, length: u64) -> Option<(LinkInstanceId, usize)>
     ensures { result ≡ instance_of tag value length }
 {
     if tag == ABSENT {
-        return Instance::Absent;
+        return None;
     }
-    Instance::Given(LinkInstanceId(value), length as usize)
+    Some((LinkInstanceId(value), length as usize))
 }
 
-pub fn context_of(tag: u64, value: u64, length: u64) -> Context
+pub fn context_of(tag: u64, value: u64, length: u64) -> Option<(ContextBytes, usize)>
     ensures { result ≡ context_of tag value length }
 {
     if tag == ABSENT {
-        return Context::Absent;
+        return None;
     }
-    Context::Given(ContextBytes(value), length as usize)
+    Some((ContextBytes(value), length as usize))
 }
 
-pub fn status_of(tag: u64, value: u64) -> Status
-    requires { fits tag GIVEN value BYTE ≡ true }
-    ensures { result ≡ status_of tag value }
-{
-    if tag == ABSENT {
-        return Status::Absent;
-    }
-    Status::Given(byte(value))
-}
-
-pub fn sequence_of(tag: u64, value: u64) -> Sequence
-    requires { fits tag GIVEN value HALF ≡ true }
-    ensures { result ≡ sequence_of tag value }
-{
-    if tag == ABSENT {
-        return Sequence::Absent;
-    }
-    Sequence::Given(FlowSequence(half(value)))
-}
-
-pub fn counted_of(tag: u64, channel: u64, sequence: u64) -> Counted
+pub fn counted_of(tag: u64, channel: u64, sequence: u64) -> Option<(u8, FlowSequence)>
     requires channel_value { fits tag GIVEN channel BYTE ≡ true }
     requires sequence_value { fits tag GIVEN sequence HALF ≡ true }
     ensures { result ≡ counted_of tag channel sequence }
 {
     if tag == ABSENT {
-        return Counted::Absent;
+        return None;
     }
-    Counted::Given(byte(channel), FlowSequence(half(sequence)))
+    Some((channel as u8, FlowSequence(sequence as u32)))
 }
 
-pub fn channel_of(tag: u64, value: u64) -> Channel
-    requires { fits tag GIVEN value BYTE ≡ true }
-    ensures { result ≡ channel_of tag value }
-{
-    if tag == ABSENT {
-        return Channel::Absent;
-    }
-    Channel::Given(byte(value))
-}
-
-pub fn expiration_of(tag: u64, value: u64) -> Expiration
-    requires { fits tag GIVEN value HALF ≡ true }
-    ensures { result ≡ expiration_of tag value }
-{
-    if tag == ABSENT {
-        return Expiration::Absent;
-    }
-    Expiration::Given(half(value))
-}
-
-pub fn window_of(tag: u64, value: u64) -> Window
+pub fn window_of(tag: u64, value: u64) -> Option<Window>
     requires { fits tag FIELD-GIVEN value HALF ≡ true }
     ensures { result ≡ window_of tag value }
 {
     if tag == ABSENT {
-        return Window::Absent;
+        return None;
     }
     if tag == FIELD_EMPTY {
-        return Window::Empty;
+        return Some(Window::Empty);
     }
-    Window::Given(FlowWindow(half(value)))
+    Some(Window::Given(FlowWindow(value as u32)))
 }

@@ -7,7 +7,7 @@ use native.Mathlib.Omega.{arith}
 use borrow.Author.Tests.{eq-eqb, ne_eqb, eqb-true, ltb-true}
 use lib.Dec.{eqb, ltb}
 use Rattle.line_rows.specs.Rows.{key_text, spells_of}
-use Rattle.line_rows.proofs.Laws.{clash}
+use Rattle.facts.proofs.Tests.{clash}
 
 -- no byte of a keyword is 0
 abbrev pub is_keyword : List ℕ → Bool
@@ -24,8 +24,8 @@ first byte word e = go (ltb 0 byte) refl (ltb byte 256) refl e
   where
     go : (t : Bool) → ltb 0 byte ≡ t → (u : Bool) → ltb byte 256 ≡ u → cond (t && u) (is_keyword word) false ≡ true → First byte word
     go true p true q f = record { above = ltb-true 0 byte p; below = ltb-true byte 256 q; rest = f }
-    go true p false q f = clash (sym f)
-    go false p u q f = clash (sym f)
+    go true p false q f = clash f
+    go false p u q f = clash f
 
 module _ (byte : ℕ) (text : List ℕ) (k : First byte text) where
   key_some : eqb (key_text (byte ∷ text)) 0 ≡ false
@@ -52,8 +52,8 @@ spells_itself (byte ∷ text) e =
 pub spells_only : (word text : List ℕ) → is_keyword text ≡ true → spells_of word (key_text text) ≡ true → word ≡ text
 unfolding spells_of
 spells_only [] [] e f = refl
-spells_only [] (byte ∷ text) e f = clash (sym f ∙ key_some byte text (first byte text e))
-spells_only (x ∷ word) [] e f = clash (sym f)
+spells_only [] (byte ∷ text) e f = clash (sym (sym f ∙ key_some byte text (first byte text e)))
+spells_only (x ∷ word) [] e f = clash f
 spells_only (x ∷ word) (byte ∷ text) e f = go (eqb x byte) refl (sym (spells_first byte text k x word) ∙ f) (spells_only word text k.rest)
   where
     k : First byte text
@@ -61,4 +61,4 @@ spells_only (x ∷ word) (byte ∷ text) e f = go (eqb x byte) refl (sym (spells
 
     go : (t : Bool) → eqb x byte ≡ t → cond t (spells_of word (key_text text)) false ≡ true → (spells_of word (key_text text) ≡ true → word ≡ text) → x ∷ word ≡ byte ∷ text
     go true q g more = rw (eqb-true x byte q, more g)
-    go false q g more = clash (sym g)
+    go false q g more = clash g

@@ -1,4 +1,5 @@
 -- Keywords, values, and the way along a line. Assumes nothing.
+use Rattle.std.specs.Prelude.{Option, Some, None}
 use mathlib.Core.Bool.{Bool, true, false, cond, and-false}
 use mathlib.Core.Path.{◌≡◌, refl, sym, ap, ◌∙◌}
 use mathlib.Core.List.{List, [], ◌∷◌, ◌++◌, append_assoc, append-nil}
@@ -11,28 +12,21 @@ use native.Mathlib.Omega.{arith}
 use borrow.Author.Tests.{eq-eqb, ne_eqb, lt-ltb, le-ltb, leb-true, leb-false}
 use lib.Dec.{eqb, leb}
 use lib.ListN.{length, take, drop, get_or, set, drop_of_length-le, length-append, length-drop, length-set, take-append-drop}
-use lib.Seq.{drop-cons, drop-drop, take_at, drop_at, take_all, take-suc-set, drop-set-lt, length-take-le, get_or-take, drop-length}
+use lib.Seq.{drop-drop, take_at, drop_at, take-suc-set, drop-set-lt, length-take-le, get_or-take, drop-length, take-length}
 use Rattle.text.specs.Words.{word_of, beyond_of}
 use Rattle.text.specs.Numbers.{parse_of}
 use Rattle.text.specs.Strings.{hexed_of, pairs_of, unhexed, readable_of}
 use Rattle.text.specs.Laying.{laid}
-use Rattle.text.specs.declared.Number.{Number}
-use Rattle.text.specs.declared.Hexed.{Hexed}
 use Rattle.text.proofs.Hexadecimal.{unhex_inside, unhex_bytes, unhex_bad, unhex_long, pairs_most}
 use Rattle.text.specs.Words.{tail_of}
 use borrow.Rule.Slice.PartMut.{put_mid, mid_of}
+use Rattle.text.proofs.Reading.{next}
 use Rattle.text.proofs.Writing.{laid_in}
 use Rattle.line_rows.specs.declared.row.Cursor.{Cursor}
 use Rattle.line_rows.specs.Rows.{NUMBER, BYTES, LIST, OPTIONAL, spells_of, choice_of, length_said, value_of, bytes_of, behind_of, Said, stopped, on_number, said_more, item_of, items_of, list_of, last_number, item_or_list_of, left_out_of, row_of, read_by, good_by, over, ReadsRow}
 use Rattle.line_rows.specs.Cursors.{bytes_got, length_laid, ValueSaid, StartsAt, stopped_at, Inside, said_at, Advances}
 
-pub clash : {A : Type 0} → true ≡ false → A
-clash e = let z : ◌≡◌ {A = ℕ} 0 1 = cc in absurd (omega arith)
-
 -- ---- keywords
-pub next : (s : List ℕ) (i : ℕ) → i < length s → drop i s ≡ get_or s i 0 ∷ drop (i + 1) s
-next s i h = rw (add-one i) (drop-cons s i 0 h)
-
 pub record SpellsSoFar (word : List ℕ) (key left i : ℕ) : Type 0 where
   pub within : i ≤ length word
   pub same : spells_of (drop i word) left ≡ spells_of word key
@@ -80,28 +74,20 @@ module _ (numbers : List ℕ) (count : ℕ) where
       let more : count ≡ suc (count - 1) = omega arith in
       rw (length-take-le count numbers g) (sym (ap (λ (k : ℕ). get_or (0 ∷ take count numbers) k 0) more ∙ get_or-take count numbers (count - 1) 0 (omega arith)))
 
--- ---- the first items
-module _ (row : List ℕ) (count : ℕ) where
-  pub group_all : length row < count * 2 → take (length row - 0) (drop 0 row) ≡ take (count * 2) row
-  group_all h = take_all (length row - 0) row (omega arith) ∙ sym (take_all (count * 2) row (omega arith))
-
-  pub group_some : take (count * 2 - 0) (drop 0 row) ≡ take (count * 2) row
-  group_some = let z : count * 2 - 0 ≡ count * 2 = omega arith in rw z
-
 -- ---- what a word says
-got_none : (a : ℕ) (word : List ℕ) (r : Number) → (a ≡ BYTES → ⊥) → bytes_got a word r ≡ []
+got_none : (a : ℕ) (word : List ℕ) (r : Option ℕ) → (a ≡ BYTES → ⊥) → bytes_got a word r ≡ []
 unfolding bytes_of
-got_none a word Number.Bad h = refl
-got_none a word (Number.Value v) h = rw (ne_eqb a BYTES h)
+got_none a word None h = refl
+got_none a word (Some v) h = rw (ne_eqb a BYTES h)
 
-laid_none : (a : ℕ) (word : List ℕ) (r : Number) → (a ≡ BYTES → ⊥) → on_number 0 (length_laid a) r ≡ length (bytes_got a word r)
+laid_none : (a : ℕ) (word : List ℕ) (r : Option ℕ) → (a ≡ BYTES → ⊥) → on_number 0 (length_laid a) r ≡ length (bytes_got a word r)
 unfolding length_laid bytes_of
-laid_none a word Number.Bad h = refl
-laid_none a word (Number.Value v) h = rw (ne_eqb a BYTES h)
+laid_none a word None h = refl
+laid_none a word (Some v) h = rw (ne_eqb a BYTES h)
 
 module _ (a b : ℕ) (lent word : List ℕ) where
   -- a word that is no byte string lays nothing
-  plain : {r : Number} → (a ≡ BYTES → ⊥) → r ≡ value_of a b (length lent) word → ValueSaid a b lent word r lent
+  plain : {r : Option ℕ} → (a ≡ BYTES → ⊥) → r ≡ value_of a b (length lent) word → ValueSaid a b lent word r lent
   plain {r} h e = record {
     answer = e;
     fits = rw (got_none a word r h) (omega arith);
@@ -109,39 +95,39 @@ module _ (a b : ℕ) (lent word : List ℕ) where
     counted = laid_none a word r h;
   }
 
-  pub value_number : {r : Number} → a ≡ NUMBER → r ≡ parse_of b word → ValueSaid a b lent word r lent
+  pub value_number : {r : Option ℕ} → a ≡ NUMBER → r ≡ parse_of b word → ValueSaid a b lent word r lent
   unfolding value_of
   value_number e f = plain (omega arith) (rw (eq-eqb a NUMBER e) f)
 
-  pub value_there : {t : Bool} → a ≡ OPTIONAL → t ≡ spells_of word b → t ≡ true → ValueSaid a b lent word (Number.Value 1) lent
+  pub value_there : {t : Bool} → a ≡ OPTIONAL → t ≡ spells_of word b → t ≡ true → ValueSaid a b lent word (Some 1) lent
   unfolding value_of
   value_there e f g = plain (omega arith) (rw (ne_eqb a NUMBER (omega arith), ne_eqb a BYTES (omega arith), eq-eqb a OPTIONAL e, ← f, g))
 
-  pub value_not_there : {t : Bool} → a ≡ OPTIONAL → t ≡ spells_of word b → t ≡ false → ValueSaid a b lent word (Number.Value 0) lent
+  pub value_not_there : {t : Bool} → a ≡ OPTIONAL → t ≡ spells_of word b → t ≡ false → ValueSaid a b lent word (Some 0) lent
   unfolding value_of
   value_not_there e f g = plain (omega arith) (rw (ne_eqb a NUMBER (omega arith), ne_eqb a BYTES (omega arith), eq-eqb a OPTIONAL e, ← f, g))
 
-  pub value_choice : {r : Number} → (a ≡ NUMBER → ⊥) → (a ≡ BYTES → ⊥) → (a ≡ OPTIONAL → ⊥) → r ≡ choice_of a b word → ValueSaid a b lent word r lent
+  pub value_choice : {r : Option ℕ} → (a ≡ NUMBER → ⊥) → (a ≡ BYTES → ⊥) → (a ≡ OPTIONAL → ⊥) → r ≡ choice_of a b word → ValueSaid a b lent word r lent
   unfolding value_of
   value_choice x y z f = plain y (rw (ne_eqb a NUMBER x, ne_eqb a BYTES y, ne_eqb a OPTIONAL z) f)
 
 -- ---- byte strings
 module _ (out word : List ℕ) where
-  hexed_none : hexed_of (length out) word ≡ Hexed.Bad → unhexed out word ≡ out
+  hexed_none : hexed_of (length out) word ≡ None → unhexed out word ≡ out
   unfolding hexed_of
   hexed_none e = go (readable_of word) (leb (length word / 2) (length out)) refl refl e
     where
-      go : (t u : Bool) → readable_of word ≡ t → leb (length word / 2) (length out) ≡ u → cond t (cond u (Hexed.Long (length word / 2)) Hexed.Bad) Hexed.Bad ≡ Hexed.Bad
+      go : (t u : Bool) → readable_of word ≡ t → leb (length word / 2) (length out) ≡ u → cond t (cond u (Some (length word / 2)) None) None ≡ None
           → unhexed out word ≡ out
       go true true r q p = let z : ◌≡◌ {A = ℕ} 0 1 = cc in absurd (omega arith)
       go true false r q p = sym (unhex_long word out r (leb-false (length word / 2) (length out) q)).1
       go false u r q p = sym (unhex_bad word out r).1
 
-  hexed_some : {n : ℕ} → hexed_of (length out) word ≡ Hexed.Long n → (unhexed out word ≡ over (pairs_of word) out) × (length (pairs_of word) ≤ length out)
+  hexed_some : {n : ℕ} → hexed_of (length out) word ≡ Some n → (unhexed out word ≡ over (pairs_of word) out) × (length (pairs_of word) ≤ length out)
   unfolding hexed_of unhexed
   hexed_some {n} e = go (readable_of word) (leb (length word / 2) (length out)) refl e
     where
-      go : (t u : Bool) → leb (length word / 2) (length out) ≡ u → cond t (cond u (Hexed.Long (length word / 2)) Hexed.Bad) Hexed.Bad ≡ Hexed.Long n
+      go : (t u : Bool) → leb (length word / 2) (length out) ≡ u → cond t (cond u (Some (length word / 2)) None) None ≡ Some n
           → (cond t (laid out 0 (pairs_of word)) out ≡ over (pairs_of word) out) × (length (pairs_of word) ≤ length out)
       go true true q p =
           let room : 0 + length (pairs_of word) ≤ length out = omega (arith, leb-true (length word / 2) (length out) q, pairs_most word) in
@@ -150,18 +136,18 @@ module _ (out word : List ℕ) where
       go true false q p = let z : ◌≡◌ {A = ℕ} 0 1 = cc in absurd (omega arith)
       go false u q p = let z : ◌≡◌ {A = ℕ} 0 1 = cc in absurd (omega arith)
 
-  hexed_count : {n : ℕ} → hexed_of (length out) word ≡ Hexed.Long n → n ≡ length (pairs_of word)
+  hexed_count : {n : ℕ} → hexed_of (length out) word ≡ Some n → n ≡ length (pairs_of word)
   hexed_count {n} e =
       let whole = hexed_some e in
       let size : length (unhexed out word) ≡ length out = ap length whole.0 ∙ simp (length-append, length-drop) (omega (arith, whole.1)) in
       sym (length-take-le n (unhexed out word) (omega (arith, size, unhex_inside (length out) word e))) ∙ ap length (unhex_bytes out word e)
 
-module _ (a b : ℕ) (lent word : List ℕ) {h : Hexed} {lent' : List ℕ} (e : a ≡ BYTES) (f : h ≡ hexed_of (length lent) word) (g : lent' ≡ unhexed lent word) where
+module _ (a b : ℕ) (lent word : List ℕ) {h : Option ℕ} {lent' : List ℕ} (e : a ≡ BYTES) (f : h ≡ hexed_of (length lent) word) (g : lent' ≡ unhexed lent word) where
   value_is : value_of a b (length lent) word ≡ length_said h
   unfolding value_of
   value_is = rw (ne_eqb a NUMBER (omega arith), eq-eqb a BYTES e, f)
 
-  pub value_no_bytes : h ≡ Hexed.Bad → ValueSaid a b lent word Number.Bad lent'
+  pub value_no_bytes : h ≡ None → ValueSaid a b lent word None lent'
   value_no_bytes k = record {
     answer = sym (value_is ∙ ap length_said k);
     fits = omega arith;
@@ -169,7 +155,7 @@ module _ (a b : ℕ) (lent word : List ℕ) {h : Hexed} {lent' : List ℕ} (e : 
     counted = refl;
   }
 
-  pub value_bytes : {n : ℕ} → h ≡ Hexed.Long n → ValueSaid a b lent word (Number.Value n) lent'
+  pub value_bytes : {n : ℕ} → h ≡ Some n → ValueSaid a b lent word (Some n) lent'
   unfolding bytes_of length_laid
   value_bytes k = let whole = hexed_some lent word (sym f ∙ k) in
       let got : bytes_of a word ≡ pairs_of word = rw (eq-eqb a BYTES e) in
@@ -245,11 +231,11 @@ module _ (places size a b : ℕ) (s : Said) where
     item_full h = rw (g, le-ltb (length s.numbers) places h)
 
     module _ (h : length s.numbers < places) where
-      pub item_bad : value_of a b (size - length s.bytes) (word_of s.rest) ≡ Number.Bad → item_of places size a b s ≡ stopped s
+      pub item_bad : value_of a b (size - length s.bytes) (word_of s.rest) ≡ None → item_of places size a b s ≡ stopped s
       unfolding item_of
       item_bad e = rw (g, lt-ltb (length s.numbers) places h, e)
 
-      pub item_value : {v : ℕ} → value_of a b (size - length s.bytes) (word_of s.rest) ≡ Number.Value v → item_of places size a b s ≡ said_more a s v
+      pub item_value : {v : ℕ} → value_of a b (size - length s.bytes) (word_of s.rest) ≡ Some v → item_of places size a b s ≡ said_more a s v
       unfolding item_of
       item_value e = rw (g, lt-ltb (length s.numbers) places h, e)
 
@@ -336,7 +322,7 @@ module _ (line : List ℕ) (s : Cursor) (numbers bytes : List ℕ) (k : Inside l
       other_bytes = refl;
     })
 
-    module _ (h : s.numbers < length numbers) {word : List ℕ} (w : word ≡ word_of (mid_of s.at (length line - s.at) line)) {r : Number} {lent : List ℕ} (v : ValueSaid a b (mid_of s.bytes (length bytes - s.bytes) bytes) word r lent) where
+    module _ (h : s.numbers < length numbers) {word : List ℕ} (w : word ≡ word_of (mid_of s.at (length line - s.at) line)) {r : Option ℕ} {lent : List ℕ} (v : ValueSaid a b (mid_of s.bytes (length bytes - s.bytes) bytes) word r lent) where
       word_is : word ≡ word_of (drop s.at line)
       word_is = w ∙ ap word_of (rest_part s.at line)
 
@@ -367,7 +353,7 @@ module _ (line : List ℕ) (s : Cursor) (numbers bytes : List ℕ) (k : Inside l
       after_size : length after ≡ length bytes
       after_size = rw after_is (wrote_length bytes s.bytes (bytes_got a word r) got_fits)
 
-      pub advance_bad : {t : Cursor} → r ≡ Number.Bad → t ≡ stopped_at s → Advances line s numbers bytes whole t numbers after
+      pub advance_bad : {t : Cursor} → r ≡ None → t ≡ stopped_at s → Advances line s numbers bytes whole t numbers after
       advance_bad e f =
           let none : bytes_got a word r ≡ [] = ap (bytes_got a word) e in
           let z : s.bytes + length (bytes_got a word r) ≡ s.bytes = rw none (omega arith) in
@@ -383,10 +369,10 @@ module _ (line : List ℕ) (s : Cursor) (numbers bytes : List ℕ) (k : Inside l
             other_bytes = rw z at after_drop;
           })
 
-      pub got_counted : {n : ℕ} → r ≡ Number.Value n → length_laid a n ≡ length (bytes_got a word r)
+      pub got_counted : {n : ℕ} → r ≡ Some n → length_laid a n ≡ length (bytes_got a word r)
       got_counted e = ap (on_number 0 (length_laid a)) (sym e) ∙ v.counted
 
-      pub advance_value : {n l at : ℕ} → r ≡ Number.Value n → l ≡ length_laid a n → StartsAt line at (behind_of a n (drop s.at line))
+      pub advance_value : {n l at : ℕ} → r ≡ Some n → l ≡ length_laid a n → StartsAt line at (behind_of a n (drop s.at line))
           → Advances line s numbers bytes whole (record { good = true; at = at; numbers = s.numbers + 1; bytes = s.bytes + l }) (set numbers s.numbers n) after
       advance_value {n} {l} {at} e f p =
           let count : l ≡ length (bytes_got a word r) = f ∙ got_counted e in
@@ -404,50 +390,48 @@ module _ (line : List ℕ) (s : Cursor) (numbers bytes : List ℕ) (k : Inside l
             other_numbers = drop-set-lt (s.numbers + 1) numbers s.numbers n (omega arith);
             other_bytes = ap (λ (m : ℕ). drop m after) size ∙ after_drop ∙ ap (λ (m : ℕ). drop m bytes) (sym size);
           }
+      -- ---- two items of a row
 
-      pub advance_fits : {n l : ℕ} → r ≡ Number.Value n → l ≡ length_laid a n → s.bytes + l ≤ length bytes
-      advance_fits e f = omega (arith, f, got_counted e, got_fits)
+pub two : (row : List ℕ) → 2 ≤ length row → row ≡ get_or row 0 0 ∷ (get_or row 1 0 ∷ mid_of 2 (length row - 2) row)
+two [] h = absurd (omega arith)
+two (a ∷ []) h = absurd (omega arith)
+two (a ∷ (b ∷ row)) h =
+    let left : length (a ∷ (b ∷ row)) - 2 ≡ length row = omega arith in
+    ap (λ (l : List ℕ). a ∷ (b ∷ l)) (sym (take-length row) ∙ ap (λ (n : ℕ). take n row) (sym left))
 
--- ---- two items of a row
-pub two : (row : List ℕ) (i : ℕ) → 1 < length row - i → drop i row ≡ get_or row i 0 ∷ (get_or row (i + 1) 0 ∷ drop (i + 2) row)
-two row i h =
-    let sum : i + 1 + 1 ≡ i + 2 = omega arith in
-    next row i (omega arith) ∙ ap (λ (l : List ℕ). get_or row i 0 ∷ l) (next row (i + 1) (omega arith)) ∙ ap (λ (n : ℕ). get_or row i 0 ∷ (get_or row (i + 1) 0 ∷ drop n row)) sum
-
-items_few : (places size : ℕ) (row : List ℕ) (s : Said) → length row ≤ 1 → items_of places size row s ≡ s
+items_few : (places size : ℕ) (row : List ℕ) (s : Said) → length row < 2 → items_of places size row s ≡ s
 unfolding items_of
 items_few places size [] s h = refl
 items_few places size (a ∷ []) s h = refl
 items_few places size (a ∷ (b ∷ row)) s h = absurd (omega arith)
 
-row_few : (places size skip : ℕ) (row : List ℕ) (s : Said) → length row ≤ 1 → row_of places size skip row s ≡ s
+row_few : (places size skip : ℕ) (row : List ℕ) (s : Said) → length row < 2 → row_of places size skip row s ≡ s
 unfolding row_of
 row_few places size skip [] s h = refl
 row_few places size skip (a ∷ []) s h = refl
 row_few places size skip (a ∷ (b ∷ row)) s h = absurd (omega arith)
 
 -- ---- the words of a row
-pub record ItemsSoFar (line row : List ℕ) (s : Cursor) (numbers bytes : List ℕ) (i : ℕ) (r : Cursor) (numbers' bytes' : List ℕ) : Type 0 where
-  pub within : i ≤ length row
+-- what is left of the row says the rest of the whole
+pub record ItemsSoFar (line row : List ℕ) (s : Cursor) (numbers bytes left : List ℕ) (r : Cursor) (numbers' bytes' : List ℕ) : Type 0 where
   pub goes : Advances line s numbers bytes (said_at line r numbers' bytes') r numbers' bytes'
-  pub same : items_of (length numbers) (length bytes) (drop i row) (said_at line r numbers' bytes') ≡ items_of (length numbers) (length bytes) row (said_at line s numbers bytes)
+  pub same : items_of (length numbers) (length bytes) left (said_at line r numbers' bytes') ≡ items_of (length numbers) (length bytes) row (said_at line s numbers bytes)
 
-pub items_none : {line row : List ℕ} {s : Cursor} {numbers bytes : List ℕ} → Inside line s numbers bytes → ItemsSoFar line row s numbers bytes 0 s numbers bytes
-items_none k = record { within = omega arith; goes = advance_none k; same = refl }
+pub items_none : {line row : List ℕ} {s : Cursor} {numbers bytes : List ℕ} → Inside line s numbers bytes → ItemsSoFar line row s numbers bytes row s numbers bytes
+items_none k = record { goes = advance_none k; same = refl }
 
-module _ {line row : List ℕ} {s : Cursor} {numbers bytes : List ℕ} {i : ℕ} {r : Cursor} {numbers' bytes' : List ℕ} (k : ItemsSoFar line row s numbers bytes i r numbers' bytes') where
-  pub items_on : {t : Cursor} {numbers'' bytes'' : List ℕ} → 1 < length row - i
-      → Advances line r numbers' bytes' (item_of (length numbers') (length bytes') (get_or row i 0) (get_or row (i + 1) 0) (said_at line r numbers' bytes')) t numbers'' bytes''
-      → ItemsSoFar line row s numbers bytes (i + 2) t numbers'' bytes''
+module _ {line row : List ℕ} {s : Cursor} {numbers bytes left : List ℕ} {r : Cursor} {numbers' bytes' : List ℕ} (k : ItemsSoFar line row s numbers bytes left r numbers' bytes') where
+  pub items_on : {t : Cursor} {numbers'' bytes'' : List ℕ} → 2 ≤ length left
+      → Advances line r numbers' bytes' (item_of (length numbers') (length bytes') (get_or left 0 0) (get_or left 1 0) (said_at line r numbers' bytes')) t numbers'' bytes''
+      → ItemsSoFar line row s numbers bytes (mid_of 2 (length left - 2) left) t numbers'' bytes''
   unfolding items_of
   items_on h l = record {
-    within = omega arith;
     goes = advance_as (advance_on k.goes l) (sym l.said);
-    same = rw (l.said, k.goes.size_numbers, k.goes.size_bytes) (rw (two row i h) at k.same);
+    same = rw (l.said, k.goes.size_numbers, k.goes.size_bytes) (rw (two left h) at k.same);
   }
 
-  pub items_end : length row - i ≤ 1 → Advances line s numbers bytes (items_of (length numbers) (length bytes) row (said_at line s numbers bytes)) r numbers' bytes'
-  items_end h = advance_as k.goes (sym (items_few (length numbers) (length bytes) (drop i row) (said_at line r numbers' bytes') (simp length-drop (omega arith))) ∙ k.same)
+  pub items_end : length left < 2 → Advances line s numbers bytes (items_of (length numbers) (length bytes) row (said_at line s numbers bytes)) r numbers' bytes'
+  items_end h = advance_as k.goes (sym (items_few (length numbers) (length bytes) left (said_at line r numbers' bytes') h) ∙ k.same)
 
 -- ---- behind a bad word nothing is read
 module _ (places size : ℕ) where
@@ -471,9 +455,6 @@ pub record ListSoFar (line : List ℕ) (count : ℕ) (row : List ℕ) (s : Curso
   pub within : i ≤ count
   pub goes : Advances line s numbers bytes (said_at line r numbers' bytes') r numbers' bytes'
   pub same : list_of (length numbers) (length bytes) (count - i) row (said_at line r numbers' bytes') ≡ list_of (length numbers) (length bytes) count row (said_at line s numbers bytes)
-
-pub list_none : {line : List ℕ} {count : ℕ} {row : List ℕ} {s : Cursor} {numbers bytes : List ℕ} → Inside line s numbers bytes → ListSoFar line count row s numbers bytes 0 s numbers bytes
-list_none {count = count} k = record { within = omega arith; goes = advance_none k; same = let z : count - 0 ≡ count = omega arith in rw z }
 
 module _ {line : List ℕ} {count : ℕ} {row : List ℕ} {s : Cursor} {numbers bytes : List ℕ} {i : ℕ} {r : Cursor} {numbers' bytes' : List ℕ} (k : ListSoFar line count row s numbers bytes i r numbers' bytes') where
   pub list_on : {t : Cursor} {numbers'' bytes'' : List ℕ} → i < count
@@ -510,31 +491,27 @@ module _ (line : List ℕ) (skip a b : ℕ) (row : List ℕ) (s : Cursor) (numbe
   part_one h e k = advance_as k (rw (le-ltb 0 skip h, ne_eqb a LIST e))
 
 -- ---- all items
-pub record RowSoFar (line row : List ℕ) (s : Cursor) (numbers bytes : List ℕ) (skip i : ℕ) (r : Cursor) (numbers' bytes' : List ℕ) : Type 0 where
-  pub within : i ≤ length row
+-- what is left of the row, with its first items left out, says the rest of the whole
+pub record RowSoFar (line row : List ℕ) (s : Cursor) (numbers bytes : List ℕ) (skip : ℕ) (left : List ℕ) (r : Cursor) (numbers' bytes' : List ℕ) : Type 0 where
   pub goes : Advances line s numbers bytes (said_at line r numbers' bytes') r numbers' bytes'
-  pub same : row_of (length numbers) (length bytes) skip (drop i row) (said_at line r numbers' bytes') ≡ row_of (length numbers) (length bytes) 0 row (said_at line s numbers bytes)
+  pub same : row_of (length numbers) (length bytes) skip left (said_at line r numbers' bytes') ≡ row_of (length numbers) (length bytes) 0 row (said_at line s numbers bytes)
 
 abbrev pub at_start : Cursor
 at_start = record { good = true; at = 0; numbers = 0; bytes = 0 }
 
-pub row_none : (line row numbers bytes : List ℕ) → RowSoFar line row at_start numbers bytes 0 0 at_start numbers bytes
-row_none line row numbers bytes = record { within = omega arith; goes = advance_none (record { at_inside = omega arith; numbers_inside = omega arith; bytes_inside = omega arith }); same = refl }
-
-module _ {line row : List ℕ} {s : Cursor} {numbers bytes : List ℕ} {skip i : ℕ} {r : Cursor} {numbers' bytes' : List ℕ} (k : RowSoFar line row s numbers bytes skip i r numbers' bytes') where
-  pub row_on : {t : Cursor} {numbers'' bytes'' : List ℕ} {skip' : ℕ} → 1 < length row - i
-      → Advances line r numbers' bytes' (item_or_list_of (length numbers') (length bytes') skip (get_or row i 0) (get_or row (i + 1) 0) (mid_of (i + 2) (length row - (i + 2)) row) (said_at line r numbers' bytes')) t numbers'' bytes''
-      → skip' ≡ left_out_of skip (get_or row i 0) (get_or row (i + 1) 0)
-      → RowSoFar line row s numbers bytes skip' (i + 2) t numbers'' bytes''
+module _ {line row : List ℕ} {s : Cursor} {numbers bytes : List ℕ} {skip : ℕ} {left : List ℕ} {r : Cursor} {numbers' bytes' : List ℕ} (k : RowSoFar line row s numbers bytes skip left r numbers' bytes') where
+  pub row_on : {t : Cursor} {numbers'' bytes'' : List ℕ} {skip' : ℕ} → 2 ≤ length left
+      → Advances line r numbers' bytes' (item_or_list_of (length numbers') (length bytes') skip (get_or left 0 0) (get_or left 1 0) (mid_of 2 (length left - 2) left) (said_at line r numbers' bytes')) t numbers'' bytes''
+      → skip' ≡ left_out_of skip (get_or left 0 0) (get_or left 1 0)
+      → RowSoFar line row s numbers bytes skip' (mid_of 2 (length left - 2) left) t numbers'' bytes''
   unfolding row_of
   row_on h l e = record {
-    within = omega arith;
     goes = advance_as (advance_on k.goes l) (sym l.said);
-    same = rw (l.said, k.goes.size_numbers, k.goes.size_bytes, e, rest_part (i + 2) row) (rw (two row i h) at k.same);
+    same = rw (l.said, k.goes.size_numbers, k.goes.size_bytes, e) (rw (two left h) at k.same);
   }
 
-  pub row_end : length row - i ≤ 1 → Advances line s numbers bytes (row_of (length numbers) (length bytes) 0 row (said_at line s numbers bytes)) r numbers' bytes'
-  row_end h = advance_as k.goes (sym (row_few (length numbers) (length bytes) skip (drop i row) (said_at line r numbers' bytes') (simp length-drop (omega arith))) ∙ k.same)
+  pub row_end : length left < 2 → Advances line s numbers bytes (row_of (length numbers) (length bytes) 0 row (said_at line s numbers bytes)) r numbers' bytes'
+  row_end h = advance_as k.goes (sym (row_few (length numbers) (length bytes) skip left (said_at line r numbers' bytes') h) ∙ k.same)
 
 -- ---- the whole line
 over_is : (old new said : List ℕ) (n : ℕ) → n ≤ length new → take n new ≡ said → drop n new ≡ drop n old → (n ≡ length said) × (new ≡ over said old)

@@ -1,4 +1,5 @@
 -- What a caller goes by: the numbers that a line said stand at the places of its row, written out, each within its bound. Assumes nothing.
+use Rattle.std.specs.Prelude.{Option, Some, None}
 use mathlib.Core.Bool.{Bool, true, false, cond, ◌&&◌}
 use mathlib.Core.Path.{◌≡◌, refl, sym, ap, ◌∙◌, subst, fun_ext}
 use mathlib.Core.List.{List, [], ◌∷◌, ◌++◌, append-nil, append_assoc}
@@ -11,13 +12,13 @@ use lib.Dec.{eqb, ltb}
 use lib.ListN.{length, take, drop, get_or, get_or-append, get_or-eq_default, length-append}
 use lib.Seq.{get_or-append-add, get_or-drop, take-nil}
 use Rattle.text.specs.Words.{head_of, tail_of, word_of}
-use Rattle.text.specs.declared.Number.{Number}
 use Rattle.text.proofs.Bounds.{parse_most}
+use Rattle.facts.proofs.Tests.{clash}
 use Rattle.line_rows.specs.Rows.{NUMBER, LIST, spells_of, value_of, Said, item_of, items_of, list_of, last_number, item_or_list_of, left_out_of, row_of, read_by, good_by, over}
 use Rattle.line_rows.specs.declared.table.Told.{Told}
 use Rattle.line_rows.specs.Tables.{named_of, items_left, command_of, key_of, items_behind, said_in, key_in, Reads}
 use Rattle.line_rows.specs.Places.{keyed_of, row_of_key, before, repeated, written_out, Within, paired, is_number}
-use Rattle.line_rows.proofs.Laws.{clash, item_idle, item_full, item_bad, item_value}
+use Rattle.line_rows.proofs.Laws.{item_idle, item_full, item_bad, item_value}
 
 -- ---- a number for each item
 data Fits : List ℕ → List ℕ → Type 0 where
@@ -61,11 +62,11 @@ module _ (places size : ℕ) where
   unfolding value_of
   item_adds a b s e = go s.good refl (ltb (length s.numbers) places) refl (value_of a b (size - length s.bytes) (word_of s.rest)) refl
     where
-      go : (t : Bool) → s.good ≡ t → (u : Bool) → ltb (length s.numbers) places ≡ u → (x : Number) → value_of a b (size - length s.bytes) (word_of s.rest) ≡ x → Adds (a ∷ (b ∷ [])) s (item_of places size a b s)
-      go false p u q x r = clash (sym e ∙ ap (λ (y : Said). y.good) (item_idle places size a b s p) ∙ p)
-      go true p false q x r = clash (sym e ∙ ap (λ (y : Said). y.good) (item_full places size a b s p (ltb-false (length s.numbers) places q)))
-      go true p true q Number.Bad r = clash (sym e ∙ ap (λ (y : Said). y.good) (item_bad places size a b s p (ltb-true (length s.numbers) places q) r))
-      go true p true q (Number.Value v) r =
+      go : (t : Bool) → s.good ≡ t → (u : Bool) → ltb (length s.numbers) places ≡ u → (x : Option ℕ) → value_of a b (size - length s.bytes) (word_of s.rest) ≡ x → Adds (a ∷ (b ∷ [])) s (item_of places size a b s)
+      go false p u q x r = clash (sym (sym e ∙ ap (λ (y : Said). y.good) (item_idle places size a b s p) ∙ p))
+      go true p false q x r = clash (sym (sym e ∙ ap (λ (y : Said). y.good) (item_full places size a b s p (ltb-false (length s.numbers) places q))))
+      go true p true q None r = clash (sym (sym e ∙ ap (λ (y : Said). y.good) (item_bad places size a b s p (ltb-true (length s.numbers) places q) r)))
+      go true p true q (Some v) r =
           let said = item_value places size a b s p (ltb-true (length s.numbers) places q) r in
           record {
             news = v ∷ [];
@@ -82,12 +83,12 @@ module _ (places size : ℕ) where
   items_adds : (row : List ℕ) (s : Said) → paired row ≡ true → (items_of places size row s).good ≡ true → Adds row s (items_of places size row s)
   unfolding items_of
   items_adds [] s p e = adds_none s
-  items_adds (a ∷ []) s p e = clash (sym p)
+  items_adds (a ∷ []) s p e = clash p
   items_adds (a ∷ (b ∷ row)) s p e = go (item_of places size a b s).good refl (items_adds row (item_of places size a b s) p e)
     where
       go : (t : Bool) → (item_of places size a b s).good ≡ t → Adds row (item_of places size a b s) (items_of places size row (item_of places size a b s))
           → Adds (a ∷ (b ∷ row)) s (items_of places size row (item_of places size a b s))
-      go false q k = clash (sym e ∙ items_bad row (item_of places size a b s) q)
+      go false q k = clash (sym (sym e ∙ items_bad row (item_of places size a b s) q))
       go true q k = adds_more (item_adds a b s q) k
 
   list_bad : (count : ℕ) (row : List ℕ) (s : Said) → s.good ≡ false → (list_of places size count row s).good ≡ false
@@ -101,21 +102,21 @@ module _ (places size : ℕ) where
   list_adds (suc n) row s p e = go (items_of places size row s).good refl (list_adds n row (items_of places size row s) p e)
     where
       go : (t : Bool) → (items_of places size row s).good ≡ t → Adds (repeated n row) (items_of places size row s) (list_of places size n row (items_of places size row s)) → Adds (row ++ repeated n row) s (list_of places size n row (items_of places size row s))
-      go false q k = clash (sym e ∙ list_bad n row (items_of places size row s) q)
+      go false q k = clash (sym (sym e ∙ list_bad n row (items_of places size row s) q))
       go true q k = adds_more (items_adds row s p q) k
 
 -- ---- a whole row
 paired_take : (b : ℕ) (row : List ℕ) → paired row ≡ true → paired (take (b * 2) row) ≡ true
 paired_take zero row p = refl
 paired_take (suc b) [] p = ap paired (take-nil (suc b * 2))
-paired_take (suc b) (a ∷ []) p = clash (sym p)
+paired_take (suc b) (a ∷ []) p = clash p
 paired_take (suc b) (x ∷ (y ∷ row)) p =
     let z : suc b * 2 ≡ suc (suc (b * 2)) = omega arith in
     ap (λ (n : ℕ). paired (take n (x ∷ (y ∷ row)))) z ∙ paired_take b row p
 
 paired_even : (row : List ℕ) → paired row ≡ true → length row / 2 * 2 ≡ length row
 paired_even [] p = refl
-paired_even (a ∷ []) p = clash (sym p)
+paired_even (a ∷ []) p = clash p
 paired_even (a ∷ (b ∷ row)) p = let more = paired_even row p in omega arith
 
 list_half : (count : ℕ) (row : List ℕ) → paired row ≡ true → length (repeated count row) / 2 ≡ count * (length row / 2)
@@ -149,7 +150,7 @@ module _ (places size : ℕ) where
       → Adds (written_out skip (length s.numbers) row (λ i. get_or final.numbers i 0)) s final
   unfolding row_of item_or_list_of left_out_of written_out
   row_adds skip [] s final p g e = rw e (adds_none s)
-  row_adds skip (a ∷ []) s final p g e = clash (sym p)
+  row_adds skip (a ∷ []) s final p g e = clash p
   row_adds skip (a ∷ (b ∷ row)) s final p g e =
       go (ltb 0 skip) refl (eqb a LIST) refl
       (row_adds (skip - 1) row s final p g) (row_adds b row (list_of places size (last_number s.numbers) (take (b * 2) row) s) final p g) (row_adds 0 row (item_of places size a b s) final p g)
@@ -171,7 +172,7 @@ module _ (places size : ℕ) where
 
       with_list : (t : Bool) → listed.good ≡ t → final ≡ row_of places size b row listed → Adds (written_out b (length listed.numbers) row n) listed final
           → Adds (repeated (before n (length s.numbers)) group ++ written_out b (length s.numbers + before n (length s.numbers) * (length group / 2)) row n) s final
-      with_list false q f k = clash (sym g ∙ ap (λ (y : Said). y.good) f ∙ row_bad b row listed q)
+      with_list false q f k = clash (sym (sym g ∙ ap (λ (y : Said). y.good) f ∙ row_bad b row listed q))
       with_list true q f k =
           let first = list_adds places size (last_number s.numbers) group s (paired_take b row p) q in
           let both = adds_more first k in
@@ -181,7 +182,7 @@ module _ (places size : ℕ) where
 
       with_item : (t : Bool) → one.good ≡ t → final ≡ row_of places size 0 row one → Adds (written_out 0 (length one.numbers) row n) one final
           → Adds (a ∷ (b ∷ written_out 0 (length s.numbers + 1) row n)) s final
-      with_item false q f k = clash (sym g ∙ ap (λ (y : Said). y.good) f ∙ row_bad 0 row one q)
+      with_item false q f k = clash (sym (sym g ∙ ap (λ (y : Said). y.good) f ∙ row_bad 0 row one q))
       with_item true q f k =
           let first = item_adds places size a b s q in
           let place : length one.numbers ≡ length s.numbers + 1 = ap length first.are ∙ length-append s.numbers first.news ∙ ap (λ (m : ℕ). length s.numbers + m) (fits_count first.fit) in
@@ -207,7 +208,7 @@ module _ (places size : ℕ) where
       where
         go : (t u : Bool) → cond t u false ≡ true → u ≡ true
         go true u e = e
-        go false u e = clash (sym e)
+        go false u e = clash e
 
     row_said : Adds (written_out 0 0 row number_at) (record { good = true; rest = rest; numbers = []; bytes = [] }) (read_by places size row rest)
     unfolding read_by
@@ -243,7 +244,7 @@ command_keyed skip name (k ∷ (count ∷ table)) {key} z e = go (ltb 0 skip) re
         → command_of skip name (k ∷ (count ∷ table)) ≡ keyed_of skip key (k ∷ (count ∷ table))
     go true q u r v w x y = rw q (x (rw q at e))
     go false q true r v w x y = let same : k ≡ key = rw (q, r) at e in rw (q, r, eq-eqb k key same)
-    go false q false r true w x y = clash (sym (named_spells skip name (k ∷ (count ∷ table)) z e) ∙ sym (ap (spells_of name) (eqb-true k key w)) ∙ r)
+    go false q false r true w x y = clash (sym (sym (named_spells skip name (k ∷ (count ∷ table)) z e) ∙ sym (ap (spells_of name) (eqb-true k key w)) ∙ r))
     go false q false r false w x y = rw (q, r, w) (y (rw (q, r) at e))
 
 paired_keyed : (skip key : ℕ) (table : List ℕ) → paired table ≡ true → paired (keyed_of skip key table) ≡ true
@@ -261,7 +262,7 @@ paired_keyed skip key (k ∷ (count ∷ table)) p = go (ltb 0 skip) (eqb k key) 
 paired_behind : (table : List ℕ) → paired table ≡ true → paired (items_behind table) ≡ true
 unfolding items_behind
 paired_behind [] p = refl
-paired_behind (k ∷ []) p = clash (sym p)
+paired_behind (k ∷ []) p = clash p
 paired_behind (k ∷ (count ∷ table)) p = paired_take count table p
 
 -- ---- a line read by a table
@@ -401,8 +402,8 @@ module _ (count : ℕ) (items more : List ℕ) {n : ℕ → ℕ} (k : Within (re
 -- a number with no list before it
 within_from : (place most from : ℕ) (row : List ℕ) (n m : ℕ → ℕ) → is_number place most row ≡ true → Within (written_out 0 from row n) m → m place ≤ most
 unfolding written_out
-within_from place most from [] n m e k = clash (sym e)
-within_from place most from (a ∷ []) n m e k = clash (sym e)
+within_from place most from [] n m e k = clash e
+within_from place most from (a ∷ []) n m e k = clash e
 within_from zero most from (a ∷ (b ∷ row)) n m e k = go (eqb a NUMBER) refl (eqb b most) refl e
   where
     go : (t : Bool) → eqb a NUMBER ≡ t → (u : Bool) → eqb b most ≡ u → t && u ≡ true → m 0 ≤ most
@@ -410,13 +411,13 @@ within_from zero most from (a ∷ (b ∷ row)) n m e k = go (eqb a NUMBER) refl 
         let list : eqb a LIST ≡ false = ne_eqb a LIST (omega (arith, eqb-true a NUMBER q)) in
         let first : Within (a ∷ (b ∷ written_out 0 (from + 1) row n)) m = rw list at k in
         omega (arith, within_first first (eqb-true a NUMBER q), eqb-true b most r)
-    go true q false r f = clash (sym f)
-    go false q u r f = clash (sym f)
+    go true q false r f = clash f
+    go false q u r f = clash f
 within_from (suc place) most from (a ∷ (b ∷ row)) n m e k = go (eqb a LIST) refl e (within_from place most (from + 1) row n (λ i. m (suc i)))
   where
     go : (t : Bool) → eqb a LIST ≡ t → cond t false (is_number place most row) ≡ true
         → (is_number place most row ≡ true → Within (written_out 0 (from + 1) row n) (λ i. m (suc i)) → m (suc place) ≤ most) → m (suc place) ≤ most
-    go true q f more = clash (sym f)
+    go true q f more = clash f
     go false q f more = let rest : Within (a ∷ (b ∷ written_out 0 (from + 1) row n)) m = rw q at k in more f (within_rest rest)
 
 pub within_number : (place most : ℕ) (row : List ℕ) (n : ℕ → ℕ) → is_number place most row ≡ true → Within (written_out 0 0 row n) n → n place ≤ most

@@ -1,19 +1,18 @@
 -- How far the code has read a line: cursors into the line and the lent slices, and what they stand for.
-use Rattle.std.specs.Prelude.{◌≡◌, false, cond, List, [], ◌++◌, ℕ, ◌≤◌, eqb, length, take, drop}
-use Rattle.text.specs.declared.Number.{Number}
+use Rattle.std.specs.Prelude.{◌≡◌, false, cond, List, [], ◌++◌, ℕ, ◌≤◌, eqb, length, take, drop, Option, Some, None}
 use Rattle.line_rows.specs.declared.row.Cursor.{Cursor}
 use Rattle.line_rows.specs.Rows.{BYTES, bytes_of, value_of, on_number, Said}
 
 -- the bytes that a word laid at the start of the lent memory
-abbrev pub bytes_got : ℕ → List ℕ → Number → List ℕ
-bytes_got a word Number.Bad = []
-bytes_got a word (Number.Value v) = bytes_of a word
+abbrev pub bytes_got : ℕ → List ℕ → Option ℕ → List ℕ
+bytes_got a word None = []
+bytes_got a word (Some v) = bytes_of a word
 
 -- how many they are
 unfoldable pub length_laid : ℕ → ℕ → ℕ
 length_laid a value = cond (eqb a BYTES) value 0
 
-pub record ValueSaid (a b : ℕ) (lent word : List ℕ) (r : Number) (lent' : List ℕ) : Type 0 where
+pub record ValueSaid (a b : ℕ) (lent word : List ℕ) (r : Option ℕ) (lent' : List ℕ) : Type 0 where
   pub answer : r ≡ value_of a b (length lent) word
   pub fits : length (bytes_got a word r) ≤ length lent
   pub bytes : lent' ≡ bytes_got a word r ++ drop (length (bytes_got a word r)) lent

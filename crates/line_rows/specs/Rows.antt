@@ -1,11 +1,9 @@
 -- What a line says by a row of items, two numbers for each item. docs/SESSION.md: "A line is words with one space between two .. Numbers are decimal without
 -- needless zeros in front; byte strings are lowercase hexadecimal, two digits a byte, and `-` is the empty one."
-use Rattle.std.specs.Prelude.{◌≡◌, Bool, true, false, cond, ◌&&◌, List, [], ◌∷◌, ◌++◌, ℕ, zero, suc, ◌+◌, ◌-◌, ◌*◌, ◌/◌, ◌%◌, eqb, ltb, length, take, drop, get_or}
+use Rattle.std.specs.Prelude.{◌≡◌, Bool, true, false, cond, ◌&&◌, List, [], ◌∷◌, ◌++◌, ℕ, zero, suc, ◌+◌, ◌-◌, ◌*◌, ◌/◌, ◌%◌, eqb, ltb, length, take, drop, get_or, Option, Some, None}
 use Rattle.text.specs.Words.{word_of, beyond_of}
 use Rattle.text.specs.Numbers.{parse_of}
 use Rattle.text.specs.Strings.{hexed_of, pairs_of}
-use Rattle.text.specs.declared.Number.{Number}
-use Rattle.text.specs.declared.Hexed.{Hexed}
 use Rattle.line_rows.specs.declared.row.RowRead.{RowRead}
 
 -- ---- the kinds of item; any other is a choice of two keywords, the first said by 0 and the second by 1
@@ -39,19 +37,19 @@ spells_of [] key = eqb key 0
 spells_of (byte ∷ word) key = cond (eqb key 0) false (cond (eqb byte (key % 256)) (spells_of word (key / 256)) false)
 
 -- one of two keywords; a keyword that must stand there is `key key`
-unfoldable pub choice_of : ℕ → ℕ → List ℕ → Number
-choice_of first second word = cond (spells_of word first) (Number.Value 0) (cond (spells_of word second) (Number.Value 1) Number.Bad)
+unfoldable pub choice_of : ℕ → ℕ → List ℕ → Option ℕ
+choice_of first second word = cond (spells_of word first) (Some 0) (cond (spells_of word second) (Some 1) None)
 
-abbrev pub length_said : Hexed → Number
-length_said Hexed.Bad = Number.Bad
-length_said (Hexed.Long n) = Number.Value n
+abbrev pub length_said : Option ℕ → Option ℕ
+length_said None = None
+length_said (Some n) = Some n
 
 -- the number that a word says as an item `a b`, with room for n bytes
-unfoldable pub value_of : ℕ → ℕ → ℕ → List ℕ → Number
+unfoldable pub value_of : ℕ → ℕ → ℕ → List ℕ → Option ℕ
 value_of a b room word =
     cond (eqb a NUMBER) (parse_of b word)
     (cond (eqb a BYTES) (length_said (hexed_of room word))
-    (cond (eqb a OPTIONAL) (Number.Value (cond (spells_of word b) 1 0))
+    (cond (eqb a OPTIONAL) (Some (cond (spells_of word b) 1 0))
     (choice_of a b word)))
 
 -- the bytes that it says
@@ -72,9 +70,9 @@ pub record Said : Type 0 where
 abbrev pub stopped : Said → Said
 stopped s = record { good = false; rest = s.rest; numbers = s.numbers; bytes = s.bytes }
 
-abbrev pub on_number : {A : Type 0} → A → (ℕ → A) → Number → A
-on_number none f Number.Bad = none
-on_number none f (Number.Value n) = f n
+abbrev pub on_number : {A : Type 0} → A → (ℕ → A) → Option ℕ → A
+on_number none f None = none
+on_number none f (Some n) = f n
 
 abbrev pub said_more : ℕ → Said → ℕ → Said
 said_more a s v =

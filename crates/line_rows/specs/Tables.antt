@@ -1,8 +1,15 @@
 -- A program's commands as one table: for each command the key of its first word, the number of its row's items, and the row.
-use Rattle.std.specs.Prelude.{◌≡◌, Bool, false, cond, List, [], ◌∷◌, ℕ, ◌-◌, ◌*◌, ◌/◌, ◌≤◌, ltb, length, take, drop, get_or}
+use Rattle.std.specs.Prelude.{◌≡◌, Bool, false, cond, List, [], ◌∷◌, ℕ, ◌-◌, ◌*◌, ◌/◌, ltb, length, take, drop, get_or}
 use Rattle.text.specs.Words.{head_of, tail_of}
 use Rattle.line_rows.specs.declared.table.Told.{Told}
 use Rattle.line_rows.specs.Rows.{spells_of, Said, read_by, good_by, over}
+
+-- "It may be 140,000 bytes long": a longer line is read as an empty one, which is no command
+abbrev pub LONGEST-LINE : ℕ
+LONGEST-LINE = 140000
+
+unfoldable pub shortened : List ℕ → List ℕ
+shortened line = cond (ltb LONGEST-LINE (length line)) [] line
 
 -- a command of a table
 abbrev pub command : ℕ → List ℕ → List ℕ
@@ -41,11 +48,6 @@ module _ (places size : ℕ) (table line : List ℕ) where
   -- the key of the command that it is; 0 for a line that is none
   unfoldable pub key_in : ℕ
   key_in = cond (good_by places size (row_for table line) (tail_of line)) (key_of (command_of 0 (head_of line) table)) 0
-
--- a command stands at a place of a table
-pub record Found (name table : List ℕ) (r : ℕ) : Type 0 where
-  pub within : r ≤ length table
-  pub there : drop r table ≡ command_of 0 name table
 
 -- a line read by a table
 pub record Reads (table line lent room : List ℕ) (r : Told) (lent' room' : List ℕ) : Type 0 where

@@ -13,7 +13,7 @@ mod row;
 mod table;
 mod word;
 
-pub use table::{Told, read};
+pub use table::{Told, read, shortened};
 
 pub const NUMBER: u64 = 0;
 

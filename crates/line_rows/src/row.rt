@@ -6,7 +6,6 @@ ghost use Rattle.line_rows.specs.Cursors.{length_laid, StartsAt, stopped_at, sai
 
 use crate::word::value;
 use crate::{BYTES, LIST, OPTIONAL};
-use text::Number;
 
 // Whether a row read all of a line, and how many bytes it said.
 #[derive(Clone, Copy)]
@@ -61,12 +60,7 @@ fn behind_item(line: &[u8], at: usize, a: u64, value: u64) -> usize
 fn stop(s: Cursor) -> Cursor
     ensures { result ≡ stopped_at s }
 {
-    Cursor {
-        good: false,
-        at: s.at,
-        numbers: s.numbers,
-        bytes: s.bytes,
-    }
+    Cursor { good: false, ..s }
 }
 
 // Reads one word.
@@ -83,7 +77,7 @@ fn item(line: &[u8], a: u64, b: u64, s: Cursor, numbers: &mut [u64], bytes: &mut
     if n >= numbers.len() {
         return stop(s);
     }
-    let Number::Value(v) = value(text::word(&line[at..]), a, b, &mut bytes[m..]) else {
+    let Some(v) = value(text::word(&line[at..]), a, b, &mut bytes[m..]) else {
         return stop(s);
     };
     numbers[n] = v;
@@ -102,10 +96,10 @@ fn items(line: &[u8], row: &[u64], s: Cursor, numbers: &mut [u64], bytes: &mut [
     ensures { Advances line.now s numbers.old bytes.old (items_of (length numbers.old) (length bytes.old) row.now (said_at line.now s numbers.old bytes.old)) result numbers.new bytes.new }
 {
     let mut r = s;
-    let mut i = 0;
-    while row.len() - i > 1 {
-        r = item(line, row[i], row[i + 1], r, numbers, bytes);
-        i += 2;
+    let mut left = row;
+    while let [a, b, rest @ ..] = left {
+        r = item(line, *a, *b, r, numbers, bytes);
+        left = rest;
     }
     r
 }
@@ -123,10 +117,8 @@ fn list_turns(
     ensures { Advances line.now s numbers.old bytes.old (list_of (length numbers.old) (length bytes.old) count row.now (said_at line.now s numbers.old bytes.old)) result numbers.new bytes.new }
 {
     let mut r = s;
-    let mut i = 0;
-    while i < count {
+    for _turn in 0..count {
         r = items(line, row, r, numbers, bytes);
-        i += 1;
     }
     r
 }
@@ -230,13 +222,11 @@ pub(crate) fn read_row(line: &[u8], row: &[u64], numbers: &mut [u64], bytes: &mu
         bytes: 0,
     };
     let mut skip = 0;
-    let mut i = 0;
-    while row.len() - i > 1 {
-        let a = row[i];
-        let b = row[i + 1];
-        i += 2;
-        r = item_or_list(line, skip, a, b, &row[i..], r, numbers, bytes);
-        skip = left_out(skip, a, b);
+    let mut left = row;
+    while let [a, b, rest @ ..] = left {
+        r = item_or_list(line, skip, *a, *b, rest, r, numbers, bytes);
+        skip = left_out(skip, *a, *b);
+        left = rest;
     }
     RowRead {
         good: all_said(r, line.len()),

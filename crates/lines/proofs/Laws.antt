@@ -3,21 +3,18 @@ use mathlib.Core.Path.{◌≡◌, refl, sym, ap, ◌∙◌}
 use mathlib.Core.Bool.{Bool, true, false, true≢false, cond, ◌&&◌, ◌||◌, and-eq-true_iff}
 use mathlib.Core.List.{List, [], ◌∷◌}
 use Prim.Native.Nat.{ℕ, suc, ◌+◌, ◌-◌, ◌≤◌, ◌<◌}
-use native.Mathlib.Numerals.{add-one}
 use native.Mathlib.Omega.{arith}
 use borrow.Author.Tests.{lt-ltb, le-ltb, ltb-true, ltb-false, leb-true, eq-eqb}
 use borrow.Rule.Slice.PartMut.{mid_of, put_mid, take_put, mid_len}
 use lib.Dec.{ltb, leb, eqb}
-use lib.IntN.{ℤ, pos, negsuc}
-use lib.Signed.{lt_z}
-use lib.ListN.{length, get_or, take, drop, set, length-set, length-drop}
-use lib.Seq.{length-take-le, take-add, drop_at, get_or-drop, paste, paste-zero, paste-suc, take-paste, drop-paste, length-paste}
+use lib.ListN.{length, take, drop, length-drop}
+use lib.Seq.{length-take-le, take-add, drop_at, paste, take-paste, length-paste}
 use Rattle.facts.proofs.Tests.{clash}
 use Rattle.octets.specs.Bytes.{index_of, index_after, slice}
 use Rattle.lines.specs.declared.Input.{Input}
 use Rattle.lines.specs.declared.Found.{Found}
 use Rattle.lines.specs.declared.Found.TheVariants.{More, End, Line, Over, Failed}
-use Rattle.lines.specs.Unread.{tidy_of, rest_of, line_of, last_of, found_of, next_of, lost_of, kept_of, failed_by, read_of, Behind, Filled}
+use Rattle.lines.specs.Unread.{tidy_of, rest_of, line_of, last_of, found_of, next_of, lost_of, kept_of, read_of, Behind, Filled}
 
 -- ---- where what is unread lies
 
@@ -62,67 +59,13 @@ module _ (input : Input) where
         unfolding found_of
         next_more f g = sym (rw (le-ltb to input.have h, f, g)) ∙ found_is
 
--- ---- bytes moved down
-
-pub record Moves (buffer : List ℕ) (from n i : ℕ) (buffer' : List ℕ) : Type 0 where
-  pub within : i ≤ n
-  pub bytes : buffer' ≡ paste buffer 0 (drop from buffer) i
-  pub size : length buffer' ≡ length buffer
-
-pub move_none : (buffer : List ℕ) (from n : ℕ) → Moves buffer from n 0 buffer
-move_none buffer from n = record { within = omega arith; bytes = paste-zero buffer 0 (drop from buffer); size = refl }
-
--- a byte is read behind what was written
-pub move_on : {buffer : List ℕ} {from n i : ℕ} {buffer' : List ℕ} → Moves buffer from n i buffer' → from + n ≤ length buffer → i < n
-    → Moves buffer from n (i + 1) (set buffer' i (get_or buffer' (from + i) 0))
-move_on {buffer} {from} {n} {i} {buffer'} k room h = record {
-  within = omega arith;
-  bytes =
-      rw k.bytes
-      (ap (λ (m : ℕ). set part m (get_or part (from + i) 0)) z
-      ∙ ap (set part (0 + i)) same
-      ∙ rw (add-one i) (paste-suc buffer 0 (drop from buffer) i 0 (omega arith) fits));
-  size = simp length-set k.size;
-}
-  where
-    part : List ℕ
-    part = paste buffer 0 (drop from buffer) i
-
-    z : i ≡ 0 + i
-    z = omega arith
-
-    fits : i < length (drop from buffer)
-    fits = simp length-drop (omega arith)
-
-    far : (l : List ℕ) → get_or l (from + i) 0 ≡ get_or (drop (0 + i) l) from 0
-    far l = let e : from + i ≡ 0 + i + from = omega arith in ap (λ (m : ℕ). get_or l m 0) e ∙ sym (get_or-drop (0 + i) l from 0)
-
-    same : get_or part (from + i) 0 ≡ get_or (drop from buffer) i 0
-    same =
-        far part
-        ∙ ap (λ (l : List ℕ). get_or l from 0) (drop-paste buffer 0 (drop from buffer) i (omega arith) (omega (arith, fits)))
-        ∙ sym (far buffer)
-        ∙ sym (get_or-drop from buffer i 0)
-
-pub move_end : {buffer : List ℕ} {from n i : ℕ} {buffer' : List ℕ} → Moves buffer from n i buffer' → n ≤ i
-    → buffer' ≡ paste buffer 0 (drop from buffer) n
-move_end {buffer} {from} {n} {i} k h = let e : i ≡ n = omega (arith, k.within) in k.bytes ∙ ap (paste buffer 0 (drop from buffer)) e
-
 -- ---- reading more
 
--- the code compares an answer with 0
-pub read_is : (answer : ℤ) (kept have : ℕ) (dropped : Bool)
-    → ◌≡◌ {A = Input} (record { at = 0; have = have; over = dropped; ended = eqb have kept; failed = lt_z answer (pos 0) }) (read_of answer kept have dropped)
-unfolding read_of
-read_is (pos n) kept have dropped = rw (le-ltb n 0 (omega arith))
-read_is (negsuc n) kept have dropped = refl
-
 -- what a read leaves in the part behind the bytes that are kept
-pub behind_is : (buffer : List ℕ) (kept got : ℕ) (answer : ℤ) (dropped : Bool) (part : List ℕ) {r : Input} → kept ≤ length buffer
-    → length part ≡ length (mid_of kept (length buffer - kept) buffer) → got ≤ length part → (failed_by answer ≡ true → got ≡ 0)
-    → r ≡ read_of answer kept (kept + got) dropped → Behind buffer kept dropped r (put_mid kept (length buffer - kept) buffer part)
-unfolding read_of
-behind_is buffer kept got answer dropped part h e l c p =
+pub behind_is : (buffer : List ℕ) (kept got : ℕ) (failed dropped : Bool) (part : List ℕ) {r : Input} → kept ≤ length buffer
+    → length part ≡ length (mid_of kept (length buffer - kept) buffer) → got ≤ length part → (failed ≡ true → got ≡ 0)
+    → r ≡ read_of failed kept (kept + got) dropped → Behind buffer kept dropped r (put_mid kept (length buffer - kept) buffer part)
+behind_is buffer kept got failed dropped part h e l c p =
     let room : length (mid_of kept (length buffer - kept) buffer) ≡ length buffer - kept = mid_len kept (length buffer) buffer (omega arith) in
     rw p
     (record {

@@ -1,5 +1,5 @@
 -- What was read of an input and isn't handed on yet.
-use Rattle.std.specs.Prelude.{◌≡◌, Bool, true, false, not, cond, ◌&&◌, ◌||◌, List, [], ℕ, ◌+◌, ◌≤◌, ltb, leb, eqb, ℤ, pos, negsuc, length, take}
+use Rattle.std.specs.Prelude.{◌≡◌, Bool, true, false, not, cond, ◌&&◌, ◌||◌, List, [], ℕ, ◌+◌, ◌≤◌, ltb, leb, eqb, length, take}
 use Rattle.octets.specs.Bytes.{index_of, slice}
 use Rattle.lines.specs.declared.Input.{Input}
 use Rattle.lines.specs.declared.Found.{Found}
@@ -48,14 +48,9 @@ unfoldable pub kept_of : List ℕ → Input → List ℕ
 kept_of buffer input =
     cond (tidy_of (length buffer) input && not (lost_of (length buffer) input)) (slice input.at input.have buffer) []
 
--- a read answers -1, "failed", or a count
-abbrev pub failed_by : ℤ → Bool
-failed_by (pos n) = false
-failed_by (negsuc n) = true
-
 -- what a read makes of an input: at its end where no byte came behind those that are kept
-unfoldable pub read_of : ℤ → ℕ → ℕ → Bool → Input
-read_of answer kept have dropped = record { at = 0; have = have; over = dropped; ended = eqb have kept; failed = failed_by answer }
+abbrev pub read_of : Bool → ℕ → ℕ → Bool → Input
+read_of failed kept have dropped = record { at = 0; have = have; over = dropped; ended = eqb have kept; failed = failed }
 
 -- bytes at the start of a buffer stay, and more may stand behind them; where none do, the input is at its end, and only there may the read have failed
 pub record Behind (buffer : List ℕ) (kept : ℕ) (dropped : Bool) (r : Input) (buffer' : List ℕ) : Type 0 where

@@ -4,7 +4,6 @@
 #![tactic(auto)]
 
 ghost use Rattle.std.specs.Prelude.{◌≡◌, ◌+◌, ◌≤◌, length, drop};
-ghost use Rattle.std.proofs.Math.Seq.{paste};
 ghost use Rattle.lines.specs.Unread.{start_of, tidy_of, line_of, last_of, next_of, lost_of, read_of, Behind, Filled};
 
 use std::io;
@@ -57,7 +56,7 @@ pub fn start() -> Input
 }
 
 // Whether what is unread lies within a buffer.
-fn tidy(input: Input, size: usize) -> bool
+pub fn tidy(input: Input, size: usize) -> bool
     ensures { result ≡ tidy_of size input }
 {
     if input.at > input.have {
@@ -136,28 +135,16 @@ fn lost(input: Input, size: usize) -> bool
     input.have == size
 }
 
-// Moves bytes from an index to the start; the two stretches may overlap.
-fn move_down(buffer: &mut [u8], from: usize, n: usize)
-    requires { from + n ≤ length buffer.old }
-    ensures { buffer.new ≡ paste buffer.old 0 (drop from buffer.old) n }
-{
-    let mut i = 0;
-    while i < n {
-        buffer[i] = buffer[from + i];
-        i += 1;
-    }
-}
-
-// What a read answered, with the bytes that are there now: below 0 it failed, and without a byte nothing more comes.
-fn after(answer: isize, kept: usize, have: usize, over: bool) -> Input
-    ensures { result ≡ read_of answer kept have over }
+// What a read leaves, with the bytes that are there now: without a new one nothing more comes.
+fn after(failed: bool, kept: usize, have: usize, over: bool) -> Input
+    ensures { result ≡ read_of failed kept have over }
 {
     Input {
         at: 0,
         have,
         over,
         ended: have == kept,
-        failed: answer < 0,
+        failed,
     }
 }
 
@@ -168,9 +155,8 @@ fn read_behind<R: Read>(reader: &mut R, buffer: &mut [u8], kept: usize, over: bo
 {
     let part = &mut buffer[kept..];
     match reader.read(part) {
-        // Of a count, only that it isn't below 0 is asked: one that fills half of all memory has no number of its own there.
-        Ok(n) => after(0, kept, kept + n, over),
-        Err(_) => after(-1, kept, kept, over),
+        Ok(n) => after(false, kept, kept + n, over),
+        Err(_) => after(true, kept, kept, over),
     }
 }
 
@@ -190,8 +176,6 @@ pub fn fill<R: Read>(reader: &mut R, buffer: &mut [u8], input: Input) -> Input
     if lost(input, buffer.len()) {
         return read_behind(reader, buffer, 0, true);
     }
-    let at = input.at;
-    let n = input.have - at;
-    move_down(buffer, at, n);
-    read_behind(reader, buffer, n, false)
+    buffer.copy_within(input.at..input.have, 0);
+    read_behind(reader, buffer, input.have - input.at, false)
 }

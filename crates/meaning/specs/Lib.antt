@@ -1,4 +1,3 @@
-pub mod Cells
 pub mod Kinds
 pub mod Statuses
 pub mod StatusKinds

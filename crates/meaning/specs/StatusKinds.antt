@@ -1,26 +1,25 @@
 -- Document 01, "Messages": "Status 0: not operational; 1 to 7: operational; 8 to 15: unknown, and not operational for us.", and document 02, §6, in plain numbers.
-use Rattle.std.specs.Prelude.{ℕ, ◌+◌, ◌/◌, ◌%◌, ◌^◌, ◌≤◌, Bool, true, false, ◌&&◌, List, [], ◌∷◌, ◌≡◌, leb}
+use Rattle.std.specs.Prelude.{ℕ, ◌+◌, ◌/◌, ◌%◌, ◌^◌, ◌≤◌, Bool, true, false, ◌&&◌, List, [], ◌∷◌, ◌≡◌, leb, Option, Some, None}
 use Rattle.facts.specs.Tables.{tabulate}
-use Rattle.meaning.specs.declared.message.Status.{Status}
 use Rattle.meaning.specs.Statuses.{operational, unknown}
 
 -- a status that is reported, and lies between two numbers
-pub data Reported (least most : ℕ) : Status → Type 0 where
-  reported : {status : ℕ} → least ≤ status → status ≤ most → Reported least most (Status.Given status)
+pub data Reported (least most : ℕ) : Option ℕ → Type 0 where
+  reported : {status : ℕ} → least ≤ status → status ≤ most → Reported least most (Some status)
 
 -- "Whether a status is operational": 1 to 7, or one of 8 to 15 that the setting's bit makes so
-pub data MaySend (codes : ℕ) : Status → Type 0 where
-  always : {status : ℕ} → 1 ≤ status → status ≤ 7 → MaySend codes (Status.Given status)
-  configured : {place : ℕ} → place ≤ 7 → codes / 2 ^ place % 2 ≡ 1 → MaySend codes (Status.Given (8 + place))
+pub data MaySend (codes : ℕ) : Option ℕ → Type 0 where
+  always : {status : ℕ} → 1 ≤ status → status ≤ 7 → MaySend codes (Some status)
+  configured : {place : ℕ} → place ≤ 7 → codes / 2 ^ place % 2 ≡ 1 → MaySend codes (Some (8 + place))
 
 -- "8 to 15: unknown", "unless configured otherwise": one of 8 to 15 whose bit the setting leaves at 0
-pub data NotKnown (codes : ℕ) : Status → Type 0 where
-  unconfigured : {place : ℕ} → place ≤ 7 → codes / 2 ^ place % 2 ≡ 0 → NotKnown codes (Status.Given (8 + place))
+pub data NotKnown (codes : ℕ) : Option ℕ → Type 0 where
+  unconfigured : {place : ℕ} → place ≤ 7 → codes / 2 ^ place % 2 ≡ 0 → NotKnown codes (Some (8 + place))
 
 -- document 01's sentence, which "the default" leaves as it was
-abbrev pub operational_by_default : Status → Bool
-operational_by_default Status.Absent = false
-operational_by_default (Status.Given status) = leb 1 status && leb status 7
+abbrev pub operational_by_default : Option ℕ → Bool
+operational_by_default None = false
+operational_by_default (Some status) = leb 1 status && leb status 7
 
 -- each of the sixteen under a setting, with whether it is operational, and whether it is unknown
 pub data OneOfThree (codes : ℕ) : (status : ℕ) (is_operational is_unknown : Bool) → Type 0 where
@@ -37,8 +36,8 @@ pub record Row : Type 0 where
 
 abbrev pub Right : Row → Type 0
 Right row =
-    (tabulate 10 (λ place. operational (record { 0 = row.codes }) (Status.Given (7 + place))) ≡ row.from_seven)
-    × (tabulate 10 (λ place. unknown (record { 0 = row.codes }) (Status.Given (7 + place))) ≡ row.unknown_from_seven)
+    (tabulate 10 (λ place. operational (record { 0 = row.codes }) (Some (7 + place))) ≡ row.from_seven)
+    × (tabulate 10 (λ place. unknown (record { 0 = row.codes }) (Some (7 + place))) ≡ row.unknown_from_seven)
 
 abbrev pub AllRight : List Row → Type 0
 AllRight [] = Unit {0}

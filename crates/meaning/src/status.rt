@@ -2,7 +2,6 @@
 ghost use Rattle.std.specs.Prelude.{◌<◌, ◌≡◌};
 ghost use Rattle.meaning.specs.Statuses.{bit_of, code_operational, operational};
 
-use crate::message::Status;
 use quantity::limit::HIGHEST_STATUS;
 
 const FIRST_OPERATIONAL: u8 = 1;
@@ -38,11 +37,11 @@ fn is_code_operational(codes: StatusCodes, code: u8) -> bool
 }
 
 // Whether a channel of this status may send: 1 to 7, and 8 to 15 as the setting has it.
-pub fn is_operational(codes: StatusCodes, status: Status) -> bool
+pub fn is_operational(codes: StatusCodes, status: Option<u8>) -> bool
     ensures { result ≡ operational codes status }
 {
     match status {
-        Status::Absent => false,
-        Status::Given(code) => is_code_operational(codes, code),
+        None => false,
+        Some(code) => is_code_operational(codes, code),
     }
 }

@@ -1,4 +1,7 @@
 -- What `write_control` writes, `read_control` reads back to the words of the same message. Assumes nothing.
+use Rattle.std.specs.Prelude.{Some, None, Result, Ok, Err}
+use Rattle.quantity.specs.declared.count.ByteCount.{ByteCount}
+use Rattle.quantity.specs.declared.refusal.Refusal.{Refusal}
 use Prim.Native.Nat.{ℕ, ◌+◌, ◌<◌}
 use mathlib.Core.Path.{◌≡◌, refl, sym, ap, subst, ◌∙◌}
 use mathlib.Core.List.{List}
@@ -11,14 +14,10 @@ use Rattle.facts.specs.Tables.{tabulate}
 use Rattle.facts.proofs.Tests.{by_le}
 use Rattle.facts.proofs.Tables.{length_tabulate, get_d_tabulate}
 use Rattle.quantity.specs.Limits.{CHANNEL-IDS}
-use Rattle.meaning.specs.declared.message.Datalink.{Datalink}
-use Rattle.meaning.specs.declared.message.Sequence.{Sequence}
 use Rattle.meaning.specs.declared.message.Window.{Window}
-use Rattle.meaning.specs.Cells.{no_sequence, no_window}
 use Rattle.reader.specs.Readings.{read_control}
 use Rattle.read_control.specs.Message.{control_accepted}
 use Rattle.writable.specs.Allowed.{control_allowed}
-use Rattle.writer.specs.declared.answer.WriteAnswer.{WriteAnswer}
 use Rattle.writer.specs.Written as written
 use Rattle.writer.specs.Written.{control_written, answer_to}
 use Rattle.roundtrip.specs.Values.{SequenceWord, WindowWord, ControlValue}
@@ -40,7 +39,7 @@ sequence_word : (tag value : ℕ) → fits tag GIVEN value HALF ≡ true → Seq
 unfolding sequence_of
 sequence_word tag value h = go (eqb tag ABSENT) refl
   where
-    go : (b : Bool) → eqb tag ABSENT ≡ b → SequenceWord (cond b Sequence.Absent (Sequence.Given (record { 0 = value })))
+    go : (b : Bool) → eqb tag ABSENT ≡ b → SequenceWord (cond b None (Some (record { 0 = value })))
     go true e = tt
     go false e = fits_given tag value HALF h (eqb-false tag ABSENT e)
 
@@ -48,7 +47,7 @@ window_word_lem : (tag value : ℕ) → fits tag FIELD-GIVEN value HALF ≡ true
 unfolding window_of
 window_word_lem tag value h = go (eqb tag ABSENT) (eqb tag FIELD-EMPTY) refl refl
   where
-    go : (a b : Bool) → eqb tag ABSENT ≡ a → eqb tag FIELD-EMPTY ≡ b → WindowWord (cond a Window.Absent (cond b Window.Empty (Window.Given (record { 0 = value }))))
+    go : (a b : Bool) → eqb tag ABSENT ≡ a → eqb tag FIELD-EMPTY ≡ b → WindowWord (cond a None (cond b (Some Window.Empty) (Some (Window.Given (record { 0 = value })))))
     go true b e f = tt
     go false true e f = tt
     go false false e f = fits_field tag value HALF h (eqb-false tag ABSENT e) (eqb-false tag FIELD-EMPTY f)
@@ -66,16 +65,16 @@ control_value_of w says = record {
   statuses_long = length_tabulate CHANNEL-IDS _;
   sequences_long = length_tabulate CHANNEL-IDS _;
   windows_long = length_tabulate CHANNEL-IDS _;
-  sequence_words = each_below (λ cell. SequenceWord cell.sequence) no_sequence CHANNEL-IDS (λ id. sequence_at w (channel_start id)) tt
+  sequence_words = each_below (λ cell. SequenceWord cell) None CHANNEL-IDS (λ id. sequence_at w (channel_start id)) tt
       (λ id h. sequence_word (word w (channel_start id + layout.SEQUENCE-TAG)) (word w (channel_start id + layout.SEQUENCE-VALUE)) (says.channels id h).sequence);
-  window_words = each_below (λ cell. WindowWord cell.window) no_window CHANNEL-IDS (λ id. window_at w (channel_start id)) tt
+  window_words = each_below (λ cell. WindowWord cell) None CHANNEL-IDS (λ id. window_at w (channel_start id)) tt
       (λ id h. window_word_lem (word w (channel_start id + layout.WINDOW-TAG)) (word w (channel_start id + layout.WINDOW-VALUE)) (says.channels id h).window);
 }
 
 -- an answer that a message was written
-wrote_is : (answer : WriteAnswer) (count : ℕ) → written_as answer ≡ wrote count → answer ≡ WriteAnswer.Wrote (record { 0 = count })
-wrote_is (WriteAnswer.Wrote bytes) count e = let same : bytes.0 ≡ count = cc in ap (λ (n : ℕ). WriteAnswer.Wrote (record { 0 = n })) same
-wrote_is (WriteAnswer.Refused refusal) count e = let z : ◌≡◌ {A = ℕ} 0 1 = cc in absurd (omega arith)
+wrote_is : (answer : Result ByteCount Refusal) (count : ℕ) → written_as answer ≡ wrote count → answer ≡ Ok (record { 0 = count })
+wrote_is (Ok bytes) count e = let same : bytes.0 ≡ count = cc in ap (λ (n : ℕ). Ok (record { 0 = n })) same
+wrote_is (Err refusal) count e = let z : ◌≡◌ {A = ℕ} 0 1 = cc in absurd (omega arith)
 
 -- nothing is written where nothing may be
 may_write : (may : Bool) (message : List ℕ) (room count : ℕ) → written_as (answer_to may message room) ≡ wrote count → may ≡ true
@@ -91,7 +90,7 @@ may_parts end meaning h =
 -- What was written from words is read back, by the same end and the Datalink ID that it states, into the words of the same message.
 pub words_returned : (end datalink count : ℕ) (meaning out : List ℕ) (answer : Answer) (out' : List ℕ) (lent : List ℕ) (answer' : Answer) (lent' : List ℕ)
     → WritesControl end meaning out answer out' → answer ≡ code_of (wrote count)
-    → (control_of meaning).datalink ≡ Datalink.Given (record { 0 = datalink })
+    → (control_of meaning).datalink ≡ Some (record { 0 = datalink })
     → length lent ≡ CONTROL-WORDS → ReadsControl (take count out') end datalink lent answer' lent'
     → (answer' ≡ code_of accepted) × (lent' ≡ control_words (control_of meaning))
 unfolding control_accepted

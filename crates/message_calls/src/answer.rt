@@ -1,7 +1,7 @@
 // Whose message it is, by its number, and what a reader answers, as numbers. specs/Calls.antt has the same names, with `-` for `_`.
-ghost use Rattle.std.specs.Prelude.{◌≡◌};
+ghost use Rattle.std.specs.Prelude.{◌≡◌, cond, Some, None};
 ghost use Rattle.answer_codes.specs.Codes.{code_of};
-ghost use Rattle.message_calls.specs.Calls.{is_end, end_of, is_accepted, verdict_as, refused_by};
+ghost use Rattle.message_calls.specs.Calls.{is_end, end_of, verdict_as, refused_by};
 
 use answer_codes::{ACCEPTED, Answer, OTHER_PLANE, plain, refused};
 use meaning::message::End;
@@ -12,19 +12,16 @@ pub const IPS_END: u8 = 0;
 
 pub const RADIO_END: u8 = 1;
 
-pub(crate) fn is_end(end: u8) -> bool
-    ensures { result ≡ is_end end }
+// None where a number is no end's.
+#[tactic(auto, unfolding(crate::specs::Calls::end_of))]
+pub(crate) fn end_of(end: u8) -> Option<End>
+    ensures { result ≡ cond (is_end end) (Some (end_of end)) None }
 {
-    end <= RADIO_END
-}
-
-pub(crate) fn end_of(end: u8) -> End
-    ensures { result ≡ end_of end }
-{
-    if end == IPS_END {
-        return End::Ips;
+    match end {
+        IPS_END => Some(End::Ips),
+        RADIO_END => Some(End::Radio),
+        _ => None,
     }
-    End::Radio
 }
 
 // A refusal of the call itself has place 0.
@@ -32,16 +29,6 @@ pub(crate) fn refused_by(number: u8) -> Answer
     ensures { result ≡ code_of (refused_by number) }
 {
     refused(Refusal { number, place: 0 })
-}
-
-pub(crate) fn is_accepted(verdict: Verdict) -> bool
-    ensures { result ≡ is_accepted verdict }
-{
-    match verdict {
-        Verdict::Accepted => true,
-        Verdict::OtherPlane => false,
-        Verdict::Refused(_) => false,
-    }
 }
 
 pub(crate) fn of_verdict(verdict: Verdict) -> Answer

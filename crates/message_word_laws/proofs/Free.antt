@@ -1,4 +1,6 @@
 -- What the words of a message state does not rest on words behind an absent tag. Assumes nothing.
+use Rattle.std.specs.Prelude.{Option, Some, None}
+use Rattle.quantity.specs.declared.count.FlowSequence.{FlowSequence}
 use Prim.Native.Nat.{ℕ, zero, suc, ◌<◌}
 use mathlib.Core.Path.{◌≡◌, refl, sym, ap, ap₂}
 use mathlib.Core.Bool.{Bool, true, false, cond}
@@ -8,15 +10,7 @@ use borrow.Author.Tests.{eqb-false}
 use lib.Dec.{eqb}
 use Rattle.facts.specs.Tables.{tabulate}
 use Rattle.quantity.specs.Limits.{CHANNEL-IDS}
-use Rattle.meaning.specs.declared.message.Datalink.{Datalink}
-use Rattle.meaning.specs.declared.message.Instance.{Instance}
-use Rattle.meaning.specs.declared.message.Context.{Context}
-use Rattle.meaning.specs.declared.message.Status.{Status}
-use Rattle.meaning.specs.declared.message.Sequence.{Sequence}
 use Rattle.meaning.specs.declared.message.Window.{Window}
-use Rattle.meaning.specs.declared.message.Counted.{Counted}
-use Rattle.meaning.specs.declared.message.Channel.{Channel}
-use Rattle.meaning.specs.declared.message.Expiration.{Expiration}
 use Rattle.lent_messages.specs.Stated.{datalink_of, instance_of, context_of, status_of, sequence_of, window_of, counted_of, channel_of, expiration_of}
 use Rattle.lent_messages.specs.Words.{word, channel_start, status_at, sequence_at, window_at, control_of, control_spelled, data_of, data_spelled}
 use Rattle.message_word_laws.specs.Plain.{Alike, AlikeChannel, AlikeControl, AlikeData}
@@ -43,10 +37,10 @@ unfolding window_of
 window_alike tag tag' value value' a = rw (sym a.tags) (go (eqb tag 0) (eqb tag 1) refl refl)
   where
     go : (s t : Bool) → eqb tag 0 ≡ s → eqb tag 1 ≡ t
-        → cond s Window.Absent (cond t Window.Empty (Window.Given (record { 0 = value }))) ≡ cond s Window.Absent (cond t Window.Empty (Window.Given (record { 0 = value' })))
+        → cond s None (cond t (Some Window.Empty) (Some (Window.Given (record { 0 = value })))) ≡ cond s None (cond t (Some Window.Empty) (Some (Window.Given (record { 0 = value' }))))
     go true t e f = refl
     go false true e f = refl
-    go false false e f = ap (λ (v : ℕ). Window.Given (record { 0 = v })) (a.values (omega (arith, eqb-false tag 0 e, eqb-false tag 1 f)))
+    go false false e f = ap (λ (v : ℕ). Some (Window.Given (record { 0 = v }))) (a.values (omega (arith, eqb-false tag 0 e, eqb-false tag 1 f)))
 
 tabulate_alike : {A : Type 0} (size : ℕ) (f g : ℕ → A) → ((n : ℕ) → n < size → f n ≡ g n) → tabulate size f ≡ tabulate size g
 unfolding tabulate
@@ -56,27 +50,27 @@ tabulate_alike {A} (suc size) f g h = ap₂ (λ (x : A) (xs : List A). x ∷ xs)
 module _ (w w' : List ℕ) where
   datalink_free : AlikeControl w w' → datalink_of (word w 0) (word w 1) ≡ datalink_of (word w' 0) (word w' 1)
   unfolding datalink_of
-  datalink_free a = one_alike Datalink.Absent (λ v. Datalink.Given (record { 0 = v })) _ _ _ _ a.datalink
+  datalink_free a = one_alike None (λ v. Some (record { 0 = v })) _ _ _ _ a.datalink
 
   instance_free : AlikeControl w w' → instance_of (word w 2) (word w 3) (word w 4) ≡ instance_of (word w' 2) (word w' 3) (word w' 4)
   unfolding instance_of
-  instance_free a = two_alike Instance.Absent (λ v n. Instance.Given (record { 0 = v }) n) _ _ _ _ _ _ a.instance a.instance_length_lem
+  instance_free a = two_alike None (λ v n. Some (record { 0 = v }, n)) _ _ _ _ _ _ a.instance a.instance_length_lem
 
   context_free : AlikeControl w w' → context_of (word w 5) (word w 6) (word w 7) ≡ context_of (word w' 5) (word w' 6) (word w' 7)
   unfolding context_of
-  context_free a = two_alike Context.Absent (λ v n. Context.Given (record { 0 = v }) n) _ _ _ _ _ _ a.context a.context_length_lem
+  context_free a = two_alike None (λ v n. Some (record { 0 = v }, n)) _ _ _ _ _ _ a.context a.context_length_lem
 
   status_free : (from : ℕ) → AlikeChannel w w' from → status_at w from ≡ status_at w' from
   unfolding status_at status_of
-  status_free from a = ap (λ (s : Status). record { status = s }) (one_alike Status.Absent (λ v. Status.Given v) _ _ _ _ a.status)
+  status_free from a = ap (λ (s : Option ℕ). s) (one_alike None (λ v. Some v) _ _ _ _ a.status)
 
   sequence_free : (from : ℕ) → AlikeChannel w w' from → sequence_at w from ≡ sequence_at w' from
   unfolding sequence_at sequence_of
-  sequence_free from a = ap (λ (s : Sequence). record { sequence = s }) (one_alike Sequence.Absent (λ v. Sequence.Given (record { 0 = v })) _ _ _ _ a.sequence)
+  sequence_free from a = ap (λ (s : Option FlowSequence). s) (one_alike None (λ v. Some (record { 0 = v })) _ _ _ _ a.sequence)
 
   window_free : (from : ℕ) → AlikeChannel w w' from → window_at w from ≡ window_at w' from
   unfolding window_at
-  window_free from a = ap (λ (s : Window). record { window = s }) (window_alike _ _ _ _ a.window)
+  window_free from a = ap (λ (s : Option Window). s) (window_alike _ _ _ _ a.window)
 
   pub meaning_free : AlikeControl w w' → control_of w ≡ control_of w'
   unfolding control_of
@@ -114,19 +108,19 @@ absent_free w w' a = (meaning_free w w' a, same_test (control_spelled w) (contro
 module _ (w w' : List ℕ) (a : AlikeData w w') where
   link_free : datalink_of (word w 0) (word w 1) ≡ datalink_of (word w' 0) (word w' 1)
   unfolding datalink_of
-  link_free = one_alike Datalink.Absent (λ v. Datalink.Given (record { 0 = v })) _ _ _ _ a.datalink
+  link_free = one_alike None (λ v. Some (record { 0 = v })) _ _ _ _ a.datalink
 
   counted_free : counted_of (word w 2) (word w 3) (word w 4) ≡ counted_of (word w' 2) (word w' 3) (word w' 4)
   unfolding counted_of
-  counted_free = two_alike Counted.Absent (λ v n. Counted.Given v (record { 0 = n })) _ _ _ _ _ _ a.counted_channel_lem a.counted_sequence_lem
+  counted_free = two_alike None (λ v n. Some (v, record { 0 = n })) _ _ _ _ _ _ a.counted_channel_lem a.counted_sequence_lem
 
   channel_free : channel_of (word w 5) (word w 6) ≡ channel_of (word w' 5) (word w' 6)
   unfolding channel_of
-  channel_free = one_alike Channel.Absent (λ v. Channel.Given v) _ _ _ _ a.channel
+  channel_free = one_alike None (λ v. Some v) _ _ _ _ a.channel
 
   expiration_free : expiration_of (word w 7) (word w 8) ≡ expiration_of (word w' 7) (word w' 8)
   unfolding expiration_of
-  expiration_free = one_alike Expiration.Absent (λ v. Expiration.Given v) _ _ _ _ a.expiration
+  expiration_free = one_alike None (λ v. Some v) _ _ _ _ a.expiration
 
   pub parts_free : data_of w ≡ data_of w'
   unfolding data_of

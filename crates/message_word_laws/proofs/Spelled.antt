@@ -1,4 +1,9 @@
 -- The words of any meaning whose numbers are in range say something. Assumes nothing.
+use Rattle.std.specs.Prelude.{Option, Some, None}
+use Rattle.quantity.specs.declared.count.DatalinkId.{DatalinkId}
+use Rattle.quantity.specs.declared.count.LinkInstanceId.{LinkInstanceId}
+use Rattle.quantity.specs.declared.count.FlowSequence.{FlowSequence}
+use Rattle.meaning.specs.declared.message.ContextBytes.{ContextBytes}
 use Prim.Native.Nat.{ℕ, ◌+◌, ◌*◌, ◌≤◌, ◌<◌}
 use mathlib.Core.Path.{◌≡◌, refl, ◌∙◌}
 use mathlib.Core.Bool.{true}
@@ -7,18 +12,9 @@ use native.Mathlib.Omega.{arith}
 use lib.ListN.{length, get_or}
 use lib.Seq.{get_or-append-add}
 use Rattle.quantity.specs.Limits.{CHANNEL-IDS}
-use Rattle.meaning.specs.declared.message.Datalink.{Datalink}
-use Rattle.meaning.specs.declared.message.Instance.{Instance}
-use Rattle.meaning.specs.declared.message.Context.{Context}
-use Rattle.meaning.specs.declared.message.Status.{Status}
-use Rattle.meaning.specs.declared.message.Sequence.{Sequence}
 use Rattle.meaning.specs.declared.message.Window.{Window}
-use Rattle.meaning.specs.declared.message.Counted.{Counted}
-use Rattle.meaning.specs.declared.message.Channel.{Channel}
-use Rattle.meaning.specs.declared.message.Expiration.{Expiration}
 use Rattle.meaning.specs.declared.message.Control.{Control}
 use Rattle.meaning.specs.declared.message.Data.{Data}
-use Rattle.meaning.specs.Cells.{no_status, no_sequence, no_window}
 use Rattle.lent_messages.specs.Layout.{CHANNEL-WORDS}
 use Rattle.lent_messages.specs.Stated.{datalink_stated, instance_stated, context_stated, status_stated, sequence_stated, window_stated, counted_stated, channel_stated, expiration_stated}
 use Rattle.lent_messages.specs.Words.{head_words, words_at, joined, control_words, control_spelled, data_words, data_spelled}
@@ -33,42 +29,42 @@ absent given value limit h = record { tag_is = omega arith; value_is = λ same. 
 stated : (given value limit : ℕ) → value < limit → Fits given given value limit
 stated given value limit h = record { tag_is = omega arith; value_is = λ same. h }
 
-datalink_fits_lem : (d : Datalink) → DatalinkRange d → Fits (datalink_stated d).tag 1 (datalink_stated d).first 256
-datalink_fits_lem Datalink.Absent h = absent 1 0 256 (omega arith)
-datalink_fits_lem (Datalink.Given id) h = stated 1 id.0 256 h
+datalink_fits_lem : (d : Option DatalinkId) → DatalinkRange d → Fits (datalink_stated d).tag 1 (datalink_stated d).first 256
+datalink_fits_lem None h = absent 1 0 256 (omega arith)
+datalink_fits_lem (Some id) h = stated 1 id.0 256 h
 
-status_fits : (s : Status) → StatusRange s → Fits (status_stated s).tag 1 (status_stated s).first 256
-status_fits Status.Absent h = absent 1 0 256 (omega arith)
-status_fits (Status.Given value) h = stated 1 value 256 h
+status_fits : (s : Option ℕ) → StatusRange s → Fits (status_stated s).tag 1 (status_stated s).first 256
+status_fits None h = absent 1 0 256 (omega arith)
+status_fits (Some value) h = stated 1 value 256 h
 
-sequence_fits : (s : Sequence) → SequenceRange s → Fits (sequence_stated s).tag 1 (sequence_stated s).first 4294967296
-sequence_fits Sequence.Absent h = absent 1 0 4294967296 (omega arith)
-sequence_fits (Sequence.Given value) h = stated 1 value.0 4294967296 h
+sequence_fits : (s : Option FlowSequence) → SequenceRange s → Fits (sequence_stated s).tag 1 (sequence_stated s).first 4294967296
+sequence_fits None h = absent 1 0 4294967296 (omega arith)
+sequence_fits (Some value) h = stated 1 value.0 4294967296 h
 
-window_fits : (w : Window) → WindowRange w → Fits (window_stated w).tag 2 (window_stated w).first 4294967296
-window_fits Window.Absent h = absent 2 0 4294967296 (omega arith)
-window_fits Window.Empty h = record { tag_is = omega arith; value_is = λ same. absurd (omega (arith, same)) }
-window_fits (Window.Given value) h = stated 2 value.0 4294967296 h
+window_fits : (w : Option Window) → WindowRange w → Fits (window_stated w).tag 2 (window_stated w).first 4294967296
+window_fits None h = absent 2 0 4294967296 (omega arith)
+window_fits (Some Window.Empty) h = record { tag_is = omega arith; value_is = λ same. absurd (omega (arith, same)) }
+window_fits (Some (Window.Given value)) h = stated 2 value.0 4294967296 h
 
-counted_fits : (c : Counted) → CountedRange c → Fits (counted_stated c).tag 1 (counted_stated c).first 256 × Fits (counted_stated c).tag 1 (counted_stated c).second 4294967296
-counted_fits Counted.Absent h = (absent 1 0 256 (omega arith), absent 1 0 4294967296 (omega arith))
-counted_fits (Counted.Given id value) h = (stated 1 id 256 h.0, stated 1 value.0 4294967296 h.1)
+counted_fits : (c : Option (ℕ × FlowSequence)) → CountedRange c → Fits (counted_stated c).tag 1 (counted_stated c).first 256 × Fits (counted_stated c).tag 1 (counted_stated c).second 4294967296
+counted_fits None h = (absent 1 0 256 (omega arith), absent 1 0 4294967296 (omega arith))
+counted_fits (Some (id, value)) h = (stated 1 id 256 h.0, stated 1 value.0 4294967296 h.1)
 
-channel_fits_lem : (c : Channel) → ChannelRange c → Fits (channel_stated c).tag 1 (channel_stated c).first 256
-channel_fits_lem Channel.Absent h = absent 1 0 256 (omega arith)
-channel_fits_lem (Channel.Given id) h = stated 1 id 256 h
+channel_fits_lem : (c : Option ℕ) → ChannelRange c → Fits (channel_stated c).tag 1 (channel_stated c).first 256
+channel_fits_lem None h = absent 1 0 256 (omega arith)
+channel_fits_lem (Some id) h = stated 1 id 256 h
 
-expiration_fits : (e : Expiration) → ExpirationRange e → Fits (expiration_stated e).tag 1 (expiration_stated e).first 4294967296
-expiration_fits Expiration.Absent h = absent 1 0 4294967296 (omega arith)
-expiration_fits (Expiration.Given time) h = stated 1 time 4294967296 h
+expiration_fits : (e : Option ℕ) → ExpirationRange e → Fits (expiration_stated e).tag 1 (expiration_stated e).first 4294967296
+expiration_fits None h = absent 1 0 4294967296 (omega arith)
+expiration_fits (Some time) h = stated 1 time 4294967296 h
 
-instance_tag : (i : Instance) → (instance_stated i).tag ≤ 1
-instance_tag Instance.Absent = omega arith
-instance_tag (Instance.Given id size) = omega arith
+instance_tag : (i : Option (LinkInstanceId × ℕ)) → (instance_stated i).tag ≤ 1
+instance_tag None = omega arith
+instance_tag (Some (id, size)) = omega arith
 
-context_tag_lem : (c : Context) → (context_stated c).tag ≤ 1
-context_tag_lem Context.Absent = omega arith
-context_tag_lem (Context.Given bytes size) = omega arith
+context_tag_lem : (c : Option (ContextBytes × ℕ)) → (context_stated c).tag ≤ 1
+context_tag_lem None = omega arith
+context_tag_lem (Some (bytes, size)) = omega arith
 
 -- ---- a control message
 module _ (m : Control) where
@@ -89,9 +85,9 @@ module _ (m : Control) where
   channel_range : ControlRange m → (id : ℕ) → id < 255 → PlainChannel (control_words m) (8 + 6 * id)
   unfolding words_at
   channel_range r id h = record {
-    status = rw (word_at id 0 h (omega arith), word_at id 1 h (omega arith)) (status_fits (get_or m.statuses id no_status).status (r.statuses id h));
-    sequence = rw (word_at id 2 h (omega arith), word_at id 3 h (omega arith)) (sequence_fits (get_or m.sequences id no_sequence).sequence (r.sequences id h));
-    window = rw (word_at id 4 h (omega arith), word_at id 5 h (omega arith)) (window_fits (get_or m.windows id no_window).window (r.windows id h));
+    status = rw (word_at id 0 h (omega arith), word_at id 1 h (omega arith)) (status_fits (get_or m.statuses id None) (r.statuses id h));
+    sequence = rw (word_at id 2 h (omega arith), word_at id 3 h (omega arith)) (sequence_fits (get_or m.sequences id None) (r.sequences id h));
+    window = rw (word_at id 4 h (omega arith), word_at id 5 h (omega arith)) (window_fits (get_or m.windows id None) (r.windows id h));
   }
 
   head_range : ControlRange m → Fits (get_or (control_words m) 0 0) 1 (get_or (control_words m) 1 0) 256 × ((get_or (control_words m) 2 0 ≤ 1) × (get_or (control_words m) 5 0 ≤ 1))

@@ -1,15 +1,10 @@
 -- The words of a message in plain numbers: no name of an offset, a tag or a width is used here.
-use Rattle.std.specs.Prelude.{ℕ, ◌+◌, ◌*◌, ◌≤◌, ◌<◌, ◌≡◌, List, length, get_or}
-use Rattle.meaning.specs.declared.message.Datalink.{Datalink}
-use Rattle.meaning.specs.declared.message.Status.{Status}
-use Rattle.meaning.specs.declared.message.Sequence.{Sequence}
+use Rattle.quantity.specs.declared.count.DatalinkId.{DatalinkId}
+use Rattle.quantity.specs.declared.count.FlowSequence.{FlowSequence}
+use Rattle.std.specs.Prelude.{ℕ, ◌+◌, ◌*◌, ◌≤◌, ◌<◌, ◌≡◌, List, length, get_or, Option, Some, None}
 use Rattle.meaning.specs.declared.message.Window.{Window}
-use Rattle.meaning.specs.declared.message.Counted.{Counted}
-use Rattle.meaning.specs.declared.message.Channel.{Channel}
-use Rattle.meaning.specs.declared.message.Expiration.{Expiration}
 use Rattle.meaning.specs.declared.message.Control.{Control}
 use Rattle.meaning.specs.declared.message.Data.{Data}
-use Rattle.meaning.specs.Cells.{no_status, no_sequence, no_window}
 
 -- a tag that there is, and a value below the limit where the tag gives one
 pub record Fits (tag given value limit : ℕ) : Type 0 where
@@ -68,40 +63,40 @@ pub record AlikeData (words words' : List ℕ) : Type 0 where
   pub expiration : Alike 1 (get_or words 7 0) (get_or words' 7 0) (get_or words 8 0) (get_or words' 8 0)
 
 -- ---- numbers in range, of a meaning
-abbrev pub DatalinkRange : Datalink → Type 0
-DatalinkRange Datalink.Absent = Unit {0}
-DatalinkRange (Datalink.Given id) = id.0 < 256
+abbrev pub DatalinkRange : Option DatalinkId → Type 0
+DatalinkRange None = Unit {0}
+DatalinkRange (Some id) = id.0 < 256
 
-abbrev pub StatusRange : Status → Type 0
-StatusRange Status.Absent = Unit {0}
-StatusRange (Status.Given value) = value < 256
+abbrev pub StatusRange : Option ℕ → Type 0
+StatusRange None = Unit {0}
+StatusRange (Some value) = value < 256
 
-abbrev pub SequenceRange : Sequence → Type 0
-SequenceRange Sequence.Absent = Unit {0}
-SequenceRange (Sequence.Given sequence) = sequence.0 < 4294967296
+abbrev pub SequenceRange : Option FlowSequence → Type 0
+SequenceRange None = Unit {0}
+SequenceRange (Some sequence) = sequence.0 < 4294967296
 
-abbrev pub WindowRange : Window → Type 0
-WindowRange Window.Absent = Unit {0}
-WindowRange Window.Empty = Unit {0}
-WindowRange (Window.Given window) = window.0 < 4294967296
+abbrev pub WindowRange : Option Window → Type 0
+WindowRange None = Unit {0}
+WindowRange (Some Window.Empty) = Unit {0}
+WindowRange (Some (Window.Given window)) = window.0 < 4294967296
 
-abbrev pub CountedRange : Counted → Type 0
-CountedRange Counted.Absent = Unit {0}
-CountedRange (Counted.Given channel sequence) = (channel < 256) × (sequence.0 < 4294967296)
+abbrev pub CountedRange : Option (ℕ × FlowSequence) → Type 0
+CountedRange None = Unit {0}
+CountedRange (Some (channel, sequence)) = (channel < 256) × (sequence.0 < 4294967296)
 
-abbrev pub ChannelRange : Channel → Type 0
-ChannelRange Channel.Absent = Unit {0}
-ChannelRange (Channel.Given id) = id < 256
+abbrev pub ChannelRange : Option ℕ → Type 0
+ChannelRange None = Unit {0}
+ChannelRange (Some id) = id < 256
 
-abbrev pub ExpirationRange : Expiration → Type 0
-ExpirationRange Expiration.Absent = Unit {0}
-ExpirationRange (Expiration.Given time) = time < 4294967296
+abbrev pub ExpirationRange : Option ℕ → Type 0
+ExpirationRange None = Unit {0}
+ExpirationRange (Some time) = time < 4294967296
 
 pub record ControlRange (m : Control) : Type 0 where
   pub datalink : DatalinkRange m.datalink
-  pub statuses : (id : ℕ) → id < 255 → StatusRange (get_or m.statuses id no_status).status
-  pub sequences : (id : ℕ) → id < 255 → SequenceRange (get_or m.sequences id no_sequence).sequence
-  pub windows : (id : ℕ) → id < 255 → WindowRange (get_or m.windows id no_window).window
+  pub statuses : (id : ℕ) → id < 255 → StatusRange (get_or m.statuses id None)
+  pub sequences : (id : ℕ) → id < 255 → SequenceRange (get_or m.sequences id None)
+  pub windows : (id : ℕ) → id < 255 → WindowRange (get_or m.windows id None)
 
 pub record DataRange (m : Data) : Type 0 where
   pub datalink : DatalinkRange m.datalink

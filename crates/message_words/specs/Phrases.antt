@@ -1,17 +1,13 @@
 -- docs/SESSION.md: "A meaning is `control ID` or `data ID` and then what is stated, in the writer's order".
-use Rattle.std.specs.Prelude.{List, [], ◌∷◌, ◌++◌, ℕ, suc, min}
+use Rattle.quantity.specs.declared.count.DatalinkId.{DatalinkId}
+use Rattle.quantity.specs.declared.count.LinkInstanceId.{LinkInstanceId}
+use Rattle.quantity.specs.declared.count.FlowSequence.{FlowSequence}
+use Rattle.meaning.specs.declared.message.ContextBytes.{ContextBytes}
+use Rattle.std.specs.Prelude.{List, [], ◌∷◌, ◌++◌, ℕ, suc, min, Option, Some, None}
 use Rattle.quantity.specs.Limits.{LONGEST-NAME}
 use Rattle.quantity.specs.declared.refusal.Refusal.{Refusal}
 use Rattle.wire.specs.Numbers.{bytes_of}
-use Rattle.meaning.specs.declared.message.Datalink.{Datalink}
-use Rattle.meaning.specs.declared.message.Instance.{Instance}
-use Rattle.meaning.specs.declared.message.Context.{Context}
-use Rattle.meaning.specs.declared.message.Status.{Status}
-use Rattle.meaning.specs.declared.message.Sequence.{Sequence}
 use Rattle.meaning.specs.declared.message.Window.{Window}
-use Rattle.meaning.specs.declared.message.Channel.{Channel}
-use Rattle.meaning.specs.declared.message.Expiration.{Expiration}
-use Rattle.meaning.specs.declared.message.Counted.{Counted}
 use Rattle.meaning.specs.declared.message.Control.{Control}
 use Rattle.meaning.specs.declared.message.Data.{Data}
 use Rattle.text.specs.Laying.{decimal_text}
@@ -77,49 +73,49 @@ one_number label n = label ∷ (decimal_text n ∷ [])
 abbrev pub two_numbers : List ℕ → ℕ → ℕ → List (List ℕ)
 two_numbers label n m = label ∷ (decimal_text n ∷ (SPACE ∷ (decimal_text m ∷ [])))
 
-abbrev pub datalink_texts : Datalink → List (List ℕ)
-datalink_texts Datalink.Absent = []
-datalink_texts (Datalink.Given d) = one_number SPACE d.0
+abbrev pub datalink_texts : Option DatalinkId → List (List ℕ)
+datalink_texts None = []
+datalink_texts (Some d) = one_number SPACE d.0
 
 -- `link LEN VALUE`
-abbrev pub instance_texts : Instance → List (List ℕ)
-instance_texts Instance.Absent = []
-instance_texts (Instance.Given v n) = two_numbers LINK n v.0
+abbrev pub instance_texts : Option (LinkInstanceId × ℕ) → List (List ℕ)
+instance_texts None = []
+instance_texts (Some (v, n)) = two_numbers LINK n v.0
 
 -- `context HEX`; a Context has at most 8 bytes
-abbrev pub context_texts : Context → List (List ℕ)
-context_texts Context.Absent = []
-context_texts (Context.Given b n) = CONTEXT ∷ (bytes_text (bytes_of (min n LONGEST-NAME) b.0) ∷ [])
+abbrev pub context_texts : Option (ContextBytes × ℕ) → List (List ℕ)
+context_texts None = []
+context_texts (Some (b, n)) = CONTEXT ∷ (bytes_text (bytes_of (min n LONGEST-NAME) b.0) ∷ [])
 
 -- `status CHANNEL VALUE`
-abbrev pub status_texts : ℕ → Status → List (List ℕ)
-status_texts channel Status.Absent = []
-status_texts channel (Status.Given s) = two_numbers STATUS channel s
+abbrev pub status_texts : ℕ → Option ℕ → List (List ℕ)
+status_texts channel None = []
+status_texts channel (Some s) = two_numbers STATUS channel s
 
 -- `sequence CHANNEL VALUE`
-abbrev pub sequence_texts : ℕ → Sequence → List (List ℕ)
-sequence_texts channel Sequence.Absent = []
-sequence_texts channel (Sequence.Given s) = two_numbers SEQUENCE channel s.0
+abbrev pub sequence_texts : ℕ → Option FlowSequence → List (List ℕ)
+sequence_texts channel None = []
+sequence_texts channel (Some s) = two_numbers SEQUENCE channel s.0
 
 -- `window CHANNEL VALUE`, "`none` for VALUE where the option has no window"
-abbrev pub window_texts : ℕ → Window → List (List ℕ)
-window_texts channel Window.Absent = []
-window_texts channel Window.Empty = one_number WINDOW channel ++ (NONE ∷ [])
-window_texts channel (Window.Given w) = two_numbers WINDOW channel w.0
+abbrev pub window_texts : ℕ → Option Window → List (List ℕ)
+window_texts channel None = []
+window_texts channel (Some Window.Empty) = one_number WINDOW channel ++ (NONE ∷ [])
+window_texts channel (Some (Window.Given w)) = two_numbers WINDOW channel w.0
 
-abbrev pub counted_texts : Counted → List (List ℕ)
-counted_texts Counted.Absent = []
-counted_texts (Counted.Given channel s) = two_numbers SEQUENCE channel s.0
+abbrev pub counted_texts : Option (ℕ × FlowSequence) → List (List ℕ)
+counted_texts None = []
+counted_texts (Some (channel, s)) = two_numbers SEQUENCE channel s.0
 
 -- `channel CHANNEL`
-abbrev pub channel_texts : Channel → List (List ℕ)
-channel_texts Channel.Absent = []
-channel_texts (Channel.Given n) = one_number CHANNEL n
+abbrev pub channel_texts : Option ℕ → List (List ℕ)
+channel_texts None = []
+channel_texts (Some n) = one_number CHANNEL n
 
 -- `expiration VALUE`
-abbrev pub expiration_texts : Expiration → List (List ℕ)
-expiration_texts Expiration.Absent = []
-expiration_texts (Expiration.Given t) = one_number EXPIRATION t
+abbrev pub expiration_texts : Option ℕ → List (List ℕ)
+expiration_texts None = []
+expiration_texts (Some t) = one_number EXPIRATION t
 
 -- a table from a channel on, by rising Channel ID
 unfoldable pub table_texts : {A : Type 0} → (ℕ → A → List (List ℕ)) → ℕ → List A → List (List ℕ)
@@ -128,9 +124,9 @@ table_texts f channel (cell ∷ cells) = f channel cell ++ table_texts f (suc ch
 
 abbrev pub tables_texts : Control → List (List ℕ)
 tables_texts m =
-    table_texts (λ n cell. status_texts n cell.status) 0 m.statuses
-    ++ (table_texts (λ n cell. sequence_texts n cell.sequence) 0 m.sequences
-    ++ table_texts (λ n cell. window_texts n cell.window) 0 m.windows)
+    table_texts (λ n cell. status_texts n cell) 0 m.statuses
+    ++ (table_texts (λ n cell. sequence_texts n cell) 0 m.sequences
+    ++ table_texts (λ n cell. window_texts n cell) 0 m.windows)
 
 unfoldable pub control_texts : Control → List (List ℕ)
 control_texts m = CONTROL ∷ (datalink_texts m.datalink ++ (instance_texts m.instance ++ (context_texts m.context ++ tables_texts m)))

@@ -7,9 +7,8 @@ ghost use Rattle.text.specs.Laying.{decimal_text};
 ghost use Rattle.message_words.specs.Saying.{Says};
 ghost use Rattle.message_words.specs.Phrases.{SPACE, datalink_texts, instance_texts, context_texts, status_texts, sequence_texts, window_texts, counted_texts, channel_texts, expiration_texts};
 
-use meaning::message::{
-    Channel, Context, Counted, Datalink, Expiration, Instance, Sequence, Status, Window,
-};
+use meaning::message::{ContextBytes, Window};
+use quantity::count::{DatalinkId, FlowSequence, LinkInstanceId};
 use quantity::limit::LONGEST_NAME;
 use text::{put, put_bytes, put_number};
 
@@ -30,34 +29,23 @@ pub fn paired(out: &mut [u8], at: usize, label: &[u8], first: u64, second: u64) 
 }
 
 // The Datalink ID, first of a message's words.
-pub fn datalink(out: &mut [u8], at: usize, stated: Datalink) -> usize
+pub fn datalink(out: &mut [u8], at: usize, stated: Option<DatalinkId>) -> usize
     ensures { Says out.old at (datalink_texts stated) result out.new }
 {
-    let Datalink::Given(id) = stated else {
+    let Some(id) = stated else {
         return at;
     };
     labelled(out, at, b" ", id.0 as u64)
 }
 
 // ` link LENGTH NUMBER`.
-pub fn instance(out: &mut [u8], at: usize, stated: Instance) -> usize
+pub fn instance(out: &mut [u8], at: usize, stated: Option<(LinkInstanceId, usize)>) -> usize
     ensures { Says out.old at (instance_texts stated) result out.new }
 {
-    let Instance::Given(id, length) = stated else {
+    let Some((id, length)) = stated else {
         return at;
     };
     paired(out, at, b" link ", length as u64, id.0)
-}
-
-// How many bytes of a Context are shown.
-fn shown(length: usize) -> usize
-    ensures { result ≡ min length LONGEST-NAME }
-{
-    if length < LONGEST_NAME {
-        length
-    } else {
-        LONGEST_NAME
-    }
 }
 
 // A number's bytes, as many as are lent, as a byte string.
@@ -69,77 +57,77 @@ fn spelt(out: &mut [u8], at: usize, value: u64, bytes: &mut [u8]) -> usize
 }
 
 // ` context BYTES`.
-pub fn context(out: &mut [u8], at: usize, stated: Context) -> usize
+pub fn context(out: &mut [u8], at: usize, stated: Option<(ContextBytes, usize)>) -> usize
     ensures { Says out.old at (context_texts stated) result out.new }
 {
-    let Context::Given(value, length) = stated else {
+    let Some((value, length)) = stated else {
         return at;
     };
-    let n = shown(length);
+    let n = length.min(LONGEST_NAME);
     let behind = put(out, at, b" context ");
     let mut bytes = [0u8; LONGEST_NAME];
     spelt(out, behind, value.0, &mut bytes[0..n])
 }
 
 // ` status CHANNEL VALUE`.
-pub fn status(out: &mut [u8], at: usize, channel: u8, stated: Status) -> usize
+pub fn status(out: &mut [u8], at: usize, channel: u8, stated: Option<u8>) -> usize
     ensures { Says out.old at (status_texts channel stated) result out.new }
 {
-    let Status::Given(value) = stated else {
+    let Some(value) = stated else {
         return at;
     };
     paired(out, at, b" status ", channel as u64, value as u64)
 }
 
 // ` sequence CHANNEL VALUE`.
-pub fn sequence(out: &mut [u8], at: usize, channel: u8, stated: Sequence) -> usize
+pub fn sequence(out: &mut [u8], at: usize, channel: u8, stated: Option<FlowSequence>) -> usize
     ensures { Says out.old at (sequence_texts channel stated) result out.new }
 {
-    let Sequence::Given(value) = stated else {
+    let Some(value) = stated else {
         return at;
     };
     paired(out, at, b" sequence ", channel as u64, value.0 as u64)
 }
 
 // ` window CHANNEL VALUE`, or `none` for one without the field.
-pub fn window(out: &mut [u8], at: usize, channel: u8, stated: Window) -> usize
+pub fn window(out: &mut [u8], at: usize, channel: u8, stated: Option<Window>) -> usize
     ensures { Says out.old at (window_texts channel stated) result out.new }
 {
     match stated {
-        Window::Absent => at,
-        Window::Empty => {
+        None => at,
+        Some(Window::Empty) => {
             let behind = labelled(out, at, b" window ", channel as u64);
             put(out, behind, b" none")
         }
-        Window::Given(value) => paired(out, at, b" window ", channel as u64, value.0 as u64),
+        Some(Window::Given(value)) => paired(out, at, b" window ", channel as u64, value.0 as u64),
     }
 }
 
 // A data message's Flow Sequence, with its channel.
-pub fn counted(out: &mut [u8], at: usize, stated: Counted) -> usize
+pub fn counted(out: &mut [u8], at: usize, stated: Option<(u8, FlowSequence)>) -> usize
     ensures { Says out.old at (counted_texts stated) result out.new }
 {
-    let Counted::Given(channel, value) = stated else {
+    let Some((channel, value)) = stated else {
         return at;
     };
     paired(out, at, b" sequence ", channel as u64, value.0 as u64)
 }
 
 // ` channel CHANNEL`.
-pub fn channel(out: &mut [u8], at: usize, stated: Channel) -> usize
+pub fn channel(out: &mut [u8], at: usize, stated: Option<u8>) -> usize
     ensures { Says out.old at (channel_texts stated) result out.new }
 {
-    let Channel::Given(id) = stated else {
+    let Some(id) = stated else {
         return at;
     };
     labelled(out, at, b" channel ", id as u64)
 }
 
 // ` expiration TIME`.
-pub fn expiration(out: &mut [u8], at: usize, stated: Expiration) -> usize
+pub fn expiration(out: &mut [u8], at: usize, stated: Option<u32>) -> usize
     ensures { Says out.old at (expiration_texts stated) result out.new }
 {
-    let Expiration::Given(time) = stated else {
+    let Some(time) = stated else {
         return at;
     };
     labelled(out, at, b" expiration ", time as u64)

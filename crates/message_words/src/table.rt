@@ -1,46 +1,52 @@
 // What a table states, by rising Channel ID.
+ghost use Rattle.std.specs.Prelude.{List, ℕ};
 ghost use Rattle.message_words.specs.Saying.{Says};
 ghost use Rattle.message_words.specs.Phrases.{table_texts, status_texts, sequence_texts, window_texts};
 
 use crate::part::{sequence, status, window};
-use meaning::message::{SequenceCell, StatusCell, WindowCell};
+use meaning::message::Window;
+use quantity::count::FlowSequence;
 use quantity::limit::CHANNEL_IDS;
 
-// Each table's words, by rising Channel ID.
-pub fn statuses(out: &mut [u8], at: usize, cells: [StatusCell; CHANNEL_IDS]) -> usize
-    ensures { Says out.old at (table_texts (λ n cell. status_texts n cell.status) 0 cells) result out.new }
-{
-    let mut behind = at;
-    for channel in 0..CHANNEL_IDS {
-        let cell = cells[channel];
-        let stated = cell.status;
-        behind = status(out, behind, channel as u8, stated);
-    }
-    behind
+// A place of a table, which has words for what it states of a channel.
+pub trait Worded {
+    ghost texts: { ℕ → Self → List (List ℕ) };
+
+    fn say(self, out: &mut [u8], at: usize, channel: u8) -> usize
+        ensures { Says out.old at (texts channel self) result out.new };
 }
 
-// The Flow Sequences, by rising Channel ID.
-pub fn sequences(out: &mut [u8], at: usize, cells: [SequenceCell; CHANNEL_IDS]) -> usize
-    ensures { Says out.old at (table_texts (λ n cell. sequence_texts n cell.sequence) 0 cells) result out.new }
-{
-    let mut behind = at;
-    for channel in 0..CHANNEL_IDS {
-        let cell = cells[channel];
-        let stated = cell.sequence;
-        behind = sequence(out, behind, channel as u8, stated);
+impl Worded for Option<u8> {
+    ghost texts = { status_texts };
+
+    fn say(self, out: &mut [u8], at: usize, channel: u8) -> usize {
+        status(out, at, channel, self)
     }
-    behind
 }
 
-// The Flow Windows, by rising Channel ID.
-pub fn windows(out: &mut [u8], at: usize, cells: [WindowCell; CHANNEL_IDS]) -> usize
-    ensures { Says out.old at (table_texts (λ n cell. window_texts n cell.window) 0 cells) result out.new }
+impl Worded for Option<FlowSequence> {
+    ghost texts = { sequence_texts };
+
+    fn say(self, out: &mut [u8], at: usize, channel: u8) -> usize {
+        sequence(out, at, channel, self)
+    }
+}
+
+impl Worded for Option<Window> {
+    ghost texts = { window_texts };
+
+    fn say(self, out: &mut [u8], at: usize, channel: u8) -> usize {
+        window(out, at, channel, self)
+    }
+}
+
+// A table's words.
+pub fn table<C: Worded + Copy>(out: &mut [u8], at: usize, cells: &[C; CHANNEL_IDS]) -> usize
+    ensures { Says out.old at (table_texts C.texts 0 cells.now) result out.new }
 {
     let mut behind = at;
-    for channel in 0..CHANNEL_IDS {
-        let cell = cells[channel];
-        let stated = cell.window;
-        behind = window(out, behind, channel as u8, stated);
+    for (channel, cell) in cells.iter().enumerate() {
+        behind = cell.say(out, behind, channel as u8);
     }
     behind
 }

@@ -3,7 +3,7 @@ ghost use Rattle.message_words.specs.Saying.{Says};
 ghost use Rattle.message_words.specs.Phrases.{tables_texts, control_texts, data_texts, refused_texts};
 
 use crate::part::{channel, context, counted, datalink, expiration, instance, paired};
-use crate::table::{sequences, statuses, windows};
+use crate::table::table;
 use meaning::message::{Control, Data};
 use quantity::refusal::Refusal;
 use text::{put, put_bytes};
@@ -12,12 +12,9 @@ use text::{put, put_bytes};
 fn tables(out: &mut [u8], at: usize, message: Control) -> usize
     ensures { Says out.old at (tables_texts message) result out.new }
 {
-    let cells = message.statuses;
-    let flows = message.sequences;
-    let grants = message.windows;
-    let behind = statuses(out, at, cells);
-    let further = sequences(out, behind, flows);
-    windows(out, further, grants)
+    let behind = table(out, at, &message.statuses);
+    let further = table(out, behind, &message.sequences);
+    table(out, further, &message.windows)
 }
 
 // A control message's meaning in words.

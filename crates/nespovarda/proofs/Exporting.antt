@@ -1,5 +1,7 @@
 -- From a call's contract to its export's, and back: an exported call's numbers say its reply, so whatever is promised of replies is promised of the numbers.
 -- Assumes nothing.
+use Rattle.std.specs.Prelude.{Result, Ok, Err}
+use Rattle.quantity.specs.declared.count.ByteCount.{ByteCount}
 use Prim.Native.Nat.{ℕ, ◌<◌, ◌+◌, ◌-◌}
 use mathlib.Core.Bool.{false}
 use mathlib.Core.List.{List}
@@ -7,16 +9,12 @@ use mathlib.Core.Path.{◌≡◌, refl, ap, ap₂, ◌∙◌}
 use native.Mathlib.Omega.{arith}
 use borrow.Author.Tests.{ne_eqb}
 use Rattle.quantity.specs.declared.refusal.Refusal.{Refusal}
-use Rattle.writer.specs.declared.answer.WriteAnswer.{WriteAnswer}
 use Rattle.answer_codes.specs.declared.Answer.{Answer}
 use Rattle.answer_codes.specs.Codes.{code_of, refused_as, written_as, STARTED, TAKEN, SENT, NOTHING-WAITING, NOT-OPERATIONAL, WINDOW-SHUT, WITHDRAWN, ACCEPTED, DUE, QUIET, QUERY-DUE, SILENT, QUERY-DUE-SILENT, WROTE, REFUSED}
 use Rattle.pacer.specs.declared.PaceAnswer.{PaceAnswer}
 use Rattle.ips_channel_rules.specs.Rules as rules
-use Rattle.ips_channel_calls.specs.declared.offering.OfferAnswer.{OfferAnswer}
-use Rattle.ips_channel_calls.specs.declared.offering.WithdrawAnswer.{WithdrawAnswer}
 use Rattle.ips_channel_calls.specs.declared.asking.NextAnswer.{NextAnswer}
 use Rattle.ips_channel_calls.specs.Calls.{offered, asked, withdrawn, offer_answer, next_answer, withdraw_answer, output_after}
-use Rattle.ips_state.specs.declared.StartAnswer.{StartAnswer}
 use Rattle.ips_state.specs.Memory.{World, index_in}
 use Rattle.ips_radio.specs.declared.RadioAnswer.{RadioAnswer}
 use Rattle.ips_run.specs.Calling.{terms_in, calling}
@@ -40,10 +38,10 @@ exports h r e = record {
   lent_is = h.lent_is;
 }
 
-pub start_exports : {configuration words memory words' memory' : List ℕ} {answer : StartAnswer} → StartedIn configuration words memory answer words' memory'
+pub start_exports : {configuration words memory words' memory' : List ℕ} {answer : Result (Unit {0}) Refusal} → StartedIn configuration words memory answer words' memory'
     → (r : Answer) → r ≡ code_of (started_as answer) → StartExported configuration words memory r words' memory'
 start_exports h r e = record {
-  answer_is = e ∙ ap (λ (a : StartAnswer). code_of (started_as a)) h.answer_is;
+  answer_is = e ∙ ap (λ (a : Result (Unit {0}) Refusal). code_of (started_as a)) h.answer_is;
   words_are = h.words_are;
   memory_is = h.memory_is;
 }
@@ -55,54 +53,54 @@ no_kind refusal kind less = ne_eqb (REFUSED + refusal.number) kind (λ same. ome
 pub number_back : (number : ℕ) → (REFUSED + number) - REFUSED ≡ number
 number_back number = omega arith
 
-start_back : (a : StartAnswer) → start_said (code_of (started_as a)) ≡ a
-start_back StartAnswer.Started = refl
-start_back (StartAnswer.Refused refusal) = rw (no_kind refusal STARTED (omega arith), number_back refusal.number)
+start_back : (a : Result (Unit {0}) Refusal) → start_said (code_of (started_as a)) ≡ a
+start_back (Ok tt) = refl
+start_back (Err refusal) = rw (no_kind refusal STARTED (omega arith), number_back refusal.number)
 
-offer_back : (a : OfferAnswer) → offer_said (code_of (offered_as a)) ≡ a
-offer_back OfferAnswer.Taken = refl
-offer_back (OfferAnswer.Refused refusal) = rw (no_kind refusal TAKEN (omega arith), number_back refusal.number)
+offer_back : (a : Result (Unit {0}) Refusal) → offer_said (code_of (offered_as a)) ≡ a
+offer_back (Ok tt) = refl
+offer_back (Err refusal) = rw (no_kind refusal TAKEN (omega arith), number_back refusal.number)
 
-next_back : (a : NextAnswer) → next_said (code_of (asked_as a)) ≡ a
-next_back (NextAnswer.Sent bytes) = refl
-next_back NextAnswer.NothingWaiting = refl
-next_back NextAnswer.NotOperational = refl
-next_back NextAnswer.WindowShut = refl
-next_back (NextAnswer.Refused refusal) =
+next_back : (a : Result NextAnswer Refusal) → next_said (code_of (asked_as a)) ≡ a
+next_back (Ok (NextAnswer.Sent bytes)) = refl
+next_back (Ok NextAnswer.NothingWaiting) = refl
+next_back (Ok NextAnswer.NotOperational) = refl
+next_back (Ok NextAnswer.WindowShut) = refl
+next_back (Err refusal) =
     rw (no_kind refusal SENT (omega arith), no_kind refusal NOTHING-WAITING (omega arith), no_kind refusal NOT-OPERATIONAL (omega arith), no_kind refusal WINDOW-SHUT (omega arith), number_back refusal.number)
 
-withdraw_back : (a : WithdrawAnswer) → withdraw_said (code_of (withdrawn_as a)) ≡ a
-withdraw_back WithdrawAnswer.Withdrawn = refl
-withdraw_back (WithdrawAnswer.Refused refusal) = rw (no_kind refusal WITHDRAWN (omega arith), number_back refusal.number)
+withdraw_back : (a : Result (Unit {0}) Refusal) → withdraw_said (code_of (withdrawn_as a)) ≡ a
+withdraw_back (Ok tt) = refl
+withdraw_back (Err refusal) = rw (no_kind refusal WITHDRAWN (omega arith), number_back refusal.number)
 
-radio_back : (a : RadioAnswer) → radio_said (code_of (heard_as a)) ≡ a
-radio_back RadioAnswer.Accepted = refl
-radio_back RadioAnswer.Due = refl
-radio_back (RadioAnswer.Refused refusal) = rw (no_kind refusal ACCEPTED (omega arith), no_kind refusal DUE (omega arith), number_back refusal.number)
+radio_back : (a : Result RadioAnswer Refusal) → radio_said (code_of (heard_as a)) ≡ a
+radio_back (Ok RadioAnswer.Accepted) = refl
+radio_back (Ok RadioAnswer.Due) = refl
+radio_back (Err refusal) = rw (no_kind refusal ACCEPTED (omega arith), no_kind refusal DUE (omega arith), number_back refusal.number)
 
-pace_back : (a : PaceAnswer) → pace_said (code_of (paced_as a)) ≡ a
-pace_back PaceAnswer.Quiet = refl
-pace_back PaceAnswer.Due = refl
-pace_back PaceAnswer.Silent = refl
-pace_back PaceAnswer.DueSilent = refl
-pace_back (PaceAnswer.Refused refusal) =
+pace_back : (a : Result PaceAnswer Refusal) → pace_said (code_of (paced_as a)) ≡ a
+pace_back (Ok PaceAnswer.Quiet) = refl
+pace_back (Ok PaceAnswer.Due) = refl
+pace_back (Ok PaceAnswer.Silent) = refl
+pace_back (Ok PaceAnswer.DueSilent) = refl
+pace_back (Err refusal) =
     rw (no_kind refusal QUIET (omega arith), no_kind refusal QUERY-DUE (omega arith), no_kind refusal SILENT (omega arith), no_kind refusal QUERY-DUE-SILENT (omega arith), number_back refusal.number)
 
-write_back : (a : WriteAnswer) → write_said (code_of (written_as a)) ≡ a
-write_back (WriteAnswer.Wrote bytes) = refl
-write_back (WriteAnswer.Refused refusal) = rw (no_kind refusal WROTE (omega arith), number_back refusal.number)
+write_back : (a : Result ByteCount Refusal) → write_said (code_of (written_as a)) ≡ a
+write_back (Ok bytes) = refl
+write_back (Err refusal) = rw (no_kind refusal WROTE (omega arith), number_back refusal.number)
 
 -- ---- a reply's numbers and its output say it
 reply_back : (c : Call) (w : World) → reply_said c (code_of (outcome_of (reply_of c w))) (output_of (reply_of c w)) ≡ reply_of c w
-reply_back (on id (rules.offer packet time)) w = ap (λ (a : OfferAnswer). of_channel (offered a)) (offer_back (offer_answer (calling id (rules.offer packet time) w).answer))
+reply_back (on id (rules.offer packet time)) w = ap (λ (a : Result (Unit {0}) Refusal). of_channel (offered a)) (offer_back (offer_answer (calling id (rules.offer packet time) w).answer))
 reply_back (on id (rules.next time out)) w =
     let answer = (calling id (rules.next time out) w).answer in
     let k = terms_in w (index_in w id) in
-    ap (λ (a : NextAnswer). of_channel (asked a (output_after k answer out))) (next_back (next_answer k answer))
-reply_back (on id rules.withdraw) w = ap (λ (a : WithdrawAnswer). of_channel (withdrawn a)) (withdraw_back (withdraw_answer (calling id rules.withdraw w).answer))
+    ap (λ (a : Result NextAnswer Refusal). of_channel (asked a (output_after k answer out))) (next_back (next_answer k answer))
+reply_back (on id rules.withdraw) w = ap (λ (a : Result (Unit {0}) Refusal). of_channel (withdrawn a)) (withdraw_back (withdraw_answer (calling id rules.withdraw w).answer))
 reply_back (radio time datagram) w = ap of_radio (radio_back (handed_in time w.state datagram).answer)
 reply_back (pace time) w = ap of_pace (pace_back (pace_answer time w.state))
-reply_back (query out) w = ap (λ (a : WriteAnswer). of_query a (query_out w.state out)) (write_back (query_answer w.state out))
+reply_back (query out) w = ap (λ (a : Result ByteCount Refusal). of_query a (query_out w.state out)) (write_back (query_answer w.state out))
 
 pub exports_say : {c : Call} {l : Lent} {r : Answer} {out' : List ℕ} {l' : Lent} → Exported c l r out' l' → PerformedIn c l (reply_said c r out') l'
 exports_say {c} {l} {r} {out'} h = record {

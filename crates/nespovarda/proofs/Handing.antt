@@ -1,4 +1,6 @@
 -- An exported handful: from the call's contract and back, and that one refused leaves all that is lent. Assumes nothing.
+use Rattle.quantity.specs.declared.refusal.Refusal.{Refusal}
+use Rattle.std.specs.Prelude.{Result, Ok, Err}
 use Prim.Native.Nat.{ℕ, ◌+◌}
 use mathlib.Core.List.{List}
 use mathlib.Core.Path.{◌≡◌, refl, ap, ◌∙◌}
@@ -6,7 +8,6 @@ use native.Mathlib.Omega.{arith}
 use Rattle.answer_codes.specs.declared.Answer.{Answer}
 use Rattle.answer_codes.specs.Codes.{code_of, OFFERED}
 use Rattle.endpoint.specs.Lent.{Lent}
-use Rattle.handful.specs.declared.HandfulAnswer.{HandfulAnswer}
 use Rattle.handful.specs.Handful.{Handful, HandedIn}
 use Rattle.handful_laws.proofs.Judging.{handful_keeps}
 use Rattle.nespovarda.specs.Outcomes.{handed_as}
@@ -15,18 +16,18 @@ use Rattle.nespovarda.specs.Numbers.{numbers}
 use Rattle.nespovarda.proofs.Exporting.{no_kind, number_back}
 
 -- ---- from the call to its export
-pub handful_exports : {h : Handful} {l : Lent} {answers : List ℕ} {x : HandfulAnswer} {l' : Lent} {answers' : List ℕ} → HandedIn h l answers x l' answers'
+pub handful_exports : {h : Handful} {l : Lent} {answers : List ℕ} {x : Result (Unit {0}) Refusal} {l' : Lent} {answers' : List ℕ} → HandedIn h l answers x l' answers'
     → (r : Answer) → r ≡ code_of (handed_as x) → HandfulExported h l answers r l' answers'
 handful_exports h r e = record {
-  answer_is = e ∙ ap (λ (x : HandfulAnswer). code_of (handed_as x)) h.answer_is;
+  answer_is = e ∙ ap (λ (x : Result (Unit {0}) Refusal). code_of (handed_as x)) h.answer_is;
   lent_is = h.lent_is;
   answers_are = h.answers_are;
 }
 
 -- ---- and back: its numbers say its answer
-handful_back : (x : HandfulAnswer) → handful_said (code_of (handed_as x)) ≡ x
-handful_back HandfulAnswer.Offered = refl
-handful_back (HandfulAnswer.Refused refusal) = rw (no_kind refusal OFFERED (omega arith), number_back refusal.number)
+handful_back : (x : Result (Unit {0}) Refusal) → handful_said (code_of (handed_as x)) ≡ x
+handful_back (Ok tt) = refl
+handful_back (Err refusal) = rw (no_kind refusal OFFERED (omega arith), number_back refusal.number)
 
 pub handful_exported : {h : Handful} {l : Lent} {answers : List ℕ} {r : Answer} {l' : Lent} {answers' : List ℕ} → HandfulExported h l answers r l' answers'
     → HandedIn h l answers (handful_said r) l' answers'

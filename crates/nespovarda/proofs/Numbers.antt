@@ -1,4 +1,7 @@
 -- The numbers that a caller sees are those of the table, in literals. Assumes nothing.
+use Rattle.std.specs.Prelude.{Option, Some, None, Ok}
+use Rattle.quantity.specs.declared.count.LinkInstanceId.{LinkInstanceId}
+use Rattle.meaning.specs.declared.message.ContextBytes.{ContextBytes}
 use Prim.Native.Nat.{ℕ}
 use mathlib.Core.Bool.{Bool, true, false, cond}
 use mathlib.Core.List.{List, ◌∷◌, ◌++◌}
@@ -6,9 +9,6 @@ use mathlib.Core.Path.{◌≡◌, refl, ap, ◌∙◌}
 use lib.Dec.{ltb}
 use lib.ListN.{take, length}
 use Rattle.quantity.specs.Refusals.{NO-CHANNEL}
-use Rattle.meaning.specs.declared.message.Status.{Status}
-use Rattle.meaning.specs.declared.message.Instance.{Instance}
-use Rattle.meaning.specs.declared.message.Context.{Context}
 use Rattle.flow.specs.declared.Flow.{Flow}
 use Rattle.answer_codes.specs.declared.Answer.{Answer}
 use Rattle.answer_codes.specs.Codes.{Outcome, code_of}
@@ -19,7 +19,6 @@ use Rattle.ips_state.specs.Limits.{sizes, state_fits}
 use Rattle.ips_state.specs.Memory.{start_of, world_fits}
 use Rattle.endpoint.specs.Lent.{Lent, world_in}
 use Rattle.endpoint.specs.Shown.{words_needed}
-use Rattle.handful.specs.declared.HandfulAnswer.{HandfulAnswer}
 use Rattle.handful.specs.Handful.{Handful, is_handful, refused_handful}
 use Rattle.nespovarda.specs.Outcomes.{handed_as}
 use Rattle.nespovarda.specs.Handing.{HandfulExported}
@@ -64,7 +63,7 @@ numbers_exactly = record {
 
 -- ---- a handful as a whole
 in_numbers : (fits is : Bool)
-    → code_of (handed_as (cond fits (cond is HandfulAnswer.Offered (refused_handful 24)) (refused_handful 19))) ≡ cond fits (cond is (numbers 23 0) (numbers 280 0)) (numbers 275 0)
+    → code_of (handed_as (cond fits (cond is (Ok tt) (refused_handful 24)) (refused_handful 19))) ≡ cond fits (cond is (numbers 23 0) (numbers 280 0)) (numbers 275 0)
 in_numbers true true = refl
 in_numbers true false = refl
 in_numbers false is = refl
@@ -87,13 +86,13 @@ answers_for : (s : State) (id : ℕ) (outcome : Outcome) → code_of (outcome_fo
 unfolding outcome_for
 answers_for s id outcome = by_channel (state_fits s) (is_had s id) outcome
 
-channel_exactly : (status : Status) (flow : Flow) (rest : List ℕ) → status_tag status ∷ status_value status ∷ flow_tag flow ∷ flow_window flow ∷ rest ≡ reported_numbers status ++ (flow_numbers flow ++ rest)
-channel_exactly Status.Absent Flow.Free rest = refl
-channel_exactly Status.Absent Flow.NoWindow rest = refl
-channel_exactly Status.Absent (Flow.InForce window) rest = refl
-channel_exactly (Status.Given status) Flow.Free rest = refl
-channel_exactly (Status.Given status) Flow.NoWindow rest = refl
-channel_exactly (Status.Given status) (Flow.InForce window) rest = refl
+channel_exactly : (status : Option ℕ) (flow : Flow) (rest : List ℕ) → status_tag status ∷ status_value status ∷ flow_tag flow ∷ flow_window flow ∷ rest ≡ reported_numbers status ++ (flow_numbers flow ++ rest)
+channel_exactly None Flow.Free rest = refl
+channel_exactly None Flow.NoWindow rest = refl
+channel_exactly None (Flow.InForce window) rest = refl
+channel_exactly (Some status) Flow.Free rest = refl
+channel_exactly (Some status) Flow.NoWindow rest = refl
+channel_exactly (Some status) (Flow.InForce window) rest = refl
 
 numbers_of_lem : (s : State) (place : ℕ) (c : Channel) → channel_numbers c (start_of s place) ≡ nine_numbers s place c
 unfolding start_of
@@ -117,11 +116,11 @@ waiting_exactly {s} {id} {position} h = record {
   shows = h.numbers_are;
 }
 
-kept_numbers_lem : (link : Instance) (last : Context) → kept_numbers link last ≡ link_numbers link ++ context_numbers last
-kept_numbers_lem Instance.Absent Context.Absent = refl
-kept_numbers_lem Instance.Absent (Context.Given bytes length) = refl
-kept_numbers_lem (Instance.Given id size) Context.Absent = refl
-kept_numbers_lem (Instance.Given id size) (Context.Given bytes length) = refl
+kept_numbers_lem : (link : Option (LinkInstanceId × ℕ)) (last : Option (ContextBytes × ℕ)) → kept_numbers link last ≡ link_numbers link ++ context_numbers last
+kept_numbers_lem None None = refl
+kept_numbers_lem None (Some (bytes, length)) = refl
+kept_numbers_lem (Some (id, size)) None = refl
+kept_numbers_lem (Some (id, size)) (Some (bytes, length)) = refl
 
 fitting : (fits : Bool) (outcome : Outcome) → code_of (cond fits outcome outside) ≡ cond fits (code_of outcome) (numbers 275 0)
 fitting true outcome = refl

@@ -1,4 +1,8 @@
 -- What is shown of a channel, of a waiting packet, of what is kept and of the pacer: each way out of the functions. Assumes nothing.
+use Rattle.std.specs.Prelude.{Option, Result, Ok, Err}
+use Rattle.quantity.specs.declared.count.LinkInstanceId.{LinkInstanceId}
+use Rattle.meaning.specs.declared.message.ContextBytes.{ContextBytes}
+use Rattle.endpoint.specs.declared.shown.KeptShown.{KeptShown}
 use Prim.Native.Nat.{ℕ, ◌≤◌, ◌<◌}
 use mathlib.Core.Bool.{Bool, true, false}
 use mathlib.Core.List.{List, [], ◌∷◌}
@@ -10,8 +14,6 @@ use Rattle.facts.proofs.Tests.{clash}
 use Rattle.quantity.specs.Limits.{MOST-WAITING}
 use Rattle.quantity.specs.Refusals.{NO-CHANNEL, OUTSIDE-LIMITS}
 use Rattle.quantity.specs.declared.refusal.Refusal.{Refusal}
-use Rattle.meaning.specs.declared.message.Instance.{Instance}
-use Rattle.meaning.specs.declared.message.Context.{Context}
 use Rattle.store.specs.Waiting.{no_entry}
 use Rattle.store.proofs.Held.{well_sound}
 use Rattle.pacer.specs.declared.Pacer.{Pacer}
@@ -24,11 +26,8 @@ use Rattle.ips_state.specs.Memory.{start_of}
 use Rattle.ips_state.proofs.Channels.{index_stands, ids_length}
 use Rattle.ips_state.proofs.Places.{channel_fitting_at}
 use Rattle.ips_words_survey.specs.declared.place.Found.{Found}
-use Rattle.ips_words_survey.specs.declared.place.Place.{Place}
 use Rattle.ips_words_survey.specs.Places.{found_at}
 use Rattle.endpoint.specs.declared.shown.ChannelShown.{ChannelShown}
-use Rattle.endpoint.specs.declared.shown.KeptAnswer.{KeptAnswer}
-use Rattle.endpoint.specs.declared.shown.PacerAnswer.{PacerAnswer}
 use Rattle.endpoint.specs.Shown.{shown_of, kept_of, pacer_of}
 use Rattle.endpoint.proofs.Showing.{shown_nineteen, shown_twelve, shown_channel}
 use Rattle.nespovarda.specs.Shown.{is_had, place_for, channel_for, outcome_for, numbers_for, Shows, channel_numbers, ShowsChannel, waiting_outcome, waiting_numbers, WaitingAt, ShowsWaiting, ShowsOwn, kept_numbers, ShowsKept, pacer_numbers, ShowsPacer}
@@ -44,7 +43,7 @@ pub record There (s : State) (id : ℕ) (r : ChannelShown) (there : Found) : Typ
   pub start : there.start ≡ start_of s (place_for s id)
 
 module _ (s : State) (id : ℕ) (r : ChannelShown) (is : r ≡ shown_of s id) where
-  pub is_there : (there : Found) → r.place ≡ Place.At there → There s id r there
+  pub is_there : (there : Found) → r.place ≡ Ok there → There s id r there
   is_there there e = go (state_fits s) refl (is_had s id) refl
     where
       go : (fits : Bool) → state_fits s ≡ fits → (had : Bool) → is_had s id ≡ had → There s id r there
@@ -56,7 +55,7 @@ module _ (s : State) (id : ℕ) (r : ChannelShown) (is : r ≡ shown_of s id) wh
           record { fits = f; had = h; channel = ap (λ (x : ChannelShown). x.channel) told; start = ap (λ (x : Found). x.start) same }
 
   -- and one that isn't, by the number that says why
-  pub shows_refused : (number : ℕ) → r.place ≡ Place.Refused number → (outcome : Outcome) (numbers before : List ℕ) (a : Answer)
+  pub shows_refused : (number : ℕ) → r.place ≡ Err number → (outcome : Outcome) (numbers before : List ℕ) (a : Answer)
       → a ≡ code_of (Outcome.refused number 0) → Shows s id outcome numbers before a before
   unfolding outcome_for numbers_for
   shows_refused number e outcome numbers before a said = go (state_fits s) refl (is_had s id) refl
@@ -114,26 +113,25 @@ module _ (s : State) (outcome : Outcome) (numbers before : List ℕ) (a : Answer
   own_refused f refusal same said = record { answer_is = rw f (said ∙ ap (λ (x : Refusal). code_of (refused_as x)) same); numbers_are = rw f }
 
 -- what is kept
-module _ (s : State) (r : KeptAnswer) (is : r ≡ kept_of s) (before : List ℕ) (a : Answer) where
-  kept_fits : state_fits s ≡ true → r ≡ KeptAnswer.Kept s.instance s.context
+module _ (s : State) (r : Result KeptShown Refusal) (is : r ≡ kept_of s) (before : List ℕ) (a : Answer) where
+  kept_fits : state_fits s ≡ true → r ≡ Ok (record { instance = s.instance; context = s.context })
   unfolding kept_of
   kept_fits f = rw f at is
 
-  kept_unfit : state_fits s ≡ false → r ≡ KeptAnswer.Refused (record { number = OUTSIDE-LIMITS; place = 0 })
+  kept_unfit : state_fits s ≡ false → r ≡ Err (record { number = OUTSIDE-LIMITS; place = 0 })
   unfolding kept_of
   kept_unfit f = rw f at is
 
-  pub shows_kept : (link : Instance) (last : Context) → r ≡ KeptAnswer.Kept link last → a ≡ code_of Outcome.kept → (after : List ℕ) → after ≡ kept_numbers link last → ShowsKept s before a after
-  shows_kept link last e said after are = go (state_fits s) refl
+  pub shows_kept : (held : KeptShown) → r ≡ Ok held → a ≡ code_of Outcome.kept → (after : List ℕ) → after ≡ kept_numbers held.instance held.context → ShowsKept s before a after
+  shows_kept held e said after are = go (state_fits s) refl
     where
       go : (fits : Bool) → state_fits s ≡ fits → ShowsKept s before a after
       go true f =
-          let one : link ≡ s.instance = cc (sym e ∙ kept_fits f) in
-          let other : last ≡ s.context = cc (sym e ∙ kept_fits f) in
-          own_shown s _ _ before a f said after (are ∙ ap₂ {C = List ℕ} (λ (x : Instance) (y : Context). kept_numbers x y) one other)
+          let same : held ≡ record { instance = s.instance; context = s.context } = cc (sym e ∙ kept_fits f) in
+          own_shown s _ _ before a f said after (are ∙ ap (λ (shown : KeptShown). kept_numbers shown.instance shown.context) same)
       go false f = clash (cc (sym e ∙ kept_unfit f))
 
-  pub kept_refused : (refusal : Refusal) → r ≡ KeptAnswer.Refused refusal → a ≡ code_of (refused_as refusal) → ShowsKept s before a before
+  pub kept_refused : (refusal : Refusal) → r ≡ Err refusal → a ≡ code_of (refused_as refusal) → ShowsKept s before a before
   kept_refused refusal e said = go (state_fits s) refl
     where
       go : (fits : Bool) → state_fits s ≡ fits → ShowsKept s before a before
@@ -141,16 +139,16 @@ module _ (s : State) (r : KeptAnswer) (is : r ≡ kept_of s) (before : List ℕ)
       go false f = own_refused s _ _ before a f refusal (cc (sym e ∙ kept_unfit f)) said
 
 -- the pacer
-module _ (s : State) (r : PacerAnswer) (is : r ≡ pacer_of s) (before : List ℕ) (a : Answer) where
-  pacer_fits_lem : state_fits s ≡ true → r ≡ PacerAnswer.Shown s.pacer
+module _ (s : State) (r : Result Pacer Refusal) (is : r ≡ pacer_of s) (before : List ℕ) (a : Answer) where
+  pacer_fits_lem : state_fits s ≡ true → r ≡ Ok s.pacer
   unfolding pacer_of
   pacer_fits_lem f = rw f at is
 
-  pacer_unfit : state_fits s ≡ false → r ≡ PacerAnswer.Refused (record { number = OUTSIDE-LIMITS; place = 0 })
+  pacer_unfit : state_fits s ≡ false → r ≡ Err (record { number = OUTSIDE-LIMITS; place = 0 })
   unfolding pacer_of
   pacer_unfit f = rw f at is
 
-  pub shows_pacer : (pacer : Pacer) → r ≡ PacerAnswer.Shown pacer → a ≡ code_of Outcome.pacer_shown → (after : List ℕ) → after ≡ pacer_numbers pacer → ShowsPacer s before a after
+  pub shows_pacer : (pacer : Pacer) → r ≡ Ok pacer → a ≡ code_of Outcome.pacer_shown → (after : List ℕ) → after ≡ pacer_numbers pacer → ShowsPacer s before a after
   shows_pacer pacer e said after are = go (state_fits s) refl
     where
       go : (fits : Bool) → state_fits s ≡ fits → ShowsPacer s before a after
@@ -159,7 +157,7 @@ module _ (s : State) (r : PacerAnswer) (is : r ≡ pacer_of s) (before : List �
           own_shown s _ _ before a f said after (are ∙ ap (λ (p : Pacer). pacer_numbers p) same)
       go false f = clash (cc (sym e ∙ pacer_unfit f))
 
-  pub pacer_refused : (refusal : Refusal) → r ≡ PacerAnswer.Refused refusal → a ≡ code_of (refused_as refusal) → ShowsPacer s before a before
+  pub pacer_refused : (refusal : Refusal) → r ≡ Err refusal → a ≡ code_of (refused_as refusal) → ShowsPacer s before a before
   pacer_refused refusal e said = go (state_fits s) refl
     where
       go : (fits : Bool) → state_fits s ≡ fits → ShowsPacer s before a before

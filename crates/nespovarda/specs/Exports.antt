@@ -1,17 +1,14 @@
 -- What a call gives a caller that shares no types with Rattle: two numbers, and every lent word and byte.
-use Rattle.std.specs.Prelude.{ℕ, ◌-◌, Bool, cond, List, [], ◌∷◌, ◌≡◌, eqb, length, replicate}
+use Rattle.quantity.specs.declared.count.ByteCount.{ByteCount}
+use Rattle.std.specs.Prelude.{ℕ, ◌-◌, Bool, cond, List, [], ◌∷◌, ◌≡◌, eqb, length, replicate, Result, Ok, Err}
 use Rattle.quantity.specs.declared.refusal.Refusal.{Refusal}
 use Rattle.quantity.specs.Refusals.{OUTSIDE-LIMITS, NO-WAIT}
-use Rattle.writer.specs.declared.answer.WriteAnswer.{WriteAnswer}
 use Rattle.answer_codes.specs.declared.Answer.{Answer}
 use Rattle.answer_codes.specs.Codes.{code_of, STARTED, TAKEN, SENT, NOTHING-WAITING, NOT-OPERATIONAL, WINDOW-SHUT, WITHDRAWN, ACCEPTED, DUE, QUIET, QUERY-DUE, SILENT, QUERY-DUE-SILENT, WROTE, REFUSED}
 use Rattle.pacer.specs.declared.PaceAnswer.{PaceAnswer}
 use Rattle.ips_channel_rules.specs.Rules as rules
-use Rattle.ips_channel_calls.specs.declared.offering.OfferAnswer.{OfferAnswer}
-use Rattle.ips_channel_calls.specs.declared.offering.WithdrawAnswer.{WithdrawAnswer}
 use Rattle.ips_channel_calls.specs.declared.asking.NextAnswer.{NextAnswer}
 use Rattle.ips_channel_calls.specs.Calls.{offered, asked, withdrawn}
-use Rattle.ips_state.specs.declared.StartAnswer.{StartAnswer}
 use Rattle.ips_state.specs.Limits.{waits_fit}
 use Rattle.ips_radio.specs.declared.RadioAnswer.{RadioAnswer}
 use Rattle.ips_run.specs.Run.{Call, on, radio, pace, query}
@@ -34,7 +31,7 @@ ExportedWithAny c words r out' words' = (memory : List ℕ) → Exported c (lent
 pub record StartExported (configuration words memory : List ℕ) (r : Answer) (words' memory' : List ℕ) : Type 0 where
   pub answer_is : r
       ≡ code_of
-      (started_as (cond (starts_in configuration words memory) (cond (waits_fit (configuration_in configuration)) StartAnswer.Started (not_started NO-WAIT)) (not_started OUTSIDE-LIMITS)))
+      (started_as (cond (starts_in configuration words memory) (cond (waits_fit (configuration_in configuration)) (Ok tt) (not_started NO-WAIT)) (not_started OUTSIDE-LIMITS)))
   pub words_are : words' ≡ cond (begins_in configuration words memory) (fresh_words (configuration_in configuration)) words
   pub memory_is : memory' ≡ cond (begins_in configuration words memory) (replicate (length memory) 0) memory
 
@@ -45,32 +42,32 @@ refusal_in r = record { number = r.kind - REFUSED; place = r.value }
 abbrev pub is_kind : Answer → ℕ → Bool
 is_kind r kind = eqb r.kind kind
 
-abbrev pub start_said : Answer → StartAnswer
-start_said r = cond (is_kind r STARTED) StartAnswer.Started (StartAnswer.Refused (refusal_in r))
+abbrev pub start_said : Answer → Result (Unit {0}) Refusal
+start_said r = cond (is_kind r STARTED) (Ok tt) (Err (refusal_in r))
 
-abbrev pub offer_said : Answer → OfferAnswer
-offer_said r = cond (is_kind r TAKEN) OfferAnswer.Taken (OfferAnswer.Refused (refusal_in r))
+abbrev pub offer_said : Answer → Result (Unit {0}) Refusal
+offer_said r = cond (is_kind r TAKEN) (Ok tt) (Err (refusal_in r))
 
-abbrev pub next_said : Answer → NextAnswer
+abbrev pub next_said : Answer → Result NextAnswer Refusal
 next_said r =
-    cond (is_kind r SENT) (NextAnswer.Sent (record { 0 = r.value }))
-    (cond (is_kind r NOTHING-WAITING) NextAnswer.NothingWaiting
-    (cond (is_kind r NOT-OPERATIONAL) NextAnswer.NotOperational (cond (is_kind r WINDOW-SHUT) NextAnswer.WindowShut (NextAnswer.Refused (refusal_in r)))))
+    cond (is_kind r SENT) (Ok (NextAnswer.Sent (record { 0 = r.value })))
+    (cond (is_kind r NOTHING-WAITING) (Ok NextAnswer.NothingWaiting)
+    (cond (is_kind r NOT-OPERATIONAL) (Ok NextAnswer.NotOperational) (cond (is_kind r WINDOW-SHUT) (Ok NextAnswer.WindowShut) (Err (refusal_in r)))))
 
-abbrev pub withdraw_said : Answer → WithdrawAnswer
-withdraw_said r = cond (is_kind r WITHDRAWN) WithdrawAnswer.Withdrawn (WithdrawAnswer.Refused (refusal_in r))
+abbrev pub withdraw_said : Answer → Result (Unit {0}) Refusal
+withdraw_said r = cond (is_kind r WITHDRAWN) (Ok tt) (Err (refusal_in r))
 
-abbrev pub radio_said : Answer → RadioAnswer
-radio_said r = cond (is_kind r ACCEPTED) RadioAnswer.Accepted (cond (is_kind r DUE) RadioAnswer.Due (RadioAnswer.Refused (refusal_in r)))
+abbrev pub radio_said : Answer → Result RadioAnswer Refusal
+radio_said r = cond (is_kind r ACCEPTED) (Ok RadioAnswer.Accepted) (cond (is_kind r DUE) (Ok RadioAnswer.Due) (Err (refusal_in r)))
 
-abbrev pub pace_said : Answer → PaceAnswer
+abbrev pub pace_said : Answer → Result PaceAnswer Refusal
 pace_said r =
-    cond (is_kind r QUIET) PaceAnswer.Quiet
-    (cond (is_kind r QUERY-DUE) PaceAnswer.Due
-    (cond (is_kind r SILENT) PaceAnswer.Silent (cond (is_kind r QUERY-DUE-SILENT) PaceAnswer.DueSilent (PaceAnswer.Refused (refusal_in r)))))
+    cond (is_kind r QUIET) (Ok PaceAnswer.Quiet)
+    (cond (is_kind r QUERY-DUE) (Ok PaceAnswer.Due)
+    (cond (is_kind r SILENT) (Ok PaceAnswer.Silent) (cond (is_kind r QUERY-DUE-SILENT) (Ok PaceAnswer.DueSilent) (Err (refusal_in r)))))
 
-abbrev pub write_said : Answer → WriteAnswer
-write_said r = cond (is_kind r WROTE) (WriteAnswer.Wrote (record { 0 = r.value })) (WriteAnswer.Refused (refusal_in r))
+abbrev pub write_said : Answer → Result ByteCount Refusal
+write_said r = cond (is_kind r WROTE) (Ok (record { 0 = r.value })) (Err (refusal_in r))
 
 abbrev pub reply_said : Call → Answer → List ℕ → EndpointReply
 reply_said (on id (rules.offer packet time)) r out = of_channel (offered (offer_said r))

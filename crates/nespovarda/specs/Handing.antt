@@ -1,10 +1,10 @@
 -- What a handful gives a caller that shares no types with Rattle: two numbers, a byte for each packet, and every lent word and byte.
-use Rattle.std.specs.Prelude.{ℕ, cond, List, [], ◌∷◌, ◌≡◌, length}
+use Rattle.quantity.specs.declared.refusal.Refusal.{Refusal}
+use Rattle.std.specs.Prelude.{ℕ, cond, List, [], ◌∷◌, ◌≡◌, length, Result, Ok, Err}
 use Rattle.answer_codes.specs.declared.Answer.{Answer}
 use Rattle.answer_codes.specs.Codes.{code_of, OFFERED}
 use Rattle.ips_run.specs.Run.{Call}
 use Rattle.endpoint.specs.Lent.{Lent, world_in}
-use Rattle.handful.specs.declared.HandfulAnswer.{HandfulAnswer}
 use Rattle.handful.specs.Handful.{Handful, handful_answer, stands_for, left_by, answers_after}
 use Rattle.handful_laws.specs.Acts.{Act, single, several, ActReply, one, each}
 use Rattle.nespovarda.specs.Outcomes.{handed_as}
@@ -17,8 +17,8 @@ pub record HandfulExported (h : Handful) (l : Lent) (answers : List ℕ) (r : An
   pub answers_are : answers' ≡ answers_after h l answers
 
 -- the answer that its numbers say (`handful_exported`)
-abbrev pub handful_said : Answer → HandfulAnswer
-handful_said r = cond (is_kind r OFFERED) HandfulAnswer.Offered (HandfulAnswer.Refused (refusal_in r))
+abbrev pub handful_said : Answer → Result (Unit {0}) Refusal
+handful_said r = cond (is_kind r OFFERED) (Ok tt) (Err (refusal_in r))
 
 -- ---- any sequence of exported calls with handfuls among them: of a handful the caller is told its two numbers, and sees the lent answers after it
 pub data RanExportedActs : Lent → List Act → List Told → Lent → Type 0 where

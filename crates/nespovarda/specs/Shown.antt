@@ -1,8 +1,8 @@
 -- What stands in the state, as numbers: of the channel of an ID, of a packet that waits on it, what is kept, and the pacer.
-use Rattle.std.specs.Prelude.{ℕ, Bool, cond, List, [], ◌∷◌, ◌≡◌, ltb, get_or}
+use Rattle.quantity.specs.declared.count.LinkInstanceId.{LinkInstanceId}
+use Rattle.meaning.specs.declared.message.ContextBytes.{ContextBytes}
+use Rattle.std.specs.Prelude.{ℕ, Bool, cond, List, [], ◌∷◌, ◌≡◌, ltb, get_or, Option}
 use Rattle.quantity.specs.Refusals.{NO-CHANNEL, OUTSIDE-LIMITS}
-use Rattle.meaning.specs.declared.message.Instance.{Instance}
-use Rattle.meaning.specs.declared.message.Context.{Context}
 use Rattle.meaning.specs.Kinds.{among}
 use Rattle.store.specs.declared.queue.Entry.{Entry}
 use Rattle.store.specs.Waiting.{no_entry}
@@ -75,7 +75,7 @@ pub record ShowsOwn (s : State) (outcome : Outcome) (numbers before : List ℕ) 
   pub numbers_are : after ≡ cond (state_fits s) numbers before
 
 -- what is kept: of the Link Instance and of the Context the length, 0 where there is none, and the number that the bytes spell
-abbrev pub kept_numbers : Instance → Context → List ℕ
+abbrev pub kept_numbers : Option (LinkInstanceId × ℕ) → Option (ContextBytes × ℕ) → List ℕ
 kept_numbers link last = (instance_stated link).second ∷ (instance_stated link).first ∷ (context_stated last).second ∷ (context_stated last).first ∷ []
 
 abbrev pub ShowsKept : State → (before : List ℕ) → Answer → (after : List ℕ) → Type 0

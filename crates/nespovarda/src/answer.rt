@@ -7,75 +7,75 @@ use answer_codes::{
     ACCEPTED, Answer, DUE, NOT_OPERATIONAL, NOTHING_WAITING, OFFERED, QUERY_DUE, QUERY_DUE_SILENT,
     QUIET, SENT, SILENT, STARTED, TAKEN, WINDOW_SHUT, WITHDRAWN, counted, plain, refused,
 };
-use endpoint::{NextAnswer, OfferAnswer, PaceAnswer, RadioAnswer, StartAnswer, WithdrawAnswer};
-use handful::HandfulAnswer;
+use endpoint::{NextAnswer, PaceAnswer, RadioAnswer};
+use quantity::refusal::Refusal;
 
-pub(crate) fn of_start(answer: StartAnswer) -> Answer
+pub(crate) fn of_start(answer: Result<(), Refusal>) -> Answer
     ensures { result ≡ code_of (started_as answer) }
 {
     match answer {
-        StartAnswer::Started => plain(STARTED),
-        StartAnswer::Refused(refusal) => refused(refusal),
+        Ok(()) => plain(STARTED),
+        Err(refusal) => refused(refusal),
     }
 }
 
-pub(crate) fn of_offer(answer: OfferAnswer) -> Answer
+pub(crate) fn of_offer(answer: Result<(), Refusal>) -> Answer
     ensures { result ≡ code_of (offered_as answer) }
 {
     match answer {
-        OfferAnswer::Taken => plain(TAKEN),
-        OfferAnswer::Refused(refusal) => refused(refusal),
+        Ok(()) => plain(TAKEN),
+        Err(refusal) => refused(refusal),
     }
 }
 
-pub(crate) fn of_next(answer: NextAnswer) -> Answer
+pub(crate) fn of_next(answer: Result<NextAnswer, Refusal>) -> Answer
     ensures { result ≡ code_of (asked_as answer) }
 {
     match answer {
-        NextAnswer::Sent(length) => counted(SENT, length.0),
-        NextAnswer::NothingWaiting => plain(NOTHING_WAITING),
-        NextAnswer::NotOperational => plain(NOT_OPERATIONAL),
-        NextAnswer::WindowShut => plain(WINDOW_SHUT),
-        NextAnswer::Refused(refusal) => refused(refusal),
+        Ok(NextAnswer::Sent(length)) => counted(SENT, length.0),
+        Ok(NextAnswer::NothingWaiting) => plain(NOTHING_WAITING),
+        Ok(NextAnswer::NotOperational) => plain(NOT_OPERATIONAL),
+        Ok(NextAnswer::WindowShut) => plain(WINDOW_SHUT),
+        Err(refusal) => refused(refusal),
     }
 }
 
-pub(crate) fn of_withdraw(answer: WithdrawAnswer) -> Answer
+pub(crate) fn of_withdraw(answer: Result<(), Refusal>) -> Answer
     ensures { result ≡ code_of (withdrawn_as answer) }
 {
     match answer {
-        WithdrawAnswer::Withdrawn => plain(WITHDRAWN),
-        WithdrawAnswer::Refused(refusal) => refused(refusal),
+        Ok(()) => plain(WITHDRAWN),
+        Err(refusal) => refused(refusal),
     }
 }
 
-pub(crate) fn of_radio(answer: RadioAnswer) -> Answer
+pub(crate) fn of_radio(answer: Result<RadioAnswer, Refusal>) -> Answer
     ensures { result ≡ code_of (heard_as answer) }
 {
     match answer {
-        RadioAnswer::Accepted => plain(ACCEPTED),
-        RadioAnswer::Due => plain(DUE),
-        RadioAnswer::Refused(refusal) => refused(refusal),
+        Ok(RadioAnswer::Accepted) => plain(ACCEPTED),
+        Ok(RadioAnswer::Due) => plain(DUE),
+        Err(refusal) => refused(refusal),
     }
 }
 
-pub(crate) fn of_pace(answer: PaceAnswer) -> Answer
+pub(crate) fn of_pace(answer: Result<PaceAnswer, Refusal>) -> Answer
     ensures { result ≡ code_of (paced_as answer) }
 {
     match answer {
-        PaceAnswer::Quiet => plain(QUIET),
-        PaceAnswer::Due => plain(QUERY_DUE),
-        PaceAnswer::Silent => plain(SILENT),
-        PaceAnswer::DueSilent => plain(QUERY_DUE_SILENT),
-        PaceAnswer::Refused(refusal) => refused(refusal),
+        Ok(PaceAnswer::Quiet) => plain(QUIET),
+        Ok(PaceAnswer::Due) => plain(QUERY_DUE),
+        Ok(PaceAnswer::Silent) => plain(SILENT),
+        Ok(PaceAnswer::DueSilent) => plain(QUERY_DUE_SILENT),
+        Err(refusal) => refused(refusal),
     }
 }
 
-pub(crate) fn of_handful(answer: HandfulAnswer) -> Answer
+pub(crate) fn of_handful(answer: Result<(), Refusal>) -> Answer
     ensures { result ≡ code_of (handed_as answer) }
 {
     match answer {
-        HandfulAnswer::Offered => plain(OFFERED),
-        HandfulAnswer::Refused(refusal) => refused(refusal),
+        Ok(()) => plain(OFFERED),
+        Err(refusal) => refused(refusal),
     }
 }

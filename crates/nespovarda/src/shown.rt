@@ -5,10 +5,11 @@ ghost use Rattle.ips_words.specs.Words.{state_in};
 ghost use Rattle.nespovarda.specs.Shown.{channel_numbers, kept_numbers, pacer_numbers, WaitingAt, ShowsChannel, ShowsWaiting, ShowsKept, ShowsPacer};
 
 use answer_codes::{Answer, KEPT, NONE_THERE, PACER_SHOWN, SHOWN, plain, refused};
-use endpoint::{Channel, KeptAnswer, Pacer, PacerAnswer, Place, Refusal};
+use endpoint::{Channel, Pacer, Refusal};
 use ips_words::{slot, waiting};
 use lent_messages::stated;
-use meaning::message::{Context, Instance};
+use meaning::message::ContextBytes;
+use quantity::count::LinkInstanceId;
 
 // How many numbers are shown of a channel, of a waiting packet, of what is kept, and of the pacer.
 pub const CHANNEL_NUMBERS: usize = 9;
@@ -47,11 +48,11 @@ pub fn nespovarda_show(words: &[u64], channel: u8, shown: &mut [u64; CHANNEL_NUM
     let found = endpoint::find_channel(words, channel);
     let place = found.place;
     match place {
-        Place::At(at) => {
+        Ok(at) => {
             show(found.channel, at.start, shown);
             plain(SHOWN)
         }
-        Place::Refused(number) => refused(Refusal { number, place: 0 }),
+        Err(number) => refused(Refusal { number, place: 0 }),
     }
 }
 
@@ -81,13 +82,17 @@ pub fn nespovarda_waiting(
     let found = endpoint::find_channel(words, channel);
     let place = found.place;
     match place {
-        Place::At(_) => show_waiting(found.channel, waiting::narrow(position), shown),
-        Place::Refused(number) => refused(Refusal { number, place: 0 }),
+        Ok(_) => show_waiting(found.channel, waiting::narrow(position), shown),
+        Err(number) => refused(Refusal { number, place: 0 }),
     }
 }
 
 // Of each the length, 0 where there is none, and the number that the bytes spell.
-fn show_kept(link: Instance, kept: Context, shown: &mut [u64; KEPT_NUMBERS])
+fn show_kept(
+    link: Option<(LinkInstanceId, usize)>,
+    kept: Option<(ContextBytes, usize)>,
+    shown: &mut [u64; KEPT_NUMBERS],
+)
     ensures { shown.new ≡ kept_numbers link kept }
 {
     let given = stated::instance(link);
@@ -100,11 +105,11 @@ pub fn nespovarda_kept(words: &[u64], shown: &mut [u64; KEPT_NUMBERS]) -> Answer
     ensures { ShowsKept (state_in words.now) shown.old result shown.new }
 {
     match endpoint::kept(words) {
-        KeptAnswer::Kept(link, context) => {
-            show_kept(link, context, shown);
+        Ok(held) => {
+            show_kept(held.instance, held.context, shown);
             plain(KEPT)
         }
-        KeptAnswer::Refused(refusal) => refused(refusal),
+        Err(refusal) => refused(refusal),
     }
 }
 
@@ -126,10 +131,10 @@ pub fn nespovarda_pacer(words: &[u64], shown: &mut [u64; PACER_NUMBERS]) -> Answ
     ensures { ShowsPacer (state_in words.now) shown.old result shown.new }
 {
     match endpoint::pacer(words) {
-        PacerAnswer::Shown(pacer) => {
+        Ok(pacer) => {
             show_pacer(pacer, shown);
             plain(PACER_SHOWN)
         }
-        PacerAnswer::Refused(refusal) => refused(refusal),
+        Err(refusal) => refused(refusal),
     }
 }

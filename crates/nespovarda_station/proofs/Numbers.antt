@@ -1,4 +1,6 @@
 -- The numbers that a caller sees are those of the table, in literals. Assumes nothing.
+use Rattle.std.specs.Prelude.{Option, Some, None}
+use Rattle.quantity.specs.declared.count.FlowSequence.{FlowSequence}
 use Prim.Native.Nat.{ℕ, ◌+◌}
 use mathlib.Core.Bool.{Bool, true, false, ◌&&◌}
 use mathlib.Core.List.{List, [], ◌∷◌}
@@ -6,12 +8,9 @@ use mathlib.Core.Path.{◌≡◌, refl, ap, ◌∙◌}
 use lib.Dec.{eqb}
 use native.Mathlib.Omega.{arith}
 use borrow.Author.Tests.{ne_eqb}
-use Rattle.meaning.specs.declared.message.Instance.{Instance}
-use Rattle.meaning.specs.declared.message.Context.{Context}
 use Rattle.meaning.specs.declared.message.Window.{Window}
 use Rattle.answer_codes.specs.declared.Answer.{Answer}
 use Rattle.lent_messages.specs.Stated.{window_stated}
-use Rattle.radio_flow.specs.declared.Highest.{Highest}
 use Rattle.radio_end_words.specs.Words.{highest_tag, highest_value}
 use Rattle.radio_end_state.specs.declared.channel.Channel.{Channel}
 use Rattle.radio_end_state.specs.Channel.{window_now}
@@ -38,14 +37,14 @@ pub words_exactly : (channels : ℕ) → words_needed channels ≡ words_number 
 unfolding words_needed
 words_exactly channels = refl
 
-window_exactly : (window : Window) (rest : List ℕ) → (window_stated window).tag ∷ (window_stated window).first ∷ rest ≡ window_numbers window rest
-window_exactly Window.Absent rest = refl
-window_exactly Window.Empty rest = refl
-window_exactly (Window.Given window) rest = refl
+window_exactly : (window : Option Window) (rest : List ℕ) → (window_stated window).tag ∷ (window_stated window).first ∷ rest ≡ window_numbers window rest
+window_exactly None rest = refl
+window_exactly (Some Window.Empty) rest = refl
+window_exactly (Some (Window.Given window)) rest = refl
 
-highest_exactly : (highest : Highest) (rest : List ℕ) → highest_tag highest ∷ highest_value highest ∷ rest ≡ highest_numbers highest rest
-highest_exactly Highest.Unheard rest = refl
-highest_exactly (Highest.At sequence) rest = refl
+highest_exactly : (highest : Option FlowSequence) (rest : List ℕ) → highest_tag highest ∷ highest_value highest ∷ rest ≡ highest_numbers highest rest
+highest_exactly None rest = refl
+highest_exactly (Some sequence) rest = refl
 
 six_numbers_lem : (c : Channel) → channel_numbers c ≡ six_numbers c
 six_numbers_lem c =
@@ -80,19 +79,19 @@ valued value =
     let some : eqb (1 + value) 0 ≡ false = ne_eqb (1 + value) 0 (λ e. omega (arith, e)) in
     rw some
 
-instance_given : (value length : ℕ) → instance_said value (1 + length) ≡ Instance.Given (record { 0 = value }) (1 + length)
+instance_given : (value length : ℕ) → instance_said value (1 + length) ≡ Some (record { 0 = value }, 1 + length)
 unfolding instance_said
 instance_given value length = rw (said value length)
 
-context_given : (value length : ℕ) → context_said value (1 + length) ≡ Context.Given (record { 0 = value }) (1 + length)
+context_given : (value length : ℕ) → context_said value (1 + length) ≡ Some (record { 0 = value }, 1 + length)
 unfolding context_said
 context_given value length = rw (said value length)
 
-instance_unwritten : (value : ℕ) → instance_said (1 + value) 0 ≡ Instance.Given (record { 0 = 1 + value }) 0
+instance_unwritten : (value : ℕ) → instance_said (1 + value) 0 ≡ Some (record { 0 = 1 + value }, 0)
 unfolding instance_said
 instance_unwritten value = rw (valued value)
 
-context_unwritten : (value : ℕ) → context_said (1 + value) 0 ≡ Context.Given (record { 0 = 1 + value }) 0
+context_unwritten : (value : ℕ) → context_said (1 + value) 0 ≡ Some (record { 0 = 1 + value }, 0)
 unfolding context_said
 context_unwritten value = rw (valued value)
 

@@ -1,4 +1,6 @@
 -- An exported call's numbers say its answer, so that whatever is promised of a run is promised of exported calls. Assumes nothing.
+use Rattle.std.specs.Prelude.{Result, Ok, Err}
+use Rattle.quantity.specs.declared.refusal.Refusal.{Refusal}
 use Prim.Native.Nat.{ℕ, ◌+◌, ◌-◌, ◌<◌}
 use mathlib.Core.Bool.{false}
 use mathlib.Core.List.{List, [], map}
@@ -14,7 +16,6 @@ use Rattle.radio_end_state.specs.Calls.{After, heard, status_told, queued_told, 
 use Rattle.radio_end_run.specs.Run.{Call, hear, status, queued, context, link, tell, after_call, states_after, answers_of}
 use Rattle.radio_end_words.specs.Words.{state_in}
 use Rattle.radio_end_telling.specs.Left.{Left}
-use Rattle.radio_end_start.specs.declared.StartAnswer.{StartAnswer}
 use Rattle.radio_end_start.specs.Start.{configuration_in, StartedIn}
 use Rattle.radio_end.specs.Ran as radio
 use Rattle.radio_end.proofs.Started.{started_ran}
@@ -30,16 +31,16 @@ no_kind number kind less = ne_eqb (256 + number) kind (λ e. omega (arith, less,
 number_back : (number : ℕ) → (256 + number) - 256 ≡ number
 number_back number = omega arith
 
-pub said_back : (a : Answer) → answer_said (code_of (said_as a)) ≡ a
-said_back (Answer.Answered bytes) = refl
-said_back (Answer.Unasked bytes) = refl
-said_back Answer.Quiet = refl
-said_back (Answer.Refused refusal) =
+pub said_back : (a : Result Answer Refusal) → answer_said (code_of (said_as a)) ≡ a
+said_back (Ok (Answer.Answered bytes)) = refl
+said_back (Ok (Answer.Unasked bytes)) = refl
+said_back (Ok Answer.Quiet) = refl
+said_back (Err refusal) =
     rw (no_kind refusal.number 20 (omega arith), no_kind refusal.number 21 (omega arith), no_kind refusal.number 22 (omega arith), number_back refusal.number)
 
-pub start_back : (a : StartAnswer) → start_said (code_of (started_as a)) ≡ a
-start_back StartAnswer.Started = refl
-start_back (StartAnswer.Refused refusal) = rw (no_kind refusal.number 1 (omega arith), number_back refusal.number)
+pub start_back : (a : Result (Unit {0}) Refusal) → start_said (code_of (started_as a)) ≡ a
+start_back (Ok tt) = refl
+start_back (Err refusal) = rw (no_kind refusal.number 1 (omega arith), number_back refusal.number)
 
 -- ---- the contracts of the six exports are the contract of an exported call
 module _ (words : List ℕ) (r : codes.Answer) (words' out' : List ℕ) where

@@ -1,4 +1,5 @@
 -- Promises: an exported call whose number is a refusal's leaves every lent word, and every byte of the output. Assumes nothing.
+use Rattle.std.specs.Prelude.{Err}
 use Prim.Native.Nat.{ℕ, ◌-◌, ◌≤◌}
 use mathlib.Core.Bool.{false}
 use mathlib.Core.List.{List}
@@ -8,11 +9,9 @@ use borrow.Author.Tests.{ne_eqb}
 use lib.Dec.{eqb}
 use Rattle.quantity.specs.declared.refusal.Refusal.{Refusal}
 use Rattle.answer_codes.specs.declared.Answer as codes
-use Rattle.radio_end_state.specs.declared.answer.Answer.{Answer}
 use Rattle.radio_end_state.specs.Each.{EachCall}
 use Rattle.radio_end_state.proofs.Keeps.{each_by}
 use Rattle.radio_end_words.specs.Words.{state_in}
-use Rattle.radio_end_start.specs.declared.StartAnswer.{StartAnswer}
 use Rattle.radio_end_start.proofs.Exactly.{refused_leaves}
 use Rattle.radio_end.proofs.Refused.{refused_in_lem}
 use Rattle.nespovarda_station.specs.Exports.{Exported, StartExported}
@@ -27,10 +26,10 @@ module _ (r : codes.Answer) (refused : 256 ≤ r.kind) where
   no_kind : (kind : ℕ) → kind ≤ 255 → eqb r.kind kind ≡ false
   no_kind kind low = ne_eqb r.kind kind (λ e. omega (arith, refused, low, e))
 
-  call_said : answer_said r ≡ Answer.Refused refusal
+  call_said : answer_said r ≡ Err refusal
   call_said = rw (no_kind 20 (omega arith), no_kind 21 (omega arith), no_kind 22 (omega arith))
 
-  start_said_lem : start_said r ≡ StartAnswer.Refused refusal
+  start_said_lem : start_said r ≡ Err refusal
   start_said_lem = rw (no_kind 1 (omega arith))
 
   -- EACH EXPORTED CALL that is refused: the words are those that it found, and the output is as it was

@@ -9,13 +9,12 @@ ghost use Rattle.nespovarda_station.specs.Exports.{Exported, StartExported};
 use crate::{answer, named};
 use answer_codes::Answer;
 use quantity::count::ByteCount;
-use radio_end_words::slot;
 
 // How many words a state of so many channels asks for; 0 where no state has so many.
 pub fn nespovarda_station_words(channels: u64) -> u64
     ensures { result ≡ words_needed channels }
 {
-    slot::wide(radio_end::words_for(slot::narrow(channels)))
+    radio_end::words_for(channels as usize) as u64
 }
 
 pub fn nespovarda_station_start(words: &mut [u64], configuration: &[u64]) -> Answer
@@ -49,7 +48,7 @@ pub fn nespovarda_station_queued(
 ) -> Answer
     ensures { Exported (queued_told (state_in words.old) channel (record { 0 = bytes }) out.old) words.old result words.new out.new }
 {
-    let queued = ByteCount(slot::narrow(bytes));
+    let queued = ByteCount(bytes as usize);
     answer::of_call(radio_end::tell_queued(words, channel, queued, out))
 }
 

@@ -2,9 +2,8 @@
 ghost use Rattle.std.specs.Prelude.{◌≡◌};
 ghost use Rattle.nespovarda_station.specs.Named.{says_none_of, instance_said, context_said};
 
-use meaning::message::{Context, ContextBytes, Instance};
+use meaning::message::ContextBytes;
 use quantity::count::LinkInstanceId;
-use radio_end_words::slot;
 
 fn says_none(value: u64, length: u64) -> bool
     ensures { result ≡ says_none_of value length }
@@ -12,20 +11,20 @@ fn says_none(value: u64, length: u64) -> bool
     value == 0 && length == 0
 }
 
-pub(crate) fn instance(value: u64, length: u64) -> Instance
+pub(crate) fn instance(value: u64, length: u64) -> Option<(LinkInstanceId, usize)>
     ensures { result ≡ instance_said value length }
 {
     if says_none(value, length) {
-        return Instance::Absent;
+        return None;
     }
-    Instance::Given(LinkInstanceId(value), slot::narrow(length))
+    Some((LinkInstanceId(value), length as usize))
 }
 
-pub(crate) fn context(value: u64, length: u64) -> Context
+pub(crate) fn context(value: u64, length: u64) -> Option<(ContextBytes, usize)>
     ensures { result ≡ context_said value length }
 {
     if says_none(value, length) {
-        return Context::Absent;
+        return None;
     }
-    Context::Given(ContextBytes(value), slot::narrow(length))
+    Some((ContextBytes(value), length as usize))
 }

@@ -5,7 +5,6 @@ ghost use Rattle.nespovarda_station.specs.Shown.{channel_numbers, ShowsChannel};
 
 use answer_codes::{Answer, SHOWN, plain, refused};
 use lent_messages::stated;
-use radio_end::ShowAnswer;
 use radio_end_state::channel;
 use radio_end_state::channel::Channel;
 use radio_end_words::slot;
@@ -26,7 +25,7 @@ fn show(channel: Channel, shown: &mut [u64; STATION_NUMBERS])
         window.first,
         slot::highest_tag(highest),
         slot::highest_value(highest),
-        slot::wide(queued.0),
+        queued.0 as u64,
     ];
 }
 
@@ -39,10 +38,10 @@ pub fn nespovarda_station_show(
     ensures { ShowsChannel (state_in words.now) channel shown.old result shown.new }
 {
     match radio_end::show(words, channel) {
-        ShowAnswer::Shown(found) => {
+        Ok(found) => {
             show(found, shown);
             plain(SHOWN)
         }
-        ShowAnswer::Refused(refusal) => refused(refusal),
+        Err(refusal) => refused(refusal),
     }
 }

@@ -1,4 +1,5 @@
 -- What flat tables tell of a control message as it is read so far. Assumes nothing.
+use Rattle.std.specs.Prelude.{Option, Some, None}
 use Prim.Native.Nat.{ℕ, zero, suc, ◌+◌, ◌<◌}
 use mathlib.Core.Path.{◌≡◌, refl, sym, ap, ◌∙◌}
 use mathlib.Core.List.{List}
@@ -20,17 +21,8 @@ use Rattle.meaning.specs.declared.message.Plane.{Plane}
 use Rattle.meaning.specs.Kinds.{among, must_hold, CHANNEL-STATUS}
 use Rattle.read_rules.specs.Sorts.{unstated_datalink, is_ours}
 use Rattle.meaning.specs.declared.message.End.{End}
-use Rattle.meaning.specs.declared.message.Datalink.{Datalink}
-use Rattle.meaning.specs.declared.message.Instance.{Instance}
-use Rattle.meaning.specs.declared.message.Context.{Context}
-use Rattle.meaning.specs.declared.message.Status.{Status}
-use Rattle.meaning.specs.declared.message.Sequence.{Sequence}
 use Rattle.meaning.specs.declared.message.Window.{Window}
-use Rattle.meaning.specs.declared.message.StatusCell.{StatusCell}
-use Rattle.meaning.specs.declared.message.SequenceCell.{SequenceCell}
-use Rattle.meaning.specs.declared.message.WindowCell.{WindowCell}
 use Rattle.meaning.specs.declared.message.Control.{Control}
-use Rattle.meaning.specs.Cells.{no_status, no_sequence, no_window}
 use Rattle.read_option.specs.declared.answer.Item.{Item}
 use Rattle.read_option.specs.Stated.{control_stated}
 use Rattle.read_rules.specs.declared.answer.Verdict.{Verdict}
@@ -42,13 +34,13 @@ use Rattle.note_control.specs.Noted.{NotedBy}
 use Rattle.note_control.specs.Codes.{code_status, code_window, window_tag, window_word}
 
 -- m: what is stated so far; the tables tell the same of every channel
-pub record Told (m : Control) (datalink : Datalink) (instance : Instance) (context : Context) (statuses : List ℕ) (sequences : List Bool) (tags windows : List ℕ) : Type 0 where
+pub record Told (m : Control) (datalink : Option DatalinkId) (instance : Option (LinkInstanceId × ℕ)) (context : Option (ContextBytes × ℕ)) (statuses : List ℕ) (sequences : List Bool) (tags windows : List ℕ) : Type 0 where
   pub datalink_is : m.datalink ≡ datalink
   pub instance_is : m.instance ≡ instance
   pub context_is : m.context ≡ context
-  pub status_is : (n : ℕ) → (get_or m.statuses n no_status).status ≡ code_status (get_or statuses n 0)
-  pub sequence_is : (n : ℕ) → unstated_sequence (get_or m.sequences n no_sequence).sequence ≡ not (get_or sequences n false)
-  pub window_is : (n : ℕ) → (get_or m.windows n no_window).window ≡ code_window (get_or tags n 0) (get_or windows n 0)
+  pub status_is : (n : ℕ) → (get_or m.statuses n None) ≡ code_status (get_or statuses n 0)
+  pub sequence_is : (n : ℕ) → unstated_sequence (get_or m.sequences n None) ≡ not (get_or sequences n false)
+  pub window_is : (n : ℕ) → (get_or m.windows n None) ≡ code_window (get_or tags n 0) (get_or windows n 0)
   pub statuses_cells : length m.statuses ≡ CHANNEL-IDS
   pub sequences_cells : length m.sequences ≡ CHANNEL-IDS
   pub windows_cells : length m.windows ≡ CHANNEL-IDS
@@ -58,7 +50,7 @@ pub record Told (m : Control) (datalink : Datalink) (instance : Instance) (conte
   pub windows_long : length windows ≡ CHANNEL-IDS
 
 -- at a place of the datagram
-pub record Judged (end : End) (id : DatalinkId) (s : List ℕ) (at : ℕ) (datalink : Datalink) (instance : Instance) (context : Context) (statuses : List ℕ) (sequences : List Bool) (tags windows : List ℕ) : Type 0 where
+pub record Judged (end : End) (id : DatalinkId) (s : List ℕ) (at : ℕ) (datalink : Option DatalinkId) (instance : Option (LinkInstanceId × ℕ)) (context : Option (ContextBytes × ℕ)) (statuses : List ℕ) (sequences : List Bool) (tags windows : List ℕ) : Type 0 where
   pub stated : Control
   pub reached : Reached end id s at stated
   pub told : Told stated datalink instance context statuses sequences tags windows
@@ -76,15 +68,15 @@ all_same (suc n) zero a = refl
 all_same (suc n) (suc i) a = all_same n i a
 
 -- ---- at the start nothing is told
-pub told_nothing : Told blank_control Datalink.Absent Instance.Absent Context.Absent (replicate CHANNEL-IDS 0) (replicate CHANNEL-IDS false) (replicate CHANNEL-IDS 0) (replicate CHANNEL-IDS 0)
+pub told_nothing : Told blank_control None None None (replicate CHANNEL-IDS 0) (replicate CHANNEL-IDS false) (replicate CHANNEL-IDS 0) (replicate CHANNEL-IDS 0)
 unfolding blank_control control_stated
 told_nothing = record {
   datalink_is = refl;
   instance_is = refl;
   context_is = refl;
-  status_is = λ n. each_tabulated (λ (cell : StatusCell). cell.status ≡ Status.Absent) no_status refl CHANNEL-IDS _ (λ k. refl) n ∙ sym (ap code_status (all_same CHANNEL-IDS n 0));
-  sequence_is = λ n. ap unstated_sequence (each_tabulated (λ (cell : SequenceCell). cell.sequence ≡ Sequence.Absent) no_sequence refl CHANNEL-IDS _ (λ k. refl) n) ∙ sym (ap not (all_same CHANNEL-IDS n false));
-  window_is = λ n. each_tabulated (λ (cell : WindowCell). cell.window ≡ Window.Absent) no_window refl CHANNEL-IDS _ (λ k. refl) n ∙ sym (ap (λ k. code_window k (get_or (replicate CHANNEL-IDS 0) n 0)) (all_same CHANNEL-IDS n 0));
+  status_is = λ n. each_tabulated (λ (cell : Option ℕ). cell ≡ None) None refl CHANNEL-IDS _ (λ k. refl) n ∙ sym (ap code_status (all_same CHANNEL-IDS n 0));
+  sequence_is = λ n. ap unstated_sequence (each_tabulated (λ (cell : Option FlowSequence). cell ≡ None) None refl CHANNEL-IDS _ (λ k. refl) n) ∙ sym (ap not (all_same CHANNEL-IDS n false));
+  window_is = λ n. each_tabulated (λ (cell : Option Window). cell ≡ None) None refl CHANNEL-IDS _ (λ k. refl) n ∙ sym (ap (λ k. code_window k (get_or (replicate CHANNEL-IDS 0) n 0)) (all_same CHANNEL-IDS n 0));
   statuses_cells = length_tabulate CHANNEL-IDS _;
   sequences_cells = length_tabulate CHANNEL-IDS _;
   windows_cells = length_tabulate CHANNEL-IDS _;
@@ -94,10 +86,10 @@ told_nothing = record {
   windows_long = length-replicate {A = ℕ} CHANNEL-IDS 0;
 }
 
-window_code : (w : Window) → code_window (window_tag w) (window_word w) ≡ w
-window_code Window.Absent = refl
-window_code Window.Empty = refl
-window_code (Window.Given word) = refl
+window_code : (w : Option Window) → code_window (window_tag w) (window_word w) ≡ w
+window_code None = refl
+window_code (Some Window.Empty) = refl
+window_code (Some (Window.Given word)) = refl
 
 pub unstated_code : (code : ℕ) → unstated_status (code_status code) ≡ eqb code 0
 unstated_code zero = refl
@@ -108,35 +100,35 @@ unstated_tag zero word = refl
 unstated_tag (suc zero) word = refl
 unstated_tag (suc (suc k)) word = sym (ne_eqb (suc (suc k)) 0 (λ e. omega arith))
 
-module _ {m : Control} {datalink : Datalink} {instance : Instance} {context : Context} {statuses : List ℕ} {sequences : List Bool} {tags windows : List ℕ}
+module _ {m : Control} {datalink : Option DatalinkId} {instance : Option (LinkInstanceId × ℕ)} {context : Option (ContextBytes × ℕ)} {statuses : List ℕ} {sequences : List Bool} {tags windows : List ℕ}
     (t : Told m datalink instance context statuses sequences tags windows) where
   -- ---- what is stated of a channel already
-  pub status_free : (n : ℕ) → get_or statuses n 0 ≡ 0 → unstated_status (get_or m.statuses n no_status).status ≡ true
+  pub status_free : (n : ℕ) → get_or statuses n 0 ≡ 0 → unstated_status (get_or m.statuses n None) ≡ true
   status_free n e = rw (t.status_is n, unstated_code) (eq-eqb (get_or statuses n 0) 0 e)
 
-  pub status_there : (n : ℕ) → (get_or statuses n 0 ≡ 0 → ⊥) → unstated_status (get_or m.statuses n no_status).status ≡ false
+  pub status_there : (n : ℕ) → (get_or statuses n 0 ≡ 0 → ⊥) → unstated_status (get_or m.statuses n None) ≡ false
   status_there n e = rw (t.status_is n, unstated_code) (ne_eqb (get_or statuses n 0) 0 e)
 
-  pub window_free : (n : ℕ) → get_or tags n 0 ≡ 0 → unstated_window (get_or m.windows n no_window).window ≡ true
+  pub window_free : (n : ℕ) → get_or tags n 0 ≡ 0 → unstated_window (get_or m.windows n None) ≡ true
   window_free n e = rw (t.window_is n, unstated_tag) (eq-eqb (get_or tags n 0) 0 e)
 
-  pub window_there : (n : ℕ) → (get_or tags n 0 ≡ 0 → ⊥) → unstated_window (get_or m.windows n no_window).window ≡ false
+  pub window_there : (n : ℕ) → (get_or tags n 0 ≡ 0 → ⊥) → unstated_window (get_or m.windows n None) ≡ false
   window_there n e = rw (t.window_is n, unstated_tag) (ne_eqb (get_or tags n 0) 0 e)
 
-  pub sequence_free : (n : ℕ) → get_or sequences n false ≡ false → unstated_sequence (get_or m.sequences n no_sequence).sequence ≡ true
+  pub sequence_free : (n : ℕ) → get_or sequences n false ≡ false → unstated_sequence (get_or m.sequences n None) ≡ true
   sequence_free n e = t.sequence_is n ∙ ap not e
 
-  pub sequence_there : (n : ℕ) → get_or sequences n false ≡ true → unstated_sequence (get_or m.sequences n no_sequence).sequence ≡ false
+  pub sequence_there : (n : ℕ) → get_or sequences n false ≡ true → unstated_sequence (get_or m.sequences n None) ≡ false
   sequence_there n e = t.sequence_is n ∙ ap not e
 
   -- ---- one item more
-  pub told_datalink : (d : DatalinkId) → Told (seated (Item.Datalink d) m) (Datalink.Given d) instance context statuses sequences tags windows
+  pub told_datalink : (d : DatalinkId) → Told (seated (Item.Datalink d) m) (Some d) instance context statuses sequences tags windows
   told_datalink d = record { datalink_is = refl; instance_is = t.instance_is; context_is = t.context_is; status_is = t.status_is; sequence_is = t.sequence_is; window_is = t.window_is; statuses_cells = t.statuses_cells; sequences_cells = t.sequences_cells; windows_cells = t.windows_cells; statuses_long = t.statuses_long; sequences_long = t.sequences_long; tags_long = t.tags_long; windows_long = t.windows_long }
 
-  pub told_instance : (v : LinkInstanceId) (n : ℕ) → Told (seated (Item.Instance v n) m) datalink (Instance.Given v n) context statuses sequences tags windows
+  pub told_instance : (v : LinkInstanceId) (n : ℕ) → Told (seated (Item.Instance v n) m) datalink (Some (v, n)) context statuses sequences tags windows
   told_instance v n = record { datalink_is = t.datalink_is; instance_is = refl; context_is = t.context_is; status_is = t.status_is; sequence_is = t.sequence_is; window_is = t.window_is; statuses_cells = t.statuses_cells; sequences_cells = t.sequences_cells; windows_cells = t.windows_cells; statuses_long = t.statuses_long; sequences_long = t.sequences_long; tags_long = t.tags_long; windows_long = t.windows_long }
 
-  pub told_context : (v : ContextBytes) (n : ℕ) → Told (seated (Item.Context v n) m) datalink instance (Context.Given v n) statuses sequences tags windows
+  pub told_context : (v : ContextBytes) (n : ℕ) → Told (seated (Item.Context v n) m) datalink instance (Some (v, n)) statuses sequences tags windows
   told_context v n = record { datalink_is = t.datalink_is; instance_is = t.instance_is; context_is = refl; status_is = t.status_is; sequence_is = t.sequence_is; window_is = t.window_is; statuses_cells = t.statuses_cells; sequences_cells = t.sequences_cells; windows_cells = t.windows_cells; statuses_long = t.statuses_long; sequences_long = t.sequences_long; tags_long = t.tags_long; windows_long = t.windows_long }
 
   -- the tests on the whole, by what the tables tell
@@ -146,40 +138,40 @@ module _ {m : Control} {datalink : Datalink} {instance : Instance} {context : Co
 
   module _ (n v : ℕ) (inside : n < CHANNEL-IDS) where
     pub told_status : Told (seated (Item.Status n v) m) datalink instance context (set statuses n (v + 1)) sequences tags windows
-    told_status = record { datalink_is = t.datalink_is; instance_is = t.instance_is; context_is = t.context_is; status_is = each; sequence_is = t.sequence_is; window_is = t.window_is; statuses_cells = length-set m.statuses n (record { status = Status.Given v }) ∙ t.statuses_cells; sequences_cells = t.sequences_cells; windows_cells = t.windows_cells; statuses_long = length-set statuses n (v + 1) ∙ t.statuses_long; sequences_long = t.sequences_long; tags_long = t.tags_long; windows_long = t.windows_long }
+    told_status = record { datalink_is = t.datalink_is; instance_is = t.instance_is; context_is = t.context_is; status_is = each; sequence_is = t.sequence_is; window_is = t.window_is; statuses_cells = length-set m.statuses n (Some v) ∙ t.statuses_cells; sequences_cells = t.sequences_cells; windows_cells = t.windows_cells; statuses_long = length-set statuses n (v + 1) ∙ t.statuses_long; sequences_long = t.sequences_long; tags_long = t.tags_long; windows_long = t.windows_long }
       where
-        each : (k : ℕ) → (get_or (set m.statuses n (record { status = Status.Given v })) k no_status).status ≡ code_status (get_or (set statuses n (v + 1)) k 0)
+        each : (k : ℕ) → (get_or (set m.statuses n (Some v)) k None) ≡ code_status (get_or (set statuses n (v + 1)) k 0)
         each k =
-            rw (at_set m.statuses n k (record { status = Status.Given v }) no_status (omega (arith, t.statuses_cells)), at_set statuses n k (v + 1) 0 (omega (arith, t.statuses_long)))
+            rw (at_set m.statuses n k (Some v) None (omega (arith, t.statuses_cells)), at_set statuses n k (v + 1) 0 (omega (arith, t.statuses_long)))
             (go (eqb k n))
           where
-            go : (b : Bool) → (cond b (record { status = Status.Given v }) (get_or m.statuses k no_status)).status ≡ code_status (cond b (v + 1) (get_or statuses k 0))
+            go : (b : Bool) → (cond b (Some v) (get_or m.statuses k None)) ≡ code_status (cond b (v + 1) (get_or statuses k 0))
             go true = rw (add-one v)
             go false = t.status_is k
 
   module _ (n : ℕ) (v : FlowSequence) (inside : n < CHANNEL-IDS) where
     pub told_sequence : Told (seated (Item.Sequence n v) m) datalink instance context statuses (set sequences n true) tags windows
-    told_sequence = record { datalink_is = t.datalink_is; instance_is = t.instance_is; context_is = t.context_is; status_is = t.status_is; sequence_is = each; window_is = t.window_is; statuses_cells = t.statuses_cells; sequences_cells = length-set m.sequences n (record { sequence = Sequence.Given v }) ∙ t.sequences_cells; windows_cells = t.windows_cells; statuses_long = t.statuses_long; sequences_long = length-set sequences n true ∙ t.sequences_long; tags_long = t.tags_long; windows_long = t.windows_long }
+    told_sequence = record { datalink_is = t.datalink_is; instance_is = t.instance_is; context_is = t.context_is; status_is = t.status_is; sequence_is = each; window_is = t.window_is; statuses_cells = t.statuses_cells; sequences_cells = length-set m.sequences n (Some v) ∙ t.sequences_cells; windows_cells = t.windows_cells; statuses_long = t.statuses_long; sequences_long = length-set sequences n true ∙ t.sequences_long; tags_long = t.tags_long; windows_long = t.windows_long }
       where
-        each : (k : ℕ) → unstated_sequence (get_or (set m.sequences n (record { sequence = Sequence.Given v })) k no_sequence).sequence ≡ not (get_or (set sequences n true) k false)
+        each : (k : ℕ) → unstated_sequence (get_or (set m.sequences n (Some v)) k None) ≡ not (get_or (set sequences n true) k false)
         each k =
-            rw (at_set m.sequences n k (record { sequence = Sequence.Given v }) no_sequence (omega (arith, t.sequences_cells)), at_set sequences n k true false (omega (arith, t.sequences_long)))
+            rw (at_set m.sequences n k (Some v) None (omega (arith, t.sequences_cells)), at_set sequences n k true false (omega (arith, t.sequences_long)))
             (go (eqb k n))
           where
-            go : (b : Bool) → unstated_sequence (cond b (record { sequence = Sequence.Given v }) (get_or m.sequences k no_sequence)).sequence ≡ not (cond b true (get_or sequences k false))
+            go : (b : Bool) → unstated_sequence (cond b (Some v) (get_or m.sequences k None)) ≡ not (cond b true (get_or sequences k false))
             go true = refl
             go false = t.sequence_is k
 
-  module _ (n : ℕ) (v : Window) (inside : n < CHANNEL-IDS) where
+  module _ (n : ℕ) (v : Option Window) (inside : n < CHANNEL-IDS) where
     pub told_window : Told (seated (Item.Window n v) m) datalink instance context statuses sequences (set tags n (window_tag v)) (set windows n (window_word v))
-    told_window = record { datalink_is = t.datalink_is; instance_is = t.instance_is; context_is = t.context_is; status_is = t.status_is; sequence_is = t.sequence_is; window_is = each; statuses_cells = t.statuses_cells; sequences_cells = t.sequences_cells; windows_cells = length-set m.windows n (record { window = v }) ∙ t.windows_cells; statuses_long = t.statuses_long; sequences_long = t.sequences_long; tags_long = length-set tags n (window_tag v) ∙ t.tags_long; windows_long = length-set windows n (window_word v) ∙ t.windows_long }
+    told_window = record { datalink_is = t.datalink_is; instance_is = t.instance_is; context_is = t.context_is; status_is = t.status_is; sequence_is = t.sequence_is; window_is = each; statuses_cells = t.statuses_cells; sequences_cells = t.sequences_cells; windows_cells = length-set m.windows n v ∙ t.windows_cells; statuses_long = t.statuses_long; sequences_long = t.sequences_long; tags_long = length-set tags n (window_tag v) ∙ t.tags_long; windows_long = length-set windows n (window_word v) ∙ t.windows_long }
       where
-        each : (k : ℕ) → (get_or (set m.windows n (record { window = v })) k no_window).window ≡ code_window (get_or (set tags n (window_tag v)) k 0) (get_or (set windows n (window_word v)) k 0)
+        each : (k : ℕ) → (get_or (set m.windows n v) k None) ≡ code_window (get_or (set tags n (window_tag v)) k 0) (get_or (set windows n (window_word v)) k 0)
         each k =
-            rw (at_set m.windows n k (record { window = v }) no_window (omega (arith, t.windows_cells)), at_set tags n k (window_tag v) 0 (omega (arith, t.tags_long)), at_set windows n k (window_word v) 0 (omega (arith, t.windows_long)))
+            rw (at_set m.windows n k v None (omega (arith, t.windows_cells)), at_set tags n k (window_tag v) 0 (omega (arith, t.tags_long)), at_set windows n k (window_word v) 0 (omega (arith, t.windows_long)))
             (go (eqb k n))
           where
-            go : (b : Bool) → (cond b (record { window = v }) (get_or m.windows k no_window)).window ≡ code_window (cond b (window_tag v) (get_or tags k 0)) (cond b (window_word v) (get_or windows k 0))
+            go : (b : Bool) → (cond b v (get_or m.windows k None)) ≡ code_window (cond b (window_tag v) (get_or tags k 0)) (cond b (window_word v) (get_or windows k 0))
             go true = sym (window_code v)
             go false = t.window_is k
 
@@ -190,12 +182,12 @@ refusal_is e = ap (λ (r : ControlReading). r.verdict) e
 
 -- a refused message as it is noted
 pub unnoted_is : {number place : ℕ} {whole : ControlReading} {r : Noted} {statuses tags windows : List ℕ}
-    → r ≡ record { verdict = Verdict.Refused (record { number = number; place = place }); instance = Instance.Absent; context = Context.Absent }
+    → r ≡ record { verdict = Verdict.Refused (record { number = number; place = place }); instance = None; context = None }
     → control_refused number place ≡ whole → NotedBy whole r statuses tags windows
 unnoted_is {number} {place} e f = rw e (record { verdict_is = refusal_is f; meant = tt })
 
 -- an accepted one
-pub noted_is : {m : Control} {whole : ControlReading} {datalink : Datalink} {instance : Instance} {context : Context} {statuses : List ℕ} {sequences : List Bool} {tags windows : List ℕ}
+pub noted_is : {m : Control} {whole : ControlReading} {datalink : Option DatalinkId} {instance : Option (LinkInstanceId × ℕ)} {context : Option (ContextBytes × ℕ)} {statuses : List ℕ} {sequences : List Bool} {tags windows : List ℕ}
     → Told m datalink instance context statuses sequences tags windows → control_accepted m ≡ whole
     → NotedBy whole (record { verdict = Verdict.Accepted; instance = instance; context = context }) statuses tags windows
 unfolding control_accepted

@@ -7,14 +7,14 @@ use meaning::message::Window;
 use quantity::count::FlowWindow;
 
 // A Flow Window by its tag and its word.
-pub fn window(tag: u8, word: u32) -> Window
+pub fn window(tag: u8, word: u32) -> Option<Window>
     ensures { result ≡ code_window tag word }
 {
     if tag == ABSENT_WINDOW {
-        return Window::Absent;
+        return None;
     }
     if tag == EMPTY_WINDOW {
-        return Window::Empty;
+        return Some(Window::Empty);
     }
-    Window::Given(FlowWindow(word))
+    Some(Window::Given(FlowWindow(word)))
 }

@@ -2,7 +2,7 @@
 // no table of a whole meaning.
 #![tactic(auto)]
 
-ghost use Rattle.std.specs.Prelude.{◌≡◌, false, cond, drop, replicate};
+ghost use Rattle.std.specs.Prelude.{◌≡◌, false, cond, drop, replicate, None};
 ghost use Rattle.wire.specs.Options.{split};
 ghost use Rattle.quantity.specs.Refusals.{MISSING, OTHER-DATALINK};
 ghost use Rattle.meaning.specs.declared.message.Plane.{Plane};
@@ -14,14 +14,14 @@ ghost use Rattle.quantity.specs.Limits.{CHANNEL-IDS};
 ghost use Rattle.note_control.specs.Codes.{window_tag, window_word, code_status};
 ghost use Rattle.note_control.specs.Noted.{NotedBy};
 
-use meaning::message::{Context, Datalink, End, Instance, Window};
-use quantity::count::DatalinkId;
+use meaning::message::{ContextBytes, End, Window};
+use quantity::count::{DatalinkId, LinkInstanceId};
 use quantity::limit::CHANNEL_IDS;
 use quantity::refusal::{CUT, MISSING, OTHER_DATALINK, REPEATED, Refusal};
-use read_option::answer::{Item, OptionAnswer};
+use read_option::answer::Item;
 use read_option::option;
 use read_rules::answer::Verdict;
-use wire::option::{FRAME_SIZE, Frame, first};
+use wire::option::{FRAME_SIZE, first};
 
 pub mod codes;
 
@@ -34,23 +34,23 @@ pub const EMPTY_WINDOW: u8 = 1;
 
 pub const GIVEN_WINDOW: u8 = 2;
 
-fn window_tag(window: Window) -> u8
+fn window_tag(window: Option<Window>) -> u8
     ensures { result ≡ window_tag window }
 {
     match window {
-        Window::Absent => ABSENT_WINDOW,
-        Window::Empty => EMPTY_WINDOW,
-        Window::Given(_) => GIVEN_WINDOW,
+        None => ABSENT_WINDOW,
+        Some(Window::Empty) => EMPTY_WINDOW,
+        Some(Window::Given(_)) => GIVEN_WINDOW,
     }
 }
 
-fn window_word(window: Window) -> u32
+fn window_word(window: Option<Window>) -> u32
     ensures { result ≡ window_word window }
 {
     match window {
-        Window::Absent => 0,
-        Window::Empty => 0,
-        Window::Given(word) => word.0,
+        None => 0,
+        Some(Window::Empty) => 0,
+        Some(Window::Given(word)) => word.0,
     }
 }
 
@@ -65,10 +65,10 @@ fn lacks_status(end: End, code: u16) -> bool
 }
 
 // The tests on the whole, 9, then 11: the number of the refusal, or 0.
-fn fault(end: End, id: DatalinkId, datalink: Datalink, code: u16) -> u8
+fn fault(end: End, id: DatalinkId, datalink: Option<DatalinkId>, code: u16) -> u8
     ensures { result ≡ cond (unstated_datalink datalink) MISSING (cond (cond (among CHANNEL-STATUS (must_hold Plane.Control end)) (unstated_status (code_status code)) false) MISSING (cond (is_ours id datalink) 0 OTHER-DATALINK)) }
 {
-    let Datalink::Given(stated) = datalink else {
+    let Some(stated) = datalink else {
         return MISSING;
     };
     if lacks_status(end, code) {
@@ -84,18 +84,18 @@ fn fault(end: End, id: DatalinkId, datalink: Datalink, code: u16) -> u8
 #[derive(Clone, Copy)]
 pub struct Noted {
     pub verdict: Verdict,
-    pub instance: Instance,
-    pub context: Context,
+    pub instance: Option<(LinkInstanceId, usize)>,
+    pub context: Option<(ContextBytes, usize)>,
 }
 
 // Of a refused message nothing is noted.
 fn unnoted(number: u8, place: usize) -> Noted
-    ensures { result ≡ record { verdict = Verdict.Refused (record { number = number; place = place }); instance = Instance.Absent; context = Context.Absent } }
+    ensures { result ≡ record { verdict = Verdict.Refused (record { number = number; place = place }); instance = None; context = None } }
 {
     Noted {
         verdict: Verdict::Refused(Refusal { number, place }),
-        instance: Instance::Absent,
-        context: Context::Absent,
+        instance: None,
+        context: None,
     }
 }
 
@@ -111,39 +111,40 @@ pub fn note(
     requires { (statuses.old ≡ replicate CHANNEL-IDS 0) × (tags.old ≡ replicate CHANNEL-IDS 0) × (windows.old ≡ replicate CHANNEL-IDS 0) }
     ensures { NotedBy (judge (rules_of (control_sort end id)) (split (drop 1 datagram.now)) 1 blank_control) result statuses.new tags.new windows.new }
 {
-    let mut datalink = Datalink::Absent;
-    let mut instance = Instance::Absent;
-    let mut context = Context::Absent;
+    let mut datalink = None;
+    let mut instance = None;
+    let mut context = None;
     let mut sequences = [false; CHANNEL_IDS];
     let mut at: usize = 1;
+    // Each option says where the next begins: no `for` or iterator goes by such steps.
     while at < datagram.len() {
-        let Frame::Whole(kind, size) = first(&datagram[at..]) else {
+        let Some((kind, size)) = first(&datagram[at..]) else {
             return unnoted(CUT, at);
         };
         let from = at + FRAME_SIZE;
         let to = from + size;
         let answer = option::of_noted(end, kind, &datagram[from..to]);
-        let OptionAnswer::Took(item) = answer else {
+        let Ok(item) = answer else {
             return unnoted(option::number_of(answer), at);
         };
         match item {
             Item::Datalink(stated) => {
-                let Datalink::Absent = datalink else {
+                let None = datalink else {
                     return unnoted(REPEATED, at);
                 };
-                datalink = Datalink::Given(stated);
+                datalink = Some(stated);
             }
             Item::Instance(number, length) => {
-                let Instance::Absent = instance else {
+                let None = instance else {
                     return unnoted(REPEATED, at);
                 };
-                instance = Instance::Given(number, length);
+                instance = Some((number, length));
             }
             Item::Context(bytes, length) => {
-                let Context::Absent = context else {
+                let None = context else {
                     return unnoted(REPEATED, at);
                 };
-                context = Context::Given(bytes, length);
+                context = Some((bytes, length));
             }
             Item::Status(channel, status) => {
                 let i = channel as usize;

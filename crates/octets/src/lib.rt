@@ -1,7 +1,7 @@
 // Bytes copied, and a byte looked for.
 #![tactic(auto)]
 
-ghost use Rattle.std.specs.Prelude.{◌≡◌, ◌+◌, ◌≤◌, ◌++◌, length, take, drop};
+ghost use Rattle.std.specs.Prelude.{◌≡◌, ◌==◌, ◌+◌, ◌≤◌, ◌++◌, length, take, drop, position};
 ghost use Rattle.octets.specs.Bytes.{slice, index_of};
 
 // Copies bytes to the start of a target, and gives how many they are.
@@ -16,6 +16,13 @@ pub fn copy(source: &[u8], target: &mut [u8]) -> usize
     count
 }
 
+// The index of a byte in a text, if it stands there.
+fn position(text: &[u8], byte: u8) -> Option<usize>
+    ensures { result ≡ position (λ x. x == byte) text.now }
+{
+    text.iter().position(|x| *x == byte)
+}
+
 // The index of a byte in the part of a text from one index to another, or where the part ends.
 pub fn find(text: &[u8], from: usize, to: usize, byte: u8) -> usize
     requires in_order { from ≤ to }
@@ -23,12 +30,8 @@ pub fn find(text: &[u8], from: usize, to: usize, byte: u8) -> usize
     ensures place { result ≡ from + index_of byte (slice from to text.now) }
     ensures within { result ≤ to }
 {
-    let mut at = from;
-    while at < to {
-        if text[at] == byte {
-            return at;
-        }
-        at += 1;
+    match position(&text[from..to], byte) {
+        Some(at) => from + at,
+        None => to,
     }
-    to
 }

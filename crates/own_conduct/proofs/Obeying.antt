@@ -1,10 +1,11 @@
 -- Messages without their numbers: each obeys by what those before it left, and so do those of a capture of them. Assumes nothing.
+use Rattle.std.specs.Prelude.{Option}
+use Rattle.quantity.specs.declared.count.FlowSequence.{FlowSequence}
 use mathlib.Core.Path.{◌≡◌, refl, sym, ap, ◌∙◌}
 use mathlib.Core.List.{List, [], ◌∷◌, ◌++◌, append_assoc}
 use Prim.Native.Nat.{ℕ, suc}
 use native.Mathlib.Omega.{arith}
 use Rattle.quantity.specs.declared.count.DatalinkId.{DatalinkId}
-use Rattle.meaning.specs.declared.message.Sequence.{Sequence}
 use Rattle.records.specs.Files.{Report}
 use Rattle.ethernet.specs.declared.Ports.{Ports}
 use Rattle.conduct_rules.specs.declared.Flow.{Flow}
@@ -34,21 +35,21 @@ messages_append id (p ∷ ps) qs =
     ap (λ (l : List Message). if_message (read_as id p) ++ l) (messages_append id ps qs) ∙ sym (append_assoc (if_message (read_as id p)) (messages_in id ps) (messages_in id qs))
 
 module _ (channel : ℕ) where
-  abbrev pub Obeying : Flow → Sequence → List Message → Type 0
+  abbrev pub Obeying : Flow → Option FlowSequence → List Message → Type 0
   Obeying flow base [] = Unit {0}
   Obeying flow base (m ∷ ms) = ObeysUnder channel flow base m × Obeying (flow_by channel flow m) (base_by channel base m) ms
 
   -- ---- a capture of them
 
   module _ (ports : Ports) (id : DatalinkId) where
-    record_obeys : (outcome : Outcome) (number : ℕ) (flow : Flow) (base : Sequence) (ms : List Message) (rest : List Numbered) → Obeying flow base (if_message outcome ++ ms)
-        → ((flow : Flow) (base : Sequence) → Obeying flow base ms → AllObey (ObeysFrom channel flow base) rest) → AllObey (ObeysFrom channel flow base) (numbered number outcome ++ rest)
+    record_obeys : (outcome : Outcome) (number : ℕ) (flow : Flow) (base : Option FlowSequence) (ms : List Message) (rest : List Numbered) → Obeying flow base (if_message outcome ++ ms)
+        → ((flow : Flow) (base : Option FlowSequence) → Obeying flow base ms → AllObey (ObeysFrom channel flow base) rest) → AllObey (ObeysFrom channel flow base) (numbered number outcome ++ rest)
     record_obeys nothing number flow base ms rest o on = on flow base o
     record_obeys undecides number flow base ms rest o on = on flow base o
     record_obeys (message stated) number flow base ms rest o on =
         all_on channel flow base (record { number = number; message = stated }) rest o.0 (on (flow_by channel flow stated) (base_by channel base stated) o.1)
 
-    pub captured_obeys : {passed : List Passed} {reports : List Report} → Captured ports id passed reports → (number : ℕ) (flow : Flow) (base : Sequence)
+    pub captured_obeys : {passed : List Passed} {reports : List Report} → Captured ports id passed reports → (number : ℕ) (flow : Flow) (base : Option FlowSequence)
         → Obeying flow base (messages_in id passed) → AllObey (ObeysFrom channel flow base) (messages_from ports id number reports)
     unfolding messages_from outcome_by
     captured_obeys ends number flow base o = none_stands (ObeysFrom channel flow base)

@@ -1,19 +1,18 @@
 -- Our own endpoint passes: of any run of it (demand 3), what it handed over and the radio messages it accepted, recorded in that order and judged under its Datalink ID, passes on every
 -- flow-controlled channel. Assumes nothing.
+use Rattle.std.specs.Prelude.{None, Ok}
 use mathlib.Core.Path.{◌≡◌, refl, ap}
 use mathlib.Core.Bool.{true}
 use mathlib.Core.List.{List}
 use Prim.Native.Nat.{ℕ, ◌^◌, ◌≤◌, ◌<◌}
 use lib.ListN.{length, replicate}
 use Rattle.quantity.specs.Limits.{CHANNEL-IDS}
-use Rattle.meaning.specs.declared.message.Sequence.{Sequence}
 use Rattle.records.specs.Files.{Report}
 use Rattle.ethernet.specs.declared.Ports.{Ports}
 use Rattle.ips_channel_rules.specs.Rules.{Terms}
 use Rattle.ips_state.specs.State.{Configuration, start_at}
 use Rattle.ips_state.specs.Limits.{configuration_taken}
 use Rattle.ips_state.specs.Memory.{World}
-use Rattle.ips_state.specs.declared.StartAnswer.{StartAnswer}
 use Rattle.ips_run.specs.Run.{Call, fresh_world}
 use Rattle.ips_run.specs.Demand.{BytesIn, id_at, ruled, fresh_at}
 use Rattle.ips_run.proofs.Fresh.{fresh_in}
@@ -41,7 +40,7 @@ use Rattle.own_conduct.proofs.Runs.{run_obeys}
 module _ (k : Configuration) (fits : configuration_taken k ≡ true) (index : ℕ) (inside : index < length k.starts) (controlled : (start_at k index).setting.controlled ≡ true)
     (small : (start_at k index).first.0 < 2 ^ 32) where
   -- before any radio control message, as a fresh channel is: "Fresh flow-controlled channels have no window."
-  fresh_agrees : Agrees Flow.Unseen Sequence.Absent (fresh_at k index).counting
+  fresh_agrees : Agrees Flow.Unseen None (fresh_at k index).counting
   fresh_agrees = rw controlled (record { of_flow = shut; of_base = first; small = small })
 
   -- it is one of the judge's channels: 255 is reserved
@@ -56,8 +55,8 @@ module _ (k : Configuration) (fits : configuration_taken k ≡ true) (index : �
     pub own_passes : Says ports k.datalink.id reports (id_at k index) Finding.Passes
     own_passes = (
       λ u. captured_clear ports k.datalink.id u captured,
-      captured_obeys (id_at k index) ports k.datalink.id (rw (ran_replies ran) at captured) 1 Flow.Unseen Sequence.Absent
-          (run_obeys (ruled k index) (length k.starts) index inside controlled cs bytes (fresh_world k) (fresh_at k index) (fresh_in k fits index inside) Flow.Unseen Sequence.Absent fresh_agrees),
+      captured_obeys (id_at k index) ports k.datalink.id (rw (ran_replies ran) at captured) 1 Flow.Unseen None
+          (run_obeys (ruled k index) (length k.starts) index inside controlled cs bytes (fresh_world k) (fresh_at k index) (fresh_in k fits index inside) Flow.Unseen None fresh_agrees),
     )
 
     -- and so it is found
@@ -66,7 +65,7 @@ module _ (k : Configuration) (fits : configuration_taken k ≡ true) (index : �
 
 -- ---- the same of the code's own outcomes on lent words, with nothing asked of configuration, words and memory
 
-module _ {configuration words memory words' memory' : List ℕ} (starts : StartedIn configuration words memory StartAnswer.Started words' memory') where
+module _ {configuration words memory words' memory' : List ℕ} (starts : StartedIn configuration words memory (Ok tt) words' memory') where
   abbrev own : Configuration
   own = configuration_in configuration
 

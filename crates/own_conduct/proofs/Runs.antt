@@ -1,4 +1,8 @@
 -- Any calls: what passes obeys on a flow-controlled channel. Assumes nothing.
+use Rattle.std.specs.Prelude.{Option, Some, None, Result, Ok, Err}
+use Rattle.quantity.specs.declared.count.FlowSequence.{FlowSequence}
+use Rattle.quantity.specs.declared.refusal.Refusal.{Refusal}
+use Rattle.meaning.specs.declared.message.Plane.{Plane}
 use mathlib.Core.Path.{◌≡◌, refl, sym, ap, subst, ◌∙◌}
 use mathlib.Core.Bool.{Bool, true, false, cond}
 use mathlib.Core.List.{List, [], ◌∷◌, ◌++◌, map, append-nil}
@@ -13,14 +17,11 @@ use Rattle.quantity.specs.Refusals.{LONG-DATAGRAM, HEADER, NO-ROOM, OUTSIDE-LIMI
 use Rattle.wire.specs.Options.{over}
 use Rattle.meaning.specs.declared.message.Control.{Control}
 use Rattle.meaning.specs.declared.message.End.{End}
-use Rattle.meaning.specs.declared.message.Sequence.{Sequence}
 use Rattle.reader.specs.Header.{version_of, flag_of, CURRENT-VERSION, read_with}
 use Rattle.reader.specs.Readings.{Verdict, read_control, read_data, packet_of, plane_of}
-use Rattle.reader.specs.declared.answer.PlaneAnswer.{PlaneAnswer}
 use Rattle.reader.proofs.Planes.{plane_refuses, control_of_data}
 use Rattle.read_control.specs.Message.{control_refused}
 use Rattle.read_data.specs.Message.{data_refused, data_other}
-use Rattle.writer.specs.declared.answer.WriteAnswer.{WriteAnswer}
 use Rattle.writer.specs.Written.{control_written, no_room_of}
 use Rattle.ips_channel_rules.specs.Rules as rules
 use Rattle.ips_channel_rules.specs.Rules.{ChannelCall, offer, next, withdraw, Says, Tried, nothing_waiting, not_operational, window_shut, sent, Answer, refused, answered, taken, emptied, called, Terms, Condition, counted_on, radio_at, step, happens, final}
@@ -73,11 +74,11 @@ heard_messages id datagram = go (plane_of datagram) refl
     carries (Verdict.Refused refusal) = refl
     carries Verdict.OtherPlane = refl
 
-    go : (plane : PlaneAnswer) → plane_of datagram ≡ plane
+    go : (plane : Result Plane Refusal) → plane_of datagram ≡ plane
         → if_message (heard_in id datagram) ≡ controls (run.messages_in (run.by_plane plane (run.control_read (read_control End.Radio id datagram)) (run.data_read (read_data End.Radio id datagram))))
-    go PlaneAnswer.Control p = by_verdict_lem (read_control End.Radio id datagram).verdict (read_control End.Radio id datagram).message
-    go PlaneAnswer.Data p = rw (control_of_data End.Radio id datagram p) (carries (read_data End.Radio id datagram).verdict)
-    go (PlaneAnswer.Refused refusal) p = rw (plane_refuses End.Radio id datagram p).0
+    go (Ok Plane.Control) p = by_verdict_lem (read_control End.Radio id datagram).verdict (read_control End.Radio id datagram).message
+    go (Ok Plane.Data) p = rw (control_of_data End.Radio id datagram p) (carries (read_data End.Radio id datagram).verdict)
+    go (Err refusal) p = rw (plane_refuses End.Radio id datagram p).0
 
 -- what passed of a radio message handed in is what the endpoint accepted of it
 radio_messages : (w : World) (time : ℕ) (datagram : List ℕ)
@@ -89,7 +90,7 @@ radio_messages w time datagram = go (handed w.state time datagram)
     came f = append-nil (if_message (heard_in w.state.datalink.id datagram)) ∙ heard_messages w.state.datalink.id datagram ∙ ap controls (sym (accepted_in_time w time datagram f))
 
     either : (due : Bool) → in_time time w.state ≡ true
-        → messages_in w.state.datalink.id (if_heard (cond due RadioAnswer.Due RadioAnswer.Accepted) datagram) ≡ controls (accepted_by (radio time datagram) w)
+        → messages_in w.state.datalink.id (if_heard (cond due (Ok RadioAnswer.Due) (Ok RadioAnswer.Accepted)) datagram) ≡ controls (accepted_by (radio time datagram) w)
     either true f = came f
     either false f = came f
 
@@ -111,11 +112,11 @@ sent_of id (next time out) (answered window_shut) = []
 sent_of id (next time out) (answered (sent bytes carried)) = packet id (record { 0 = length bytes }) carried ∷ []
 sent_of id withdraw (answered emptied) = []
 
-counted_back : (id : ℕ) (carried : Sequence) → sequence_of (counted_on id carried) ≡ carried
-counted_back id Sequence.Absent = refl
-counted_back id (Sequence.Given sequence) = refl
+counted_back : (id : ℕ) (carried : Option FlowSequence) → sequence_of (counted_on id carried) ≡ carried
+counted_back id None = refl
+counted_back id (Some sequence) = refl
 
-read_in : {k : Terms} {id : ℕ} {bytes : List ℕ} {carried : Sequence} {answer : NextAnswer} {out : List ℕ} → ReadBack k id bytes carried answer out
+read_in : {k : Terms} {id : ℕ} {bytes : List ℕ} {carried : Option FlowSequence} {answer : Result NextAnswer Refusal} {out : List ℕ} → ReadBack k id bytes carried answer out
     → messages_in k.datalink (map to_radio (if_sent answer out)) ≡ packet id (record { 0 = length bytes }) carried ∷ []
 read_in {k} {carried = carried} back = rw (back.counted, back.accepted, back.carries, counted_back k.id carried, back.named)
 
@@ -170,7 +171,7 @@ query_messages id w out = go (state_fits w.state) (no_room_of (length message) (
     message = query_bytes w.state
 
     go : (fits none : Bool)
-        → messages_in id (map to_radio (if_wrote (cond fits (cond none (WriteAnswer.Refused (record { number = NO-ROOM; place = 0 })) (WriteAnswer.Wrote (record { 0 = length (query_bytes w.state) }))) (WriteAnswer.Refused (record { number = OUTSIDE-LIMITS; place = 0 })))
+        → messages_in id (map to_radio (if_wrote (cond fits (cond none (Err (record { number = NO-ROOM; place = 0 })) (Ok (record { 0 = length (query_bytes w.state) }))) (Err (record { number = OUTSIDE-LIMITS; place = 0 })))
         (cond fits (cond none out (over (query_bytes w.state) out)) out)))
         ≡ []
     go false none = refl
@@ -179,10 +180,10 @@ query_messages id w out = go (state_fits w.state) (no_room_of (length message) (
 
 -- ---- one call on the channel, and one on another
 
-module _ (own : ℕ) (flow : Flow) (base : Sequence) (rest : List Message) where
+module _ (own : ℕ) (flow : Flow) (base : Option FlowSequence) (rest : List Message) where
   -- what is left to be shown, from a count on
   abbrev Onward : WordCounter → Type 0
-  Onward counter = (flow : Flow) (base : Sequence) → Agrees flow base counter → Obeying own flow base rest
+  Onward counter = (flow : Flow) (base : Option FlowSequence) → Agrees flow base counter → Obeying own flow base rest
 
   module _ {counter counter' : WordCounter} (agrees : Agrees flow base counter) (onward : Onward counter') where
     still : counter' ≡ counter → Obeying own flow base rest
@@ -228,7 +229,7 @@ accepted_few w time datagram = go (in_time time w.state) (received_in w.state.da
     go true (run.stated m) = tt
 
 module _ (k : Terms) (count index : ℕ) (inside : index < count) (controlled : k.controlled ≡ true) where
-  module _ (w : World) (st : Condition machine) (p : RuledIn k count index w st) (flow : Flow) (base : Sequence) (agrees : Agrees flow base st.counting) (rest : List Message) where
+  module _ (w : World) (st : Condition machine) (p : RuledIn k count index w st) (flow : Flow) (base : Option FlowSequence) (agrees : Agrees flow base st.counting) (rest : List Message) where
     accepted_obeys : (messages : List Control) → few messages → Onward k.id flow base rest (final machine k (map (part_of k.id) messages) st).counting
         → Obeying k.id flow base (controls messages ++ rest)
     unfolding radio_at
@@ -265,7 +266,7 @@ module _ (k : Terms) (count index : ℕ) (inside : index < count) (controlled : 
     call_obeys (pace time) b onward = silence_obeys (silent_by (pace time) w) onward
     call_obeys (query out) b onward = rw (query_messages k.datalink w out) (onward flow base agrees)
 
-  pub run_obeys : (cs : List Call) → BytesIn cs → (w : World) (st : Condition machine) → RuledIn k count index w st → (flow : Flow) (base : Sequence) → Agrees flow base st.counting
+  pub run_obeys : (cs : List Call) → BytesIn cs → (w : World) (st : Condition machine) → RuledIn k count index w st → (flow : Flow) (base : Option FlowSequence) → Agrees flow base st.counting
       → Obeying k.id flow base (messages_in k.datalink (passed_in cs (replies_of cs w)))
   run_obeys [] bytes w st p flow base agrees = tt
   run_obeys (c ∷ cs) bytes w st p flow base agrees =

@@ -1,6 +1,7 @@
 -- Document 02, §12, of our own endpoint: its session as a capture, of what it handed over and the radio messages that it
 -- accepted, recorded in that order.
-use Rattle.std.specs.Prelude.{ℕ, List, [], ◌∷◌, ◌++◌, map, ◌≡◌}
+use Rattle.quantity.specs.declared.refusal.Refusal.{Refusal}
+use Rattle.std.specs.Prelude.{ℕ, List, [], ◌∷◌, ◌++◌, map, ◌≡◌, Result, Ok, Err}
 use Rattle.quantity.specs.declared.count.DatalinkId.{DatalinkId}
 use Rattle.records.specs.Files.{Report, kept}
 use Rattle.ethernet.specs.declared.Kind.{Kind}
@@ -18,10 +19,10 @@ pub data Passed : Type 0 where
   to_radio : List ℕ → Passed
 
 -- a radio message that was accepted. One that 21 refuses may be one that the judge, who knows no time, would hear: to the endpoint it never came.
-abbrev pub if_heard : RadioAnswer → (datagram : List ℕ) → List Passed
-if_heard RadioAnswer.Accepted datagram = to_ips datagram ∷ []
-if_heard RadioAnswer.Due datagram = to_ips datagram ∷ []
-if_heard (RadioAnswer.Refused refusal) datagram = []
+abbrev pub if_heard : Result RadioAnswer Refusal → (datagram : List ℕ) → List Passed
+if_heard (Ok RadioAnswer.Accepted) datagram = to_ips datagram ∷ []
+if_heard (Ok RadioAnswer.Due) datagram = to_ips datagram ∷ []
+if_heard (Err refusal) datagram = []
 
 -- of a call and its reply: what Next hands over, and a query, which is no data message
 abbrev pub passed_by : Call → EndpointReply → List Passed

@@ -1,4 +1,5 @@
 -- The pacer in plain numbers, field by field and case by case; and rows that the checker computes. Assumes nothing.
+use Rattle.std.specs.Prelude.{Ok}
 use Prim.Native.Nat.{ℕ, ◌+◌, ◌≤◌, ◌<◌}
 use mathlib.Core.Bool.{true, and-eq-true_iff}
 use mathlib.Core.List.{[], ◌∷◌, map}
@@ -58,11 +59,11 @@ abbrev sample : Pacer
 sample = record { hello = 5000; limit = 9000; clock = 4000; due = 2000; heard = 3000 }
 
 pub answers_rows : map (λ time. answer_of (is_due time sample) (is_silent time sample)) (4000 ∷ 6999 ∷ 7000 ∷ 11999 ∷ 12000 ∷ [])
-    ≡ PaceAnswer.Quiet ∷ PaceAnswer.Quiet ∷ PaceAnswer.Due ∷ PaceAnswer.Due ∷ PaceAnswer.DueSilent ∷ []
+    ≡ Ok PaceAnswer.Quiet ∷ Ok PaceAnswer.Quiet ∷ Ok PaceAnswer.Due ∷ Ok PaceAnswer.Due ∷ Ok PaceAnswer.DueSilent ∷ []
 answers_rows = refl
 
 -- silent alone: asked at 7,000 the next query is due at 12,000
 pub silent_row : answer_of (is_due 11999 (asked 7000 (record { hello = 5000; limit = 8000; clock = 4000; due = 2000; heard = 3000 })))
-    (is_silent 11999 (asked 7000 (record { hello = 5000; limit = 8000; clock = 4000; due = 2000; heard = 3000 }))) ≡ PaceAnswer.Silent
+    (is_silent 11999 (asked 7000 (record { hello = 5000; limit = 8000; clock = 4000; due = 2000; heard = 3000 }))) ≡ Ok PaceAnswer.Silent
 unfolding asked
 silent_row = refl

@@ -1,6 +1,7 @@
 -- Document 02, §1: "asked, it reports a query due when the configured HelloTime or more has passed since the last due one, and if no radio control message was accepted
 -- for a configured silence limit or longer, every channel becomes not reported and every flow-controlled one has no window."
-use Rattle.std.specs.Prelude.{ℕ, ◌+◌, Bool, true, false, cond, ◌&&◌, leb, ltb}
+use Rattle.quantity.specs.declared.refusal.Refusal.{Refusal}
+use Rattle.std.specs.Prelude.{ℕ, ◌+◌, Bool, true, false, cond, ◌&&◌, leb, ltb, Result, Ok}
 use Rattle.pacer.specs.declared.Pacer.{Pacer}
 use Rattle.pacer.specs.declared.PaceAnswer.{PaceAnswer}
 
@@ -40,8 +41,8 @@ unfoldable pub moved_to : (time : ℕ) → Pacer → Pacer
 moved_to time p = record { hello = p.hello; limit = p.limit; clock = time; due = p.due; heard = p.heard }
 
 -- ---- one answer says both
-abbrev pub answer_of : (due silent : Bool) → PaceAnswer
-answer_of true true = PaceAnswer.DueSilent
-answer_of true false = PaceAnswer.Due
-answer_of false true = PaceAnswer.Silent
-answer_of false false = PaceAnswer.Quiet
+abbrev pub answer_of : (due silent : Bool) → Result PaceAnswer Refusal
+answer_of true true = Ok PaceAnswer.DueSilent
+answer_of true false = Ok PaceAnswer.Due
+answer_of false true = Ok PaceAnswer.Silent
+answer_of false false = Ok PaceAnswer.Quiet

@@ -23,7 +23,6 @@ pub enum PaceAnswer {
     Due,
     Silent,
     DueSilent,
-    Refused(Refusal),
 }
 
 // Both waits first run from 0.
@@ -57,10 +56,7 @@ pub fn is_earlier(pacer: Pacer, time: u64) -> bool
 fn has_passed(since: u64, wait: u64, time: u64) -> bool
     ensures { result ≡ passed since wait time }
 {
-    if time < since {
-        return false;
-    }
-    wait <= time - since
+    since <= time && wait <= time - since
 }
 
 pub fn is_due(pacer: Pacer, time: u64) -> bool
@@ -76,48 +72,48 @@ pub fn is_silent(pacer: Pacer, time: u64) -> bool
 }
 
 // Asked at a time: the wait for the next query runs from an ask that was answered due.
+#[tactic(auto, unfolding(crate::specs::Pacing::asked))]
 pub fn ask(pacer: Pacer, time: u64) -> Pacer
     ensures { result ≡ asked time pacer }
 {
-    let due = is_due(pacer, time);
-    let mut next = pacer;
-    next.clock = time;
-    if due {
-        next.due = time;
+    let due = if is_due(pacer, time) { time } else { pacer.due };
+    Pacer {
+        clock: time,
+        due,
+        ..pacer
     }
-    next
 }
 
 // An accepted radio control message moves the clock, and the silence runs from it.
+#[tactic(auto, unfolding(crate::specs::Pacing::heard_at))]
 pub fn hear(pacer: Pacer, time: u64) -> Pacer
     ensures { result ≡ heard_at time pacer }
 {
-    let mut next = pacer;
-    next.clock = time;
-    next.heard = time;
-    next
+    Pacer {
+        clock: time,
+        heard: time,
+        ..pacer
+    }
 }
 
 // An accepted radio data message moves the clock, and nothing else.
+#[tactic(auto, unfolding(crate::specs::Pacing::moved_to))]
 pub fn pass(pacer: Pacer, time: u64) -> Pacer
     ensures { result ≡ moved_to time pacer }
 {
-    let mut next = pacer;
-    next.clock = time;
-    next
+    Pacer {
+        clock: time,
+        ..pacer
+    }
 }
 
-pub fn answer(due: bool, silent: bool) -> PaceAnswer
+pub fn answer(due: bool, silent: bool) -> Result<PaceAnswer, Refusal>
     ensures { result ≡ answer_of due silent }
 {
-    if due {
-        if silent {
-            return PaceAnswer::DueSilent;
-        }
-        return PaceAnswer::Due;
-    }
-    if silent {
-        return PaceAnswer::Silent;
-    }
-    PaceAnswer::Quiet
+    Ok(match (due, silent) {
+        (true, true) => PaceAnswer::DueSilent,
+        (true, false) => PaceAnswer::Due,
+        (false, true) => PaceAnswer::Silent,
+        (false, false) => PaceAnswer::Quiet,
+    })
 }

@@ -1,5 +1,5 @@
 -- The laws of the distance. Assumes nothing.
-use Rattle.std.proofs.Common.{◌≡◌, ℕ, zero, suc, ◌+◌, ◌-◌, ◌%◌, ◌^◌, ◌<◌, ◌≤◌, false, leb, ℤ, pos, negsuc, ◌-ℤ◌, sym, refl, ap, ◌∙◌, arith, le→leb, leb→le, le-ltb, lt-ltb}
+use Rattle.std.proofs.Common.{◌≡◌, ℕ, zero, suc, ◌^◌, ◌<◌, ◌≤◌, false, leb, ℤ, pos, negsuc, ◌-ℤ◌, sym, refl, ap, ◌∙◌, arith, le→leb, leb→le, le-ltb, lt-ltb}
 use lib.IntN.{sub_ℕ}
 use Rattle.facts.proofs.Tests.{by_le}
 use Rattle.quantity.specs.declared.count.FlowSequence.{FlowSequence}

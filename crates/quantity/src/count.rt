@@ -20,25 +20,18 @@ pub struct ByteCount(pub usize);
 // Half the numbers of 32 bits: from here on a difference counts as negative.
 const HALF: u32 = 2147483648;
 
-const WORD: i64 = 4294967296;
-
 // Window minus sequence modulo 2^32.
 fn ahead(sequence: FlowSequence, window: FlowWindow) -> u32
     ensures { result ≡ ahead_of sequence window }
 {
-    std::num::wrapping_sub_u32(window.0, sequence.0)
+    window.0.wrapping_sub(sequence.0)
 }
 
 // The one number from -2^31 to 2^31 - 1 equal to window minus sequence modulo 2^32.
 pub fn distance(sequence: FlowSequence, window: FlowWindow) -> i64
     ensures { result ≡ distance_of sequence window }
 {
-    let word = ahead(sequence, window);
-    if word < HALF {
-        word as i64
-    } else {
-        (word as i64) - WORD
-    }
+    i64::from(ahead(sequence, window).cast_signed())
 }
 
 // A packet fits when its bytes are at most the distance.
@@ -46,11 +39,7 @@ pub fn fits(sequence: FlowSequence, window: FlowWindow, bytes: ByteCount) -> boo
     ensures { result ≡ fits_of sequence window bytes }
 {
     let word = ahead(sequence, window);
-    if word < HALF {
-        bytes.0 <= word as usize
-    } else {
-        false
-    }
+    word < HALF && bytes.0 <= word as usize
 }
 
 // Sending under a window adds the bytes to the sequence modulo 2^32.
@@ -58,5 +47,5 @@ pub fn advance(sequence: FlowSequence, bytes: ByteCount) -> FlowSequence
     ensures { result ≡ advance_of sequence bytes }
 {
     let low = (bytes.0 % 4294967296) as u32;
-    FlowSequence(std::num::wrapping_add_u32(sequence.0, low))
+    FlowSequence(sequence.0.wrapping_add(low))
 }

@@ -51,7 +51,8 @@ pub const FILE_HEAD: u8 = 25;
 
 pub const RECORD: u8 = 26;
 
-// A refusal: its number and its place.
+// A refusal: its number and its place. A number, and no enum: the theorems speak of any (`nespovarda/specs/Numbers.antt`, "256 + number"; `Lack`,
+// `Fault` and `OfReading` of acceptance), and C and a handful's answers take it as one.
 #[derive(Clone, Copy)]
 pub struct Refusal {
     pub number: u8,

@@ -1,11 +1,13 @@
 -- Any sequence of calls on words is one on the state that they stand for. Assumes nothing.
+use Rattle.std.specs.Prelude.{Option, Result, Ok, Err}
+use Rattle.quantity.specs.declared.count.LinkInstanceId.{LinkInstanceId}
+use Rattle.quantity.specs.declared.refusal.Refusal.{Refusal}
+use Rattle.meaning.specs.declared.message.ContextBytes.{ContextBytes}
 use Prim.Native.Nat.{ℕ}
 use mathlib.Core.Bool.{Bool, true, false, not}
 use mathlib.Core.List.{List, [], ◌∷◌, map}
 use mathlib.Core.Path.{◌≡◌, refl, sym, ap, ap₂, ◌∙◌}
 use Rattle.quantity.specs.declared.count.ByteCount.{ByteCount}
-use Rattle.meaning.specs.declared.message.Instance.{Instance}
-use Rattle.meaning.specs.declared.message.Context.{Context}
 use Rattle.radio_end_state.specs.declared.answer.Answer.{Answer}
 use Rattle.radio_end_state.specs.State.{State}
 use Rattle.radio_end_state.specs.Limits.{state_fits}
@@ -19,7 +21,7 @@ use Rattle.radio_end_telling.specs.Left.{is_refused, Left}
 use Rattle.radio_end.specs.Ran.{PerformedIn, Reply, reply_of, RanIn, over, ran}
 
 -- ---- the contracts of the six functions are the contract of a call
-module _ (words : List ℕ) (answer : Answer) (words' out' : List ℕ) where
+module _ (words : List ℕ) (answer : Result Answer Refusal) (words' out' : List ℕ) where
   pub hear_performs : (datagram out : List ℕ) → Left (heard (state_in words) datagram out) words answer words' out' → PerformedIn (hear datagram out) words answer words' out'
   unfolding after_call
   hear_performs datagram out l = l
@@ -32,11 +34,11 @@ module _ (words : List ℕ) (answer : Answer) (words' out' : List ℕ) where
   unfolding after_call
   queued_performs id bytes out l = l
 
-  pub context_performs : (k : Context) (out : List ℕ) → Left (context_told (state_in words) k out) words answer words' out' → PerformedIn (context k out) words answer words' out'
+  pub context_performs : (k : Option (ContextBytes × ℕ)) (out : List ℕ) → Left (context_told (state_in words) k out) words answer words' out' → PerformedIn (context k out) words answer words' out'
   unfolding after_call
   context_performs k out l = l
 
-  pub link_performs : (instance : Instance) → Left (link_told (state_in words) instance []) words answer words' [] → PerformedIn (link instance) words answer words' []
+  pub link_performs : (instance : Option (LinkInstanceId × ℕ)) → Left (link_told (state_in words) instance []) words answer words' [] → PerformedIn (link instance) words answer words' []
   unfolding after_call
   link_performs instance l = l
 
@@ -45,13 +47,13 @@ module _ (words : List ℕ) (answer : Answer) (words' out' : List ℕ) where
   tell_performs out l = l
 
 -- ---- one call: the words that it leaves stand for the state that the call on the state leaves
-refused_is : (answer : Answer) → is_refused answer ≡ not (is_accepted answer)
-refused_is (Answer.Answered bytes) = refl
-refused_is (Answer.Unasked bytes) = refl
-refused_is Answer.Quiet = refl
-refused_is (Answer.Refused refusal) = refl
+refused_is : (answer : Result Answer Refusal) → is_refused answer ≡ not (is_accepted answer)
+refused_is (Ok (Answer.Answered bytes)) = refl
+refused_is (Ok (Answer.Unasked bytes)) = refl
+refused_is (Ok Answer.Quiet) = refl
+refused_is (Err refusal) = refl
 
-pub performed_in : (c : Call) (words : List ℕ) (answer : Answer) (words' out' : List ℕ) → PerformedIn c words answer words' out' → state_in words' ≡ state_after c (state_in words)
+pub performed_in : (c : Call) (words : List ℕ) (answer : Result Answer Refusal) (words' out' : List ℕ) → PerformedIn c words answer words' out' → state_in words' ≡ state_after c (state_in words)
 performed_in c words answer words' out' l = go (accepted_by c (state_in words)) refl
   where
     go : (b : Bool) → accepted_by c (state_in words) ≡ b → state_in words' ≡ state_after c (state_in words)
@@ -62,8 +64,8 @@ performed_in c words answer words' out' l = go (accepted_by c (state_in words)) 
         let kept : words' ≡ words = l.words_are ∙ rw (refused_is (after_call c (state_in words)).answer, e) in
         ap state_in kept ∙ sym (step_refused c (state_in words) e)
 
-reply_in : (c : Call) (words : List ℕ) (answer : Answer) (words' out' : List ℕ) → PerformedIn c words answer words' out' → ◌≡◌ {A = Reply} (record { answer = answer; output = out' }) (reply_of (after_call c (state_in words)))
-reply_in c words answer words' out' l = ap₂ {C = Reply} (λ (a : Answer) (o : List ℕ). record { answer = a; output = o }) l.answer_is l.output_is
+reply_in : (c : Call) (words : List ℕ) (answer : Result Answer Refusal) (words' out' : List ℕ) → PerformedIn c words answer words' out' → ◌≡◌ {A = Reply} (record { answer = answer; output = out' }) (reply_of (after_call c (state_in words)))
+reply_in c words answer words' out' l = ap₂ {C = Reply} (λ (a : Result Answer Refusal) (o : List ℕ). record { answer = a; output = o }) l.answer_is l.output_is
 
 -- ANY SEQUENCE OF CALLS ON WORDS: the words stand for the state after those calls, and every answer and output is that of the call on the state
 pub ran_in : {words last : List ℕ} {cs : List Call} {xs : List Reply} → RanIn words cs xs last

@@ -13,13 +13,12 @@ pub mod begin;
 pub mod shown;
 
 pub use begin::words_for;
-pub use meaning::message::{Context, Instance};
-pub use quantity::count::ByteCount;
+pub use meaning::message::ContextBytes;
+pub use quantity::count::{ByteCount, FlowSequence, LinkInstanceId};
 pub use quantity::refusal::Refusal;
 pub use radio_end_hearing::hear;
-pub use radio_end_start::{StartAnswer, start};
+pub use radio_end_start::start;
 pub use radio_end_state::answer::Answer;
 pub use radio_end_state::channel::{Channel, Setting, window};
 pub use radio_end_telling::{tell, tell_context, tell_link, tell_queued, tell_status};
-pub use radio_flow::Highest;
-pub use shown::{ShowAnswer, show};
+pub use shown::show;

@@ -6,21 +6,12 @@ ghost use Rattle.radio_end.specs.Shown.{shown_of};
 use quantity::refusal::Refusal;
 use radio_end_state::channel::Channel;
 use radio_end_telling::locate;
-use radio_end_telling::locate::Found;
 use radio_end_words::place;
 
-#[derive(Clone, Copy)]
-pub enum ShowAnswer {
-    Shown(Channel),
-    Refused(Refusal),
-}
-
 // 19, then 12.
-pub fn show(words: &[u64], id: u8) -> ShowAnswer
+pub fn show(words: &[u64], id: u8) -> Result<Channel, Refusal>
     ensures { result ≡ shown_of (state_in words.now) id }
 {
-    match locate::find(words, id) {
-        Found::At(index) => ShowAnswer::Shown(place::load(words, index)),
-        Found::Refused(number) => ShowAnswer::Refused(Refusal { number, place: 0 }),
-    }
+    let index = locate::find(words, id)?;
+    Ok(place::load(words, index))
 }

@@ -1,10 +1,10 @@
 -- The two passes over a control message. Assumes nothing.
+use Rattle.std.specs.Prelude.{Option, None}
+use Rattle.quantity.specs.declared.count.FlowSequence.{FlowSequence}
 use Prim.Native.Nat.{ℕ, zero, suc, ◌+◌, ◌-◌, ◌≤◌, ◌<◌}
-use mathlib.Core.Bool.{Bool, true, false, not, ◌||◌}
+use mathlib.Core.Bool.{true, false}
 use mathlib.Core.List.{List, [], ◌∷◌, map, append-nil}
-use mathlib.Core.Logic.{⊎_elim}
 use mathlib.Core.Path.{◌≡◌, refl, sym, ap, ◌∙◌}
-use native.Mathlib.Nat.{eq-or-lt_of_le}
 use native.Mathlib.Numerals.{add-one}
 use native.Mathlib.Omega.{arith}
 use borrow.Rule.Slice.PartMut.{put_mid}
@@ -12,17 +12,15 @@ use lib.Dec.{ltb}
 use lib.ListN.{length, take, drop, get_or, set, drop_of_length-le}
 use lib.Seq.{take_all, drop-drop}
 use Rattle.quantity.specs.Limits.{CHANNEL-IDS}
-use Rattle.meaning.specs.declared.message.SequenceCell.{SequenceCell}
 use Rattle.meaning.specs.declared.message.Control.{Control}
-use Rattle.meaning.specs.Cells.{no_sequence}
 use Rattle.radio_end_state.specs.declared.channel.Channel.{Channel}
 use Rattle.radio_end_state.specs.Channel.{hearing_on}
 use Rattle.radio_end_state.specs.State.{State, no_channel, channel_at, with_channels, with_channel}
 use Rattle.radio_end_state.specs.Limits.{has_id, is_configured, index_in, state_fits}
-use Rattle.radio_end_state.specs.Calls.{sequence_in, is_stated, names_own, lacks_none, hearing_all}
+use Rattle.radio_end_state.specs.Calls.{sequence_in, names_own, lacks_none, hearing_all}
 use Rattle.radio_end_state.proofs.UpTo.{up_to_by, up_to_out}
 use Rattle.radio_end_state.proofs.Fit.{ChannelFit, channel_fit, fit_facts, ids_length}
-use Rattle.radio_end_words.specs.Words.{HEAD, SLOT, words_for, slot_start, slot, channel_in, state_in, channel_words, state_words, Loadable}
+use Rattle.radio_end_words.specs.Words.{SLOT, words_for, slot_start, slot, channel_in, state_in, channel_words, state_words, Loadable}
 use Rattle.radio_end_words.proofs.Slots.{channel_back}
 use Rattle.radio_end_words.proofs.Whole.{state_length, slot_state, put_channel_lem, fit_words}
 use Rattle.radio_end_words.proofs.Placing.{channel_loadable}
@@ -34,31 +32,17 @@ pub configured_is : (s : State) (id i n : ℕ) → i ≡ index_in s id → n ≡
 unfolding has_id
 configured_is s id i n e f = rw (e, f, ids_length s.channels)
 
-pub record Asking (s : State) (message : Control) (id : ℕ) : Type 0 where
-  pub inside : id ≤ CHANNEL-IDS
-  pub asked : (k : ℕ) → k < id → names_own s message k ≡ true
-
 module _ (s : State) (message : Control) where
-  pub ask_start : Asking s message 0
-  ask_start = record { inside = omega arith; asked = λ k h. absurd (omega arith) }
-
-  pub ask_out : (id : ℕ) → id < CHANNEL-IDS → (r : Bool) → r ≡ (not (is_stated (get_or message.sequences id no_sequence).sequence) || is_configured s id) → r ≡ false → false ≡ lacks_none s message
-  unfolding lacks_none sequence_in
-  ask_out id h r is e = sym (up_to_out (names_own s message) CHANNEL-IDS id h (sym is ∙ e))
-
-  pub ask_on : (id : ℕ) → Asking s message id → id < CHANNEL-IDS → (r : Bool) → r ≡ (not (is_stated (get_or message.sequences id no_sequence).sequence) || is_configured s id) → r ≡ true → Asking s message (id + 1)
-  unfolding sequence_in
-  ask_on id a h r is e = record {
-    inside = omega arith;
-    asked = λ k l. ⊎_elim (λ (p : k ≡ id). rw p (sym is ∙ e)) (λ (o : k < id). a.asked k o) (eq-or-lt_of_le (omega arith));
-  }
-
-  pub ask_end : (id : ℕ) → Asking s message id → CHANNEL-IDS ≤ id → true ≡ lacks_none s message
+  pub all_own : ((id : ℕ) → id < CHANNEL-IDS → names_own s message id ≡ true) → lacks_none s message ≡ true
   unfolding lacks_none
-  ask_end id a h = sym (up_to_by (names_own s message) CHANNEL-IDS (λ k l. a.asked k (omega (arith, a.inside))))
+  all_own each = up_to_by (names_own s message) CHANNEL-IDS each
+
+  pub one_lacks : (id : ℕ) → id < CHANNEL-IDS → names_own s message id ≡ false → lacks_none s message ≡ false
+  unfolding lacks_none
+  one_lacks id h e = up_to_out (names_own s message) CHANNEL-IDS id h e
 
 -- ---- the first channels have heard
-module _ (cells : List SequenceCell) where
+module _ (cells : List (Option FlowSequence)) where
   heard_length : (cs : List Channel) (at : ℕ) → length (heard_to cells cs at) ≡ length cs
   unfolding heard_to
   heard_length [] zero = refl
@@ -93,23 +77,21 @@ end_by n k at e h = omega arith
 abbrev pub passed : State → Control → ℕ → State
 passed s message at = with_channels s (heard_to message.sequences s.channels at)
 
-pub record Hearing (s : State) (message : Control) (words : List ℕ) (at from : ℕ) : Type 0 where
-  pub inside : at ≤ length s.channels
-  pub from_is : from ≡ slot_start at
+pub record Hearing (s : State) (message : Control) (words : List ℕ) (at : ℕ) : Type 0 where
   pub words_are : words ≡ state_words (passed s message at)
 
-pub hear_start : (words : List ℕ) (message : Control) → state_fits (state_in words) ≡ true → Hearing (state_in words) message words 0 HEAD
+pub hear_start : (words : List ℕ) (message : Control) → state_fits (state_in words) ≡ true → Hearing (state_in words) message words 0
 unfolding heard_to with_channels
-hear_start words message fits = record { inside = omega arith; from_is = omega arith; words_are = sym (fit_words words fits) }
+hear_start words message fits = record { words_are = sym (fit_words words fits) }
 
-module _ (s : State) (fits : state_fits s ≡ true) (message : Control) (words : List ℕ) (at from : ℕ) (h : Hearing s message words at from) where
+module _ (s : State) (fits : state_fits s ≡ true) (message : Control) (words : List ℕ) (at : ℕ) (h : Hearing s message words at) where
   pub hear_length : length words ≡ words_for (length s.channels)
   unfolding with_channels
   hear_length = ap length h.words_are ∙ state_length (passed s message at) ∙ ap words_for (heard_length message.sequences s.channels at)
 
   module _ (more : at < length s.channels) where
     abbrev part : List ℕ
-    part = take ((from + SLOT) - from) (drop from words)
+    part = take ((slot_start at + SLOT) - slot_start at) (drop (slot_start at) words)
 
     slot_here : slot words at ≡ channel_words (channel_at s at)
     unfolding with_channels channel_at
@@ -120,8 +102,8 @@ module _ (s : State) (fits : state_fits s ≡ true) (message : Control) (words :
     part_is : part ≡ channel_words (channel_at s at)
     unfolding slot
     part_is =
-        let size : (from + SLOT) - from ≡ SLOT = omega arith in
-        rw (size, h.from_is) slot_here
+        let size : (slot_start at + SLOT) - slot_start at ≡ SLOT = omega arith in
+        rw size slot_here
 
     fit_here : ChannelFit (channel_at s at)
     fit_here = channel_fit (channel_at s at) ((fit_facts s fits).each at more)
@@ -135,26 +117,26 @@ module _ (s : State) (fits : state_fits s ≡ true) (message : Control) (words :
     pub here_small : (c : Channel) → c ≡ channel_in part → c.setting.id < 255
     here_small c e = rw (here_loaded c e) fit_here.unreserved
 
-    pub here_bound : from + SLOT ≤ 520
-    here_bound = omega (arith, h.from_is, (fit_facts s fits).few)
+    pub here_few : at < 64
+    here_few = omega (arith, (fit_facts s fits).few)
 
-    pub here_ends : from + SLOT ≤ length words
-    here_ends = omega (arith, hear_length, h.from_is)
+    pub here_ends : slot_start at + SLOT ≤ length words
+    here_ends = omega (arith, hear_length)
 
-    pub hear_on : (c d : Channel) → c ≡ channel_in part → d ≡ hearing_on c (get_or message.sequences c.setting.id no_sequence).sequence → (saved : List ℕ) → saved ≡ channel_words d
-        → Hearing s message (put_mid from ((from + SLOT) - from) words saved) (at + 1) (from + SLOT)
+    pub hear_on : (c d : Channel) → c ≡ channel_in part → d ≡ hearing_on c (get_or message.sequences c.setting.id None) → (saved : List ℕ) → saved ≡ channel_words d
+        → Hearing s message (put_mid (slot_start at) ((slot_start at + SLOT) - slot_start at) words saved) (at + 1)
     unfolding with_channels with_channel channel_at
-    hear_on c d e is saved w = record { inside = omega arith; from_is = omega (arith, h.from_is); words_are = next }
+    hear_on c d e is saved w = record { words_are = next }
       where
-        size : (from + SLOT) - from ≡ SLOT
+        size : (slot_start at + SLOT) - slot_start at ≡ SLOT
         size = omega arith
 
         heard : d ≡ hears message.sequences (get_or s.channels at no_channel)
         heard = is ∙ ap (hears message.sequences) (here_loaded c e)
 
-        next : put_mid from ((from + SLOT) - from) words saved ≡ state_words (passed s message (at + 1))
+        next : put_mid (slot_start at) ((slot_start at + SLOT) - slot_start at) words saved ≡ state_words (passed s message (at + 1))
         next =
-            rw (size, drop-drop, h.from_is, w, h.words_are, put_channel_lem (passed s message at) at d (omega (arith, heard_length message.sequences s.channels at)), heard, heard_more message.sequences s.channels at more, add-one at)
+            rw (size, drop-drop, w, h.words_are, put_channel_lem (passed s message at) at d (omega (arith, heard_length message.sequences s.channels at)), heard, heard_more message.sequences s.channels at more, add-one at)
 
   pub hear_end : length s.channels ≤ at → words ≡ state_words (hearing_all s message)
   unfolding hearing_all sequence_in with_channels

@@ -1,4 +1,5 @@
 -- The states that calls make, as plain facts say them. Assumes nothing.
+use Rattle.std.specs.Prelude.{Ok}
 use Prim.Native.Nat.{ℕ, zero, suc, ◌<◌}
 use mathlib.Core.Bool.{Bool, true, false, cond}
 use mathlib.Core.List.{List, [], ◌∷◌, map}
@@ -56,7 +57,7 @@ module _ (s : State) (fits : state_fits s ≡ true) (id : ℕ) (named : is_confi
 -- 19, 12, 20, then the change and its message
 pub changing_ordered : (s : State) (id : ℕ) (change : Channel → Channel) (out : List ℕ) (f n w : Bool) → state_fits s ≡ f → is_configured s id ≡ n
     → cond f (cond n (cond w (changing s (index_in s id) change out) (refused_by NOT-WRITABLE s out)) (refused_by NO-CHANNEL s out)) (refused_by OUTSIDE-LIMITS s out)
-    ≡ ordered (λ n. Answer.Unasked n) s (of_id s id change) out f n w (differs s (of_id s id change)) (no_room_of (length (message_bytes (of_id s id change))) (length out))
+    ≡ ordered (λ n. Ok (Answer.Unasked n)) s (of_id s id change) out f n w (differs s (of_id s id change)) (no_room_of (length (message_bytes (of_id s id change))) (length out))
 unfolding settling telling
 changing_ordered s id change out false n w fits named = refl
 changing_ordered s id change out true false w fits named = refl

@@ -1,4 +1,7 @@
 -- Where the message is written: exactly if a status, the Context or a window differs from before. Assumes nothing.
+use Rattle.std.specs.Prelude.{Option, Some, None}
+use Rattle.quantity.specs.declared.count.FlowSequence.{FlowSequence}
+use Rattle.meaning.specs.declared.message.ContextBytes.{ContextBytes}
 use Prim.Native.Nat.{ℕ, zero, suc, ◌+◌, ◌%◌, ◌<◌, min}
 use mathlib.Core.Bool.{Bool, true, false, cond, not, ◌||◌, and-eq-true_iff}
 use mathlib.Core.List.{List, [], ◌∷◌, map}
@@ -10,9 +13,7 @@ use lib.Dec.{eqb}
 use lib.ListN.{length, get_or}
 use Rattle.facts.proofs.Tests.{clash, neither}
 use Rattle.quantity.specs.declared.count.FlowWindow.{FlowWindow}
-use Rattle.meaning.specs.declared.message.Context.{Context}
 use Rattle.meaning.specs.declared.message.Window.{Window}
-use Rattle.radio_flow.specs.declared.Highest.{Highest}
 use Rattle.radio_flow.specs.Granting.{window_of, allowance_of, same_window}
 use Rattle.radio_flow.proofs.Windows.{same_window_lem, window_same}
 use Rattle.radio_end_state.specs.declared.channel.Channel.{Channel}
@@ -30,20 +31,20 @@ passes_unless b {T} i = (λ e t. clash (sym (i.1 t) ∙ e), go b refl)
     go false e never = absurd (never (i.0 e))
 
 -- ---- the Context
-context_same : (k : Context) → same_context k k ≡ true
-context_same Context.Absent = refl
-context_same (Context.Given bytes size) = rw (eq-eqb bytes.0 bytes.0 refl) (eq-eqb size size refl)
+context_same : (k : Option (ContextBytes × ℕ)) → same_context k k ≡ true
+context_same None = refl
+context_same (Some (bytes, size)) = rw (eq-eqb bytes.0 bytes.0 refl) (eq-eqb size size refl)
 
-same_context_lem : (k l : Context) → same_context k l ≡ true → k ≡ l
-same_context_lem Context.Absent Context.Absent e = refl
-same_context_lem Context.Absent (Context.Given bytes size) e = clash e
-same_context_lem (Context.Given bytes size) Context.Absent e = clash e
-same_context_lem (Context.Given bytes size) (Context.Given other long) e =
+same_context_lem : (k l : Option (ContextBytes × ℕ)) → same_context k l ≡ true → k ≡ l
+same_context_lem None None e = refl
+same_context_lem None (Some (bytes, size)) e = clash e
+same_context_lem (Some (bytes, size)) None e = clash e
+same_context_lem (Some (bytes, size)) (Some (other, long)) e =
     let both = (and-eq-true_iff (eqb bytes.0 other.0) (eqb size long)).0 e in
-    ap₂ (λ (x y : ℕ). Context.Given (record { 0 = x }) y) (eqb-true bytes.0 other.0 both.0) (eqb-true size long both.1)
+    ap₂ (λ (x y : ℕ). Some (record { 0 = x }, y)) (eqb-true bytes.0 other.0 both.0) (eqb-true size long both.1)
 
-same_context_exactly : (k l : Context) → (not (same_context k l) ≡ false) ↔ (k ≡ l)
-same_context_exactly k l = (λ e. same_context_lem k l (not-false _ e), λ e. subst (λ (x : Context). not (same_context k x) ≡ false) e (rw (context_same k)))
+same_context_exactly : (k l : Option (ContextBytes × ℕ)) → (not (same_context k l) ≡ false) ↔ (k ≡ l)
+same_context_exactly k l = (λ e. same_context_lem k l (not-false _ e), λ e. subst (λ (x : Option (ContextBytes × ℕ)). not (same_context k x) ≡ false) e (rw (context_same k)))
 
 -- ---- a channel
 pub channel_exactly : (c d : Channel) → (channel_differs c d ≡ false) ↔ SameChannel c d
@@ -153,20 +154,20 @@ window_differs s id change keeps =
     (λ c. (λ never e. never (record { status = keeps c; window = e }), λ never x. never x.window)) s id
 
 -- ---- bytes queued told: exactly if the channel is flow-controlled, has heard a sequence, and the allowance is another
-given_one : {a b : FlowWindow} → Window.Given a ≡ Window.Given b → a ≡ b
+given_one : {a b : FlowWindow} → Some (Window.Given a) ≡ Some (Window.Given b) → a ≡ b
 given_one e = cc
 
 allowance_one : (h a b : ℕ) → (h + min 2147483647 a) % 4294967296 ≡ (h + min 2147483647 b) % 4294967296 → min 2147483647 a ≡ min 2147483647 b
 allowance_one h a b e = omega arith
 
-moves_by : (c : Channel) (bytes : ℕ) (controlled : Bool) → c.setting.controlled ≡ controlled → (highest : Highest) → c.highest ≡ highest
+moves_by : (c : Channel) (bytes : ℕ) (controlled : Bool) → c.setting.controlled ≡ controlled → (highest : Option FlowSequence) → c.highest ≡ highest
     → (window_of controlled highest (allowance_of c.setting.watermark c.setting.throughput c.queued)
     ≡ window_of controlled highest (allowance_of c.setting.watermark c.setting.throughput (record { 0 = bytes })) → ⊥) → AllowanceChanges c bytes
 unfolding window_of allowance_of
 moves_by c bytes false e highest f never = absurd (never refl)
-moves_by c bytes true e Highest.Unheard f never = absurd (never refl)
-moves_by c bytes true e (Highest.At h) f never =
-    record { controlled = e; highest = h; heard = f; other = λ same. never (ap (λ (a : ℕ). Window.Given (record { 0 = (h.0 + a) % 4294967296 })) same) }
+moves_by c bytes true e None f never = absurd (never refl)
+moves_by c bytes true e (Some h) f never =
+    record { controlled = e; highest = h; heard = f; other = λ same. never (ap (λ (a : ℕ). Some (Window.Given (record { 0 = (h.0 + a) % 4294967296 }))) same) }
 
 queued_moves : (c : Channel) (bytes : ℕ) → (SameChannel c (queued_set bytes c) → ⊥) ↔ AllowanceChanges c bytes
 unfolding window_now window_of allowance_of
@@ -179,7 +180,7 @@ pub queued_differs : (s : State) (id bytes : ℕ) → (differs s (of_id s id (qu
 queued_differs s id bytes = of_id_differs (queued_set bytes) (λ c. AllowanceChanges c bytes) (λ c. queued_moves c bytes) s id
 
 -- a Context told: exactly if the Context is another
-pub context_differs : (s : State) (context : Context) → (differs s (context_set s context) ≡ true) ↔ (s.context ≡ context → ⊥)
+pub context_differs : (s : State) (context : Option (ContextBytes × ℕ)) → (differs s (context_set s context) ≡ true) ↔ (s.context ≡ context → ⊥)
 unfolding channel_at
 context_differs s context =
     passes_unless (differs s (context_set s context)) (

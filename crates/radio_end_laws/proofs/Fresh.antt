@@ -1,4 +1,5 @@
 -- The message that Tell writes after a start. Assumes nothing.
+use Rattle.std.specs.Prelude.{Some, None, Ok}
 use Prim.Native.Nat.{ℕ, zero, suc, ◌≤◌, ◌<◌}
 use mathlib.Core.Bool.{true}
 use mathlib.Core.List.{List, [], ◌∷◌, map}
@@ -9,10 +10,8 @@ use lib.ListN.{length, get_or, take, drop, length-map}
 use lib.Seq.{take_at}
 use Rattle.wire.specs.Options.{over}
 use Rattle.meaning.specs.declared.message.End.TheVariants as ends
-use Rattle.meaning.specs.declared.message.Status.{Status}
 use Rattle.reader.specs.Readings.{Verdict, read_control}
 use Rattle.writer.specs.Written.{no_room_of}
-use Rattle.radio_flow.specs.declared.Highest.{Highest}
 use Rattle.radio_end_state.specs.declared.answer.Answer.{Answer}
 use Rattle.radio_end_state.specs.declared.channel.Setting.{Setting}
 use Rattle.radio_end_state.specs.declared.channel.Channel.{Channel}
@@ -30,7 +29,7 @@ use Rattle.radio_end_laws.proofs.Exactly.{tell_ordered}
 
 -- a fresh channel: status 0, nothing queued, none heard
 abbrev unused : Setting → Channel
-unused setting = record { setting = setting; status = 0; queued = record { 0 = 0 }; highest = Highest.Unheard }
+unused setting = record { setting = setting; status = 0; queued = record { 0 = 0 }; highest = None }
 
 unused_at : (ks : List Setting) (index : ℕ) → get_or (map fresh_channel ks) index no_channel ≡ unused (get_or ks index no_setting)
 unused_at [] index = refl
@@ -53,7 +52,7 @@ module _ (k : Configuration) where
     names : Names (fresh_state k) (message_of (fresh_state k))
     names = names_every (fresh_state k) fits
 
-    status_zero : (index : ℕ) → index < length k.settings → status_of (message_of (fresh_state k)) (setting index).id ≡ Status.Given 0
+    status_zero : (index : ℕ) → index < length k.settings → status_of (message_of (fresh_state k)) (setting index).id ≡ Some 0
     status_zero index h = rw (channel_is index) at (names.status index (omega (arith, h, many)))
 
     window_is : (index : ℕ) → index < length k.settings → WindowIs (unused (setting index)) (window_of (message_of (fresh_state k)) (setting index).id)
@@ -84,7 +83,7 @@ module _ (k : Configuration) where
       roomy (inl h) = omega (arith, h, room)
       roomy (inr h) = omega (arith, h, message_short (fresh_state k) fits)
 
-      told_is : told (fresh_state k) out ≡ record { answer = Answer.Answered (record { 0 = length bytes }); state = fresh_state k; output = over bytes out }
+      told_is : told (fresh_state k) out ≡ record { answer = Ok (Answer.Answered (record { 0 = length bytes })); state = fresh_state k; output = over bytes out }
       told_is = tell_ordered (fresh_state k) out ∙ rw (fits, off (no_room_of (length bytes) (length out)) (no_room_exactly bytes out) roomy)
 
       reads_back : read_control ends.Radio (fresh_state k).datalink (take (length bytes) (over bytes out)) ≡ record { verdict = Verdict.Accepted; message = message_of (fresh_state k) }

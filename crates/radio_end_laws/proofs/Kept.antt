@@ -1,4 +1,8 @@
 -- Every call leaves a state within the limits within them. Assumes nothing.
+use Rattle.std.specs.Prelude.{Option, Some, None, Result, Ok}
+use Rattle.quantity.specs.declared.count.LinkInstanceId.{LinkInstanceId}
+use Rattle.quantity.specs.declared.count.FlowSequence.{FlowSequence}
+use Rattle.meaning.specs.declared.message.ContextBytes.{ContextBytes}
 use Prim.Native.Nat.{ℕ, ◌^◌, ◌≤◌, ◌<◌}
 use mathlib.Core.Bool.{Bool, true, false, cond, and-eq-true_iff}
 use mathlib.Core.List.{List, [], ◌∷◌, map}
@@ -13,10 +17,6 @@ use Rattle.quantity.specs.declared.refusal.Refusal.{Refusal}
 use Rattle.quantity.specs.Limits.{HIGHEST-STATUS}
 use Rattle.wire.specs.Numbers.{Octets}
 use Rattle.meaning.specs.declared.message.End.TheVariants as ends
-use Rattle.meaning.specs.declared.message.Instance.{Instance}
-use Rattle.meaning.specs.declared.message.Context.{Context}
-use Rattle.meaning.specs.declared.message.Sequence.{Sequence}
-use Rattle.meaning.specs.declared.message.Counted.{Counted}
 use Rattle.meaning.specs.declared.message.Control.{Control}
 use Rattle.meaning.specs.declared.message.Data.{Data}
 use Rattle.reader.specs.Readings.{ControlReading, DataReading}
@@ -26,7 +26,6 @@ use Rattle.roundtrip.proofs.Writable.{control_is_value}
 use Rattle.roundtrip.proofs.HeldData.{data_value}
 use Rattle.writable.specs.Allowed.{context_allowed, instance_allowed}
 use Rattle.writer.specs.Written.{no_room_of}
-use Rattle.radio_flow.specs.declared.Highest.{Highest}
 use Rattle.radio_flow.specs.Granting.{is_ahead, hearing}
 use Rattle.radio_end_state.specs.declared.answer.Answer.{Answer}
 use Rattle.radio_end_state.specs.declared.channel.Channel.{Channel}
@@ -45,19 +44,19 @@ use Rattle.radio_end_laws.proofs.Heard.{reads, after_control, control_ordered, c
 
 -- ---- a channel
 -- the highest is one of those heard
-hearing_fits : (controlled : Bool) (highest : Highest) (stated : Sequence) → highest_fits highest ≡ true → SequenceWord stated → highest_fits (hearing controlled highest stated) ≡ true
+hearing_fits : (controlled : Bool) (highest : Option FlowSequence) (stated : Option FlowSequence) → highest_fits highest ≡ true → SequenceWord stated → highest_fits (hearing controlled highest stated) ≡ true
 unfolding hearing
 hearing_fits false highest stated e w = e
-hearing_fits true highest Sequence.Absent e w = e
-hearing_fits true Highest.Unheard (Sequence.Given q) e w = lt-ltb q.0 (2 ^ 32) w
-hearing_fits true (Highest.At h) (Sequence.Given q) e w = go (is_ahead h q)
+hearing_fits true highest None e w = e
+hearing_fits true None (Some q) e w = lt-ltb q.0 (2 ^ 32) w
+hearing_fits true (Some h) (Some q) e w = go (is_ahead h q)
   where
-    go : (b : Bool) → highest_fits (cond b (Highest.At q) (Highest.At h)) ≡ true
+    go : (b : Bool) → highest_fits (cond b (Some q) (Some h)) ≡ true
     go true = lt-ltb q.0 (2 ^ 32) w
     go false = e
 
 -- another status of 4 bits, other bytes queued, another word
-with_fits : (c : Channel) (status : ℕ) (queued : ByteCount) (highest : Highest) → channel_fits c ≡ true → status ≤ 15 → highest_fits highest ≡ true
+with_fits : (c : Channel) (status : ℕ) (queued : ByteCount) (highest : Option FlowSequence) → channel_fits c ≡ true → status ≤ 15 → highest_fits highest ≡ true
     → channel_fits (record { setting = c.setting; status = status; queued = queued; highest = highest }) ≡ true
 unfolding channel_fits
 with_fits c status queued highest e low h =
@@ -115,12 +114,12 @@ data_word datalink datagram m octets a =
     let value = data_value ends.Ips datalink datagram octets x.0 x.1 in
     subst (λ (r : DataReading). CountedWord r.message.sequence) (sym (account.1 x.0 x.1) ∙ a.reading) value.sequence_word
 
-counted_word : (counted : Counted) → CountedWord counted → SequenceWord (counted_sequence counted)
-counted_word Counted.Absent w = tt
-counted_word (Counted.Given id sequence) w = w
+counted_word : (counted : Option (ℕ × FlowSequence)) → CountedWord counted → SequenceWord (counted_sequence counted)
+counted_word None w = tt
+counted_word (Some (id, sequence)) w = w
 
 -- a Flow Sequence heard, and bytes queued
-heard_fits_channel : (stated : Sequence) (queued : ByteCount) (c : Channel) → SequenceWord stated → channel_fits c ≡ true
+heard_fits_channel : (stated : Option FlowSequence) (queued : ByteCount) (c : Channel) → SequenceWord stated → channel_fits c ≡ true
     → channel_fits (record { setting = c.setting; status = c.status; queued = queued; highest = hearing c.setting.controlled c.highest stated }) ≡ true
 heard_fits_channel stated queued c w e =
     let f = channel_fit c e in
@@ -131,7 +130,7 @@ module _ (s : State) (out : List ℕ) (fits : state_fits s ≡ true) where
   abbrev short : State → Bool
   short after = no_room_of (length (message_bytes after)) (length out)
 
-  in_order : (say : ByteCount → Answer) → Speaks say → (after : State) → after.datalink ≡ s.datalink → (f n w t l : Bool) → (w ≡ true → state_fits after ≡ true)
+  in_order : (say : ByteCount → Result Answer Refusal) → Speaks say → (after : State) → after.datalink ≡ s.datalink → (f n w t l : Bool) → (w ≡ true → state_fits after ≡ true)
       → Leaves s out (ordered say s after out f n w t l)
   in_order say speaks after same f n w t l kept =
       record {
@@ -147,31 +146,31 @@ module _ (s : State) (out : List ℕ) (fits : state_fits s ≡ true) where
   status_leaves : (id value : ℕ) → Leaves s out (status_told s id value out)
   status_leaves id value =
       rw (status_ordered s out id value)
-      (in_order (λ n. Answer.Unasked n) unasked_speaks (of_id s id (status_set value)) refl (state_fits s) (is_configured s id) (leb value HIGHEST-STATUS) (differs s (of_id s id (status_set value))) (short (of_id s id (status_set value)))
+      (in_order (λ n. Ok (Answer.Unasked n)) unasked_speaks (of_id s id (status_set value)) refl (state_fits s) (is_configured s id) (leb value HIGHEST-STATUS) (differs s (of_id s id (status_set value))) (short (of_id s id (status_set value)))
       (λ w. of_id_fits id (status_set value) (λ c e. with_fits c value c.queued c.highest e (leb-true value HIGHEST-STATUS w) (channel_fit c e).highest) (λ c. refl) s fits))
 
   queued_leaves : (id : ℕ) (bytes : ByteCount) → Leaves s out (queued_told s id bytes out)
   queued_leaves id bytes =
       rw (queued_ordered s out id bytes.0)
-      (in_order (λ n. Answer.Unasked n) unasked_speaks (of_id s id (queued_set bytes.0)) refl (state_fits s) (is_configured s id) true (differs s (of_id s id (queued_set bytes.0))) (short (of_id s id (queued_set bytes.0)))
+      (in_order (λ n. Ok (Answer.Unasked n)) unasked_speaks (of_id s id (queued_set bytes.0)) refl (state_fits s) (is_configured s id) true (differs s (of_id s id (queued_set bytes.0))) (short (of_id s id (queued_set bytes.0)))
       (λ w. of_id_fits id (queued_set bytes.0) (λ c e. with_fits c c.status bytes c.highest e (channel_fit c e).status (channel_fit c e).highest) (λ c. refl) s fits))
 
-  context_leaves : (context : Context) → Leaves s out (context_told s context out)
+  context_leaves : (context : Option (ContextBytes × ℕ)) → Leaves s out (context_told s context out)
   unfolding channel_at
   context_leaves context =
       rw (context_ordered s out context)
-      (in_order (λ n. Answer.Unasked n) unasked_speaks (context_set s context) refl (state_fits s) true (context_allowed ends.Radio context) (differs s (context_set s context)) (short (context_set s context))
+      (in_order (λ n. Ok (Answer.Unasked n)) unasked_speaks (context_set s context) refl (state_fits s) true (context_allowed ends.Radio context) (differs s (context_set s context)) (short (context_set s context))
       (λ w. let k = fit_facts s fits in fit_state (context_set s context) (record { datalink = k.datalink; some = k.some; few = k.few; instance = k.instance; context = w; each = k.each; apart = k.apart; primary = k.primary })))
 
-  link_leaves : (instance : Instance) → Leaves s out (link_told s instance out)
+  link_leaves : (instance : Option (LinkInstanceId × ℕ)) → Leaves s out (link_told s instance out)
   unfolding channel_at
   link_leaves instance =
       rw (link_ordered s out instance)
-      (in_order (λ n. Answer.Unasked n) unasked_speaks (instance_set s instance) refl (state_fits s) true (instance_allowed ends.Radio instance) false (short (instance_set s instance))
+      (in_order (λ n. Ok (Answer.Unasked n)) unasked_speaks (instance_set s instance) refl (state_fits s) true (instance_allowed ends.Radio instance) false (short (instance_set s instance))
       (λ w. let k = fit_facts s fits in fit_state (instance_set s instance) (record { datalink = k.datalink; some = k.some; few = k.few; instance = w; context = k.context; each = k.each; apart = k.apart; primary = k.primary })))
 
   tell_leaves : Leaves s out (told s out)
-  tell_leaves = rw (tell_ordered s out) (in_order (λ n. Answer.Answered n) answered_speaks s refl (state_fits s) true true true (short s) (λ w. fits))
+  tell_leaves = rw (tell_ordered s out) (in_order (λ n. Ok (Answer.Answered n)) answered_speaks s refl (state_fits s) true true true (short s) (λ w. fits))
 
   -- of a datagram of bytes
   heard_leaves : (datagram : List ℕ) → Octets datagram → Leaves s out (heard s datagram out)
@@ -181,11 +180,11 @@ module _ (s : State) (out : List ℕ) (fits : state_fits s ≡ true) where
       go (unread refusal w) = rw (heard_unread s datagram out fits refusal w) (refused_leaves refusal)
       go (control_read_lem m a) =
           rw (control_ordered s datagram out m a)
-          (in_order (λ n. Answer.Answered n) answered_speaks (after_control s datagram out m a) refl (state_fits s) (lacks_none s m) true true (short (after_control s datagram out m a))
+          (in_order (λ n. Ok (Answer.Answered n)) answered_speaks (after_control s datagram out m a) refl (state_fits s) (lacks_none s m) true true (short (after_control s datagram out m a))
           (λ w. each_fits_lem (control_taken m) (λ c e. heard_fits_channel (sequence_of m c.setting.id) c.queued c (control_words_lem s.datalink datagram m octets a c.setting.id) e) (λ c. refl) s fits))
       go (data_read_lem m a) =
           rw (data_ordered s datagram out m a)
-          (in_order (λ n. Answer.Unasked n) unasked_speaks (after_data s datagram out m a) refl (state_fits s) (is_configured s (channel_of s datagram out m a)) true (differs s (after_data s datagram out m a)) (short (after_data s datagram out m a))
+          (in_order (λ n. Ok (Answer.Unasked n)) unasked_speaks (after_data s datagram out m a) refl (state_fits s) (is_configured s (channel_of s datagram out m a)) true (differs s (after_data s datagram out m a)) (short (after_data s datagram out m a))
           (λ w. of_id_fits (channel_of s datagram out m a) (taken_by s datagram out m a) (λ c e. heard_fits_channel (counted_sequence m.sequence) (taken_by s datagram out m a c).queued c (counted_word m.sequence (data_word s.datalink datagram m octets a)) e) (λ c. refl) s fits))
 
   -- WHAT EVERY CALL LEAVES

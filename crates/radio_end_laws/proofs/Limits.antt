@@ -1,4 +1,7 @@
 -- Number 19 is given exactly if the state is outside the limits. Assumes nothing.
+use Rattle.std.specs.Prelude.{Option, Some, None}
+use Rattle.quantity.specs.declared.count.LinkInstanceId.{LinkInstanceId}
+use Rattle.meaning.specs.declared.message.ContextBytes.{ContextBytes}
 use Prim.Native.Nat.{ℕ, ◌^◌, ◌<◌}
 use mathlib.Core.Bool.{true, ◌&&◌, and-eq-true_iff}
 use mathlib.Core.Logic.{◌↔◌}
@@ -10,11 +13,8 @@ use lib.ListN.{length, get_or}
 use Rattle.quantity.specs.declared.count.FlowSequence.{FlowSequence}
 use Rattle.quantity.specs.Limits.{RESERVED-CHANNEL, HIGHEST-STATUS, MOST-ALLOWANCE}
 use Rattle.meaning.specs.declared.message.End.TheVariants as ends
-use Rattle.meaning.specs.declared.message.Instance.{Instance}
-use Rattle.meaning.specs.declared.message.Context.{Context}
 use Rattle.meaning.specs.Kinds.{length_listed}
 use Rattle.writable.specs.Allowed.{instance_allowed, context_allowed}
-use Rattle.radio_flow.specs.declared.Highest.{Highest}
 use Rattle.radio_end_state.specs.declared.channel.Channel.{Channel}
 use Rattle.radio_end_state.specs.State.{State, channel_at}
 use Rattle.radio_end_state.specs.Limits.{index_of, stands_first, highest_fits, channel_fits, ids, state_fits}
@@ -38,22 +38,22 @@ spelled_exactly number size = (
   λ x. rw (le-leb 1 size x.0, le-leb size 8 x.1, lt-ltb number (256 ^ size) x.2),
 )
 
-pub context_writable : (context : Context) → (context_allowed ends.Radio context ≡ true) ↔ ContextWritable context
+pub context_writable : (context : Option (ContextBytes × ℕ)) → (context_allowed ends.Radio context ≡ true) ↔ ContextWritable context
 unfolding length_listed
-context_writable Context.Absent = always
-context_writable (Context.Given bytes size) = spelled_exactly bytes.0 size
+context_writable None = always
+context_writable (Some (bytes, size)) = spelled_exactly bytes.0 size
 
-pub instance_writable : (instance : Instance) → (instance_allowed ends.Radio instance ≡ true) ↔ InstanceWritable instance
+pub instance_writable : (instance : Option (LinkInstanceId × ℕ)) → (instance_allowed ends.Radio instance ≡ true) ↔ InstanceWritable instance
 unfolding length_listed
-instance_writable Instance.Absent = always
-instance_writable (Instance.Given number size) = spelled_exactly number.0 size
+instance_writable None = always
+instance_writable (Some (number, size)) = spelled_exactly number.0 size
 
 -- ---- a channel
-word_fits : (highest : Highest) → ((h : FlowSequence) → highest ≡ Highest.At h → h.0 < 4294967296) → highest_fits highest ≡ true
-word_fits Highest.Unheard f = refl
-word_fits (Highest.At h) f = lt-ltb h.0 (2 ^ 32) (f h refl)
+word_fits : (highest : Option FlowSequence) → ((h : FlowSequence) → highest ≡ Some h → h.0 < 4294967296) → highest_fits highest ≡ true
+word_fits None f = refl
+word_fits (Some h) f = lt-ltb h.0 (2 ^ 32) (f h refl)
 
-fits_word : (highest : Highest) → highest_fits highest ≡ true → (h : FlowSequence) → highest ≡ Highest.At h → h.0 < 4294967296
+fits_word : (highest : Option FlowSequence) → highest_fits highest ≡ true → (h : FlowSequence) → highest ≡ Some h → h.0 < 4294967296
 fits_word highest e h is = ltb-true h.0 (2 ^ 32) (rw is at e)
 
 channel_within : (c : Channel) → channel_fits c ≡ true → ChannelWithin c

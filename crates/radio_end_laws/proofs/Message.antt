@@ -1,4 +1,7 @@
 -- What the message of a state within the limits says: read at the other end it is accepted, and states every channel. Assumes nothing.
+use Rattle.meaning.specs.declared.message.Window.{Window}
+use Rattle.std.specs.Prelude.{Option, Some, None}
+use Rattle.quantity.specs.declared.count.FlowSequence.{FlowSequence}
 use Prim.Native.Nat.{ℕ, zero, suc, ◌≤◌, ◌<◌}
 use mathlib.Core.Bool.{Bool, true, false, cond}
 use mathlib.Core.List.{List, [], ◌∷◌}
@@ -12,16 +15,11 @@ use Rattle.facts.proofs.Tables.{length_tabulate, get_d_tabulate, each_tabulated}
 use Rattle.quantity.specs.declared.count.ByteCount.{ByteCount}
 use Rattle.quantity.specs.Limits.{CHANNEL-IDS}
 use Rattle.meaning.specs.declared.message.End.TheVariants as ends
-use Rattle.meaning.specs.declared.message.Status.{Status}
-use Rattle.meaning.specs.declared.message.StatusCell.{StatusCell}
-use Rattle.meaning.specs.declared.message.WindowCell.{WindowCell}
-use Rattle.meaning.specs.Cells.{no_status, no_sequence, no_window}
 use Rattle.writable.specs.Allowed.{control_allowed}
 use Rattle.read_control.specs.Message.{control_accepted}
 use Rattle.reader.specs.Readings.{Verdict, read_control}
 use Rattle.roundtrip.specs.Values.{WindowWord, ControlValue}
 use Rattle.roundtrip.proofs.Control.{control_short, control_round}
-use Rattle.radio_flow.specs.declared.Highest.{Highest}
 use Rattle.radio_flow.specs.Granting.{window_of, allowance_of}
 use Rattle.radio_end_state.specs.declared.channel.Channel.{Channel}
 use Rattle.radio_end_state.specs.Channel.{window_now}
@@ -38,27 +36,27 @@ pub window_now_lem : (c : Channel) → WindowIs c (window_now c)
 unfolding window_now window_of allowance_of
 window_now_lem c = record { plain = λ e. rw e; unheard = λ e h. rw (e, h); heard = λ h e k. rw (e, k) }
 
-granted_word : (controlled : Bool) (highest : Highest) (allowance : ByteCount) → WindowWord (window_of controlled highest allowance)
+granted_word : (controlled : Bool) (highest : Option FlowSequence) (allowance : ByteCount) → WindowWord (window_of controlled highest allowance)
 unfolding window_of
 granted_word false highest allowance = tt
-granted_word true Highest.Unheard allowance = tt
-granted_word true (Highest.At h) allowance = omega arith
+granted_word true None allowance = tt
+granted_word true (Some h) allowance = omega arith
 
 now_word : (c : Channel) → WindowWord (window_now c)
 unfolding window_now
 now_word c = granted_word c.setting.controlled c.highest (allowance_of c.setting.watermark c.setting.throughput c.queued)
 
 -- ---- the message is a value, and may be written
-window_word_lem : (cs : List Channel) (id : ℕ) → WindowWord (window_for cs id).window
+window_word_lem : (cs : List Channel) (id : ℕ) → WindowWord (window_for cs id)
 unfolding window_for
 window_word_lem [] id = tt
 window_word_lem (c ∷ cs) id = go (eqb c.setting.id id) (window_for cs id) (window_word_lem cs id)
   where
-    go : (b : Bool) (rest : WindowCell) → WindowWord rest.window → WindowWord (cond b (record { window = window_now c }) rest).window
+    go : (b : Bool) (rest : Option Window) → WindowWord rest → WindowWord (cond b (window_now c) rest)
     go true rest w = now_word c
     go false rest w = w
 
-none_stated : (n id : ℕ) → get_or (replicate n no_sequence) id no_sequence ≡ no_sequence
+none_stated : (n id : ℕ) → get_or {A = Option FlowSequence} (replicate n None) id None ≡ None
 none_stated zero id = refl
 none_stated (suc n) zero = refl
 none_stated (suc n) (suc id) = none_stated n id
@@ -67,10 +65,10 @@ pub message_value : (s : State) → ControlValue (message_of s)
 unfolding message_of
 message_value s = record {
   statuses_long = length_tabulate CHANNEL-IDS (status_for s.channels);
-  sequences_long = length-replicate CHANNEL-IDS no_sequence;
+  sequences_long = length-replicate {A = Option FlowSequence} CHANNEL-IDS None;
   windows_long = length_tabulate CHANNEL-IDS (window_for s.channels);
   sequence_words = λ id. rw (none_stated CHANNEL-IDS id) tt;
-  window_words = each_tabulated (λ (cell : WindowCell). WindowWord cell.window) no_window tt CHANNEL-IDS (window_for s.channels) (window_word_lem s.channels);
+  window_words = each_tabulated (λ (cell : Option Window). WindowWord cell) None tt CHANNEL-IDS (window_for s.channels) (window_word_lem s.channels);
 }
 
 module _ (s : State) (fits : state_fits s ≡ true) where
@@ -91,37 +89,37 @@ module _ (s : State) (fits : state_fits s ≡ true) where
   tells_back = control_round ends.Radio s.datalink (message_of s) (message_value s) may_be_written refl
 
 -- ---- what it states of a Channel ID is of the first channel that has it
-status_first : (cs : List Channel) (id : ℕ) → index_of id (ids cs) < length cs → (status_for cs id).status ≡ Status.Given (get_or cs (index_of id (ids cs)) no_channel).status
+status_first : (cs : List Channel) (id : ℕ) → index_of id (ids cs) < length cs → (status_for cs id) ≡ Some (get_or cs (index_of id (ids cs)) no_channel).status
 unfolding status_for index_of ids
 status_first [] id h = absurd (omega arith)
 status_first (c ∷ cs) id h = go (eqb c.setting.id id) h (status_first cs id)
   where
     go : (b : Bool) → cond b 0 (suc (index_of id (ids cs))) < suc (length cs)
-        → (index_of id (ids cs) < length cs → (status_for cs id).status ≡ Status.Given (get_or cs (index_of id (ids cs)) no_channel).status)
-        → (cond b (record { status = Status.Given c.status }) (status_for cs id)).status ≡ Status.Given (get_or (c ∷ cs) (cond b 0 (suc (index_of id (ids cs)))) no_channel).status
+        → (index_of id (ids cs) < length cs → (status_for cs id) ≡ Some (get_or cs (index_of id (ids cs)) no_channel).status)
+        → (cond b (Some c.status) (status_for cs id)) ≡ Some (get_or (c ∷ cs) (cond b 0 (suc (index_of id (ids cs)))) no_channel).status
     go true l f = refl
     go false l f = f (omega arith)
 
-window_first : (cs : List Channel) (id : ℕ) → index_of id (ids cs) < length cs → (window_for cs id).window ≡ window_now (get_or cs (index_of id (ids cs)) no_channel)
+window_first : (cs : List Channel) (id : ℕ) → index_of id (ids cs) < length cs → (window_for cs id) ≡ window_now (get_or cs (index_of id (ids cs)) no_channel)
 unfolding window_for index_of ids
 window_first [] id h = absurd (omega arith)
 window_first (c ∷ cs) id h = go (eqb c.setting.id id) h (window_first cs id)
   where
     go : (b : Bool) → cond b 0 (suc (index_of id (ids cs))) < suc (length cs)
-        → (index_of id (ids cs) < length cs → (window_for cs id).window ≡ window_now (get_or cs (index_of id (ids cs)) no_channel))
-        → (cond b (record { window = window_now c }) (window_for cs id)).window ≡ window_now (get_or (c ∷ cs) (cond b 0 (suc (index_of id (ids cs)))) no_channel)
+        → (index_of id (ids cs) < length cs → (window_for cs id) ≡ window_now (get_or cs (index_of id (ids cs)) no_channel))
+        → (cond b (window_now c) (window_for cs id)) ≡ window_now (get_or (c ∷ cs) (cond b 0 (suc (index_of id (ids cs)))) no_channel)
     go true l f = refl
     go false l f = f (omega arith)
 
 -- and nothing of an ID that none has
 none_has : (cs : List Channel) (id : ℕ) → ((i : ℕ) → i < length cs → (get_or cs i no_channel).setting.id ≡ id → ⊥)
-    → (status_for cs id ≡ no_status) × (window_for cs id ≡ no_window)
+    → (status_for cs id ≡ None) × (window_for cs id ≡ None)
 unfolding status_for window_for
 none_has [] id none = (refl, refl)
 none_has (c ∷ cs) id none = go (eqb c.setting.id id) refl (none_has cs id (λ i h. none (suc i) (omega arith)))
   where
-    go : (b : Bool) → eqb c.setting.id id ≡ b → (status_for cs id ≡ no_status) × (window_for cs id ≡ no_window)
-        → (cond b (record { status = Status.Given c.status }) (status_for cs id) ≡ no_status) × (cond b (record { window = window_now c }) (window_for cs id) ≡ no_window)
+    go : (b : Bool) → eqb c.setting.id id ≡ b → (status_for cs id ≡ None) × (window_for cs id ≡ None)
+        → (cond b (Some c.status) (status_for cs id) ≡ None) × (cond b (window_now c) (window_for cs id) ≡ None)
     go true e f = absurd (none 0 (omega arith) (eqb-true _ _ e))
     go false e f = f
 
@@ -140,11 +138,11 @@ module _ (s : State) (fits : state_fits s ≡ true) where
     datalink = refl;
     instance = refl;
     context = refl;
-    status = λ index h. ap (λ (cell : StatusCell). cell.status) (get_d_tabulate CHANNEL-IDS (status_for s.channels) (channel_at s index).setting.id no_status (low index h)) ∙ status_first s.channels _ (near index h) ∙ ap (λ (i : ℕ). Status.Given (channel_at s i).status) (first index h);
-    window = λ index h. subst (WindowIs (channel_at s index)) (sym (ap (λ (cell : WindowCell). cell.window) (get_d_tabulate CHANNEL-IDS (window_for s.channels) (channel_at s index).setting.id no_window (low index h)) ∙ window_first s.channels _ (near index h) ∙ ap (λ (i : ℕ). window_now (channel_at s i)) (first index h))) (window_now_lem (channel_at s index));
+    status = λ index h. ap (λ (cell : Option ℕ). cell) (get_d_tabulate CHANNEL-IDS (status_for s.channels) (channel_at s index).setting.id None (low index h)) ∙ status_first s.channels _ (near index h) ∙ ap (λ (i : ℕ). Some (channel_at s i).status) (first index h);
+    window = λ index h. subst (WindowIs (channel_at s index)) (sym (ap (λ (cell : Option Window). cell) (get_d_tabulate CHANNEL-IDS (window_for s.channels) (channel_at s index).setting.id None (low index h)) ∙ window_first s.channels _ (near index h) ∙ ap (λ (i : ℕ). window_now (channel_at s i)) (first index h))) (window_now_lem (channel_at s index));
     no_other = λ id none.
         let absent = none_has s.channels id (λ i h e. none (i, record { inside = h; is = e })) in
-        (ap (λ (cell : StatusCell). cell.status) (blank_place CHANNEL-IDS (status_for s.channels) no_status id absent.0), ap (λ (cell : WindowCell). cell.window) (blank_place CHANNEL-IDS (window_for s.channels) no_window id absent.1));
+        (ap (λ (cell : Option ℕ). cell) (blank_place CHANNEL-IDS (status_for s.channels) None id absent.0), ap (λ (cell : Option Window). cell) (blank_place CHANNEL-IDS (window_for s.channels) None id absent.1));
     no_sequence_lem = λ id. rw (none_stated CHANNEL-IDS id);
   }
     where

@@ -1,4 +1,5 @@
 -- One law for every call: tests in an order, and the answer of each exactly if its facts hold. Assumes nothing.
+use Rattle.std.specs.Prelude.{Result, Ok, Err}
 use Prim.Native.Nat.{ℕ}
 use mathlib.Core.Bool.{Bool, true, false, cond, ◌||◌}
 use mathlib.Core.List.{List}
@@ -43,35 +44,35 @@ no_room_exactly message out = (go (ltb (length out) (length message)) refl, back
     back (inr h) = rw (lt-ltb LONGEST-DATAGRAM (length message) h) (either (ltb (length out) (length message)))
 
 -- an answer that is a message of so many bytes
-pub record Speaks (say : ByteCount → Answer) : Type 0 where
-  pub not_quiet : (n : ByteCount) → say n ≡ Answer.Quiet → ⊥
-  pub not_refused : (n : ByteCount) (refusal : Refusal) → say n ≡ Answer.Refused refusal → ⊥
-  pub one : (n m : ByteCount) → (say n ≡ Answer.Answered m) ⊎ (say n ≡ Answer.Unasked m) → n ≡ m
+pub record Speaks (say : ByteCount → Result Answer Refusal) : Type 0 where
+  pub not_quiet : (n : ByteCount) → say n ≡ Ok Answer.Quiet → ⊥
+  pub not_refused : (n : ByteCount) (refusal : Refusal) → say n ≡ Err refusal → ⊥
+  pub one : (n m : ByteCount) → (say n ≡ Ok (Answer.Answered m)) ⊎ (say n ≡ Ok (Answer.Unasked m)) → n ≡ m
 
-answered_one : (n m : ByteCount) → (Answer.Answered n ≡ Answer.Answered m) ⊎ (Answer.Answered n ≡ Answer.Unasked m) → n ≡ m
+answered_one : (n m : ByteCount) → (◌≡◌ {A = Result Answer Refusal} (Ok (Answer.Answered n)) (Ok (Answer.Answered m))) ⊎ (◌≡◌ {A = Result Answer Refusal} (Ok (Answer.Answered n)) (Ok (Answer.Unasked m))) → n ≡ m
 answered_one n m (inl e) = cc
 answered_one n m (inr e) = clash (cc)
 
-unasked_one : (n m : ByteCount) → (Answer.Unasked n ≡ Answer.Answered m) ⊎ (Answer.Unasked n ≡ Answer.Unasked m) → n ≡ m
+unasked_one : (n m : ByteCount) → (◌≡◌ {A = Result Answer Refusal} (Ok (Answer.Unasked n)) (Ok (Answer.Answered m))) ⊎ (◌≡◌ {A = Result Answer Refusal} (Ok (Answer.Unasked n)) (Ok (Answer.Unasked m))) → n ≡ m
 unasked_one n m (inl e) = clash (cc)
 unasked_one n m (inr e) = cc
 
-pub answered_speaks : Speaks (λ n. Answer.Answered n)
+pub answered_speaks : Speaks (λ n. Ok (Answer.Answered n))
 answered_speaks = record { not_quiet = λ n e. clash (cc); not_refused = λ n refusal e. clash (cc); one = answered_one }
 
-pub unasked_speaks : Speaks (λ n. Answer.Unasked n)
+pub unasked_speaks : Speaks (λ n. Ok (Answer.Unasked n))
 unasked_speaks = record { not_quiet = λ n e. clash (cc); not_refused = λ n refusal e. clash (cc); one = unasked_one }
 
 -- a refusal, or nothing to write, is no message
-pub refused_silent : {refusal : Refusal} {n : ByteCount} → (Answer.Refused refusal ≡ Answer.Answered n) ⊎ (Answer.Refused refusal ≡ Answer.Unasked n) → ⊥
+pub refused_silent : {refusal : Refusal} {n : ByteCount} → (◌≡◌ {A = Result Answer Refusal} (Err refusal) (Ok (Answer.Answered n))) ⊎ (◌≡◌ {A = Result Answer Refusal} (Err refusal) (Ok (Answer.Unasked n))) → ⊥
 refused_silent (inl e) = clash (cc)
 refused_silent (inr e) = clash (cc)
 
-quiet_silent : {n : ByteCount} → (Answer.Quiet ≡ Answer.Answered n) ⊎ (Answer.Quiet ≡ Answer.Unasked n) → ⊥
+quiet_silent : {n : ByteCount} → (◌≡◌ {A = Result Answer Refusal} (Ok Answer.Quiet) (Ok (Answer.Answered n))) ⊎ (◌≡◌ {A = Result Answer Refusal} (Ok Answer.Quiet) (Ok (Answer.Unasked n))) → ⊥
 quiet_silent (inl e) = clash (cc)
 quiet_silent (inr e) = clash (cc)
 
-module _ (say : ByteCount → Answer) (before after : State) (out : List ℕ) where
+module _ (say : ByteCount → Result Answer Refusal) (before after : State) (out : List ℕ) where
   -- the tests in their order
   abbrev pub ordered : (fits named writable told short : Bool) → After
   ordered fits named writable told short =
@@ -104,7 +105,7 @@ module _ (say : ByteCount → Answer) (before after : State) (out : List ℕ) wh
     message_left true true true true true m e = absurd (speaks.not_refused m _ (sym e))
     message_left true true true true false m e = (refl, refl)
 
-    quiet_left : (f n w t l : Bool) → (ordered f n w t l).answer ≡ Answer.Quiet → ((ordered f n w t l).state ≡ after) × ((ordered f n w t l).output ≡ out)
+    quiet_left : (f n w t l : Bool) → (ordered f n w t l).answer ≡ Ok Answer.Quiet → ((ordered f n w t l).state ≡ after) × ((ordered f n w t l).output ≡ out)
     quiet_left false n w t l e = clash (cc)
     quiet_left true false w t l e = clash (cc)
     quiet_left true true false t l e = clash (cc)
@@ -121,7 +122,7 @@ module _ (say : ByteCount → Answer) (before after : State) (out : List ℕ) wh
     refused_left true true true true false refusal e = absurd (speaks.not_refused _ refusal e)
 
     -- a message that is written is that of the state that is left
-    pub ordered_message : (f n w t l : Bool) (m : ByteCount) → ((ordered f n w t l).answer ≡ Answer.Answered m) ⊎ ((ordered f n w t l).answer ≡ Answer.Unasked m)
+    pub ordered_message : (f n w t l : Bool) (m : ByteCount) → ((ordered f n w t l).answer ≡ Ok (Answer.Answered m)) ⊎ ((ordered f n w t l).answer ≡ Ok (Answer.Unasked m))
         → (m.0 ≡ length (message_bytes (ordered f n w t l).state)) × ((ordered f n w t l).output ≡ over (message_bytes (ordered f n w t l).state) out)
     ordered_message false n w t l m e = absurd (refused_silent e)
     ordered_message true false w t l m e = absurd (refused_silent e)
@@ -141,7 +142,7 @@ module _ (say : ByteCount → Answer) (before after : State) (out : List ℕ) wh
     given_so true true true true false F N W T L = given_message (F.0 refl) (N.0 refl) (W.0 refl) (T.0 refl) (λ x. clash (L.1 x))
 
     so_given : (f n w t l : Bool) → (f ≡ true) ↔ Fits → (n ≡ true) ↔ Named → (w ≡ true) ↔ Writable → (t ≡ true) ↔ Told → (l ≡ true) ↔ NoRoom (message_bytes after) out
-        → (a : Answer) → Given Fits Named Writable Told say (message_bytes after) out a → (ordered f n w t l).answer ≡ a
+        → (a : Result Answer Refusal) → Given Fits Named Writable Told say (message_bytes after) out a → (ordered f n w t l).answer ≡ a
     so_given f n w t l F N W T L a (given_19 x) = rw (off f F x)
     so_given f n w t l F N W T L a (given_12 x y) = rw (F.1 x, off n N y)
     so_given f n w t l F N W T L a (given_20 x y z) = rw (F.1 x, N.1 y, off w W z)

@@ -1,4 +1,5 @@
 -- Number 19 of a state in words is given exactly if `WordsWithin` fails, and what other words say. Assumes nothing.
+use Rattle.std.specs.Prelude.{Some, None}
 use Prim.Native.Nat.{ℕ, ◌+◌, ◌*◌, ◌≤◌, ◌<◌}
 use mathlib.Core.Bool.{Bool, true, false, cond, ◌&&◌, and-eq-true_iff}
 use mathlib.Core.List.{List}
@@ -12,7 +13,6 @@ use Rattle.facts.proofs.Tests.{clash, by_le}
 use Rattle.facts.proofs.Tables.{length_tabulate, get_d_tabulate}
 use Rattle.quantity.specs.declared.count.FlowSequence.{FlowSequence}
 use Rattle.lent_messages.specs.Stated.{instance_of, context_of}
-use Rattle.radio_flow.specs.declared.Highest.{Highest}
 use Rattle.radio_end_state.specs.declared.channel.Channel.{Channel}
 use Rattle.radio_end_state.specs.State.{no_channel, channel_at}
 use Rattle.radio_end_state.specs.Limits.{state_fits}
@@ -84,7 +84,7 @@ module _ (words : List ℕ) (b : ℕ) where
     setting = record { id = get_or words b 0; controlled = eqb (get_or words (b + 1) 0) 1; watermark = record { 0 = get_or words (b + 2) 0 }; throughput = record { 0 = get_or words (b + 3) 0 } };
     status = get_or words (b + 4) 0;
     queued = record { 0 = get_or words (b + 5) 0 };
-    highest = cond (eqb (get_or words (b + 6) 0) 0) Highest.Unheard (Highest.At (record { 0 = get_or words (b + 7) 0 }));
+    highest = cond (eqb (get_or words (b + 6) 0) 0) None (Some (record { 0 = get_or words (b + 7) 0 }));
   }
 
   abbrev spells : Bool
@@ -124,12 +124,12 @@ module _ (words : List ℕ) (b : ℕ) where
   within_read : ChannelWordsWithin words b → ChannelWithin read
   within_read w = record { unreserved = w.unreserved; watermark = w.watermark; throughput = w.throughput; status = w.status; highest = low }
     where
-      low : (h : FlowSequence) → cond (eqb (get_or words (b + 6) 0) 0) Highest.Unheard (Highest.At (record { 0 = get_or words (b + 7) 0 })) ≡ Highest.At h → h.0 < 4294967296
+      low : (h : FlowSequence) → cond (eqb (get_or words (b + 6) 0) 0) None (Some (record { 0 = get_or words (b + 7) 0 })) ≡ Some h → h.0 < 4294967296
       low h e =
           by_tag (get_or words (b + 6) 0) w.tag
-          (λ (t : get_or words (b + 6) 0 ≡ 0). let none : Highest.Unheard ≡ Highest.At h = rw t at e in clash (cc))
+          (λ (t : get_or words (b + 6) 0 ≡ 0). let none : None ≡ Some h = rw t at e in clash (cc))
           (λ (t : get_or words (b + 6) 0 ≡ 1).
-          let one : Highest.At (record { 0 = get_or words (b + 7) 0 }) ≡ Highest.At h = rw t at e in
+          let one : Some (record { 0 = get_or words (b + 7) 0 }) ≡ Some h = rw t at e in
           let same : get_or words (b + 7) 0 ≡ h.0 = cc in
           omega (arith, w.highest, same))
 

@@ -1,7 +1,6 @@
 -- Number 19 in plain facts: what a state within the limits is.
-use Rattle.std.specs.Prelude.{ℕ, ◌≤◌, ◌<◌, ◌≡◌, length}
+use Rattle.std.specs.Prelude.{ℕ, ◌≤◌, ◌<◌, ◌≡◌, length, Some}
 use Rattle.quantity.specs.declared.count.FlowSequence.{FlowSequence}
-use Rattle.radio_flow.specs.declared.Highest.{Highest}
 use Rattle.radio_end_state.specs.declared.channel.Channel.{Channel}
 use Rattle.radio_end_state.specs.State.{State, channel_at}
 use Rattle.radio_end_laws.specs.Plain.{Has, ContextWritable, InstanceWritable}
@@ -12,7 +11,7 @@ pub record ChannelWithin (c : Channel) : Type 0 where
   pub watermark : c.setting.watermark.0 ≤ 2147483647
   pub throughput : c.setting.throughput.0 ≤ 2147483647
   pub status : c.status ≤ 15
-  pub highest : (h : FlowSequence) → c.highest ≡ Highest.At h → h.0 < 4294967296
+  pub highest : (h : FlowSequence) → c.highest ≡ Some h → h.0 < 4294967296
 
 -- "channel count", "an ID twice", "no channel 0", "a kept Link Instance or Context outside its lengths"
 pub record WithinLimits (s : State) : Type 0 where

@@ -1,17 +1,11 @@
 -- The state of the radio's end in plain facts: which channel has an ID, what a message names, and the states that the calls make.
-use Rattle.std.specs.Prelude.{ℕ, ◌+◌, ◌-◌, ◌%◌, ◌^◌, ◌≤◌, ◌<◌, min, true, false, cond, map, ◌≡◌, eqb, length, get_or}
+use Rattle.quantity.specs.declared.count.LinkInstanceId.{LinkInstanceId}
+use Rattle.meaning.specs.declared.message.ContextBytes.{ContextBytes}
+use Rattle.std.specs.Prelude.{ℕ, ◌+◌, ◌-◌, ◌%◌, ◌^◌, ◌≤◌, ◌<◌, min, true, false, cond, map, ◌≡◌, eqb, length, get_or, Option, Some, None}
 use Rattle.quantity.specs.declared.count.FlowSequence.{FlowSequence}
-use Rattle.meaning.specs.declared.message.Datalink.{Datalink}
-use Rattle.meaning.specs.declared.message.Instance.{Instance}
-use Rattle.meaning.specs.declared.message.Context.{Context}
-use Rattle.meaning.specs.declared.message.Status.{Status}
-use Rattle.meaning.specs.declared.message.Sequence.{Sequence}
 use Rattle.meaning.specs.declared.message.Window.{Window}
-use Rattle.meaning.specs.declared.message.Counted.{Counted}
-use Rattle.meaning.specs.declared.message.Channel as named
 use Rattle.meaning.specs.declared.message.Control.{Control}
 use Rattle.meaning.specs.declared.message.Data.{Data}
-use Rattle.radio_flow.specs.declared.Highest.{Highest}
 use Rattle.radio_flow.specs.Granting.{hearing}
 use Rattle.radio_end_state.specs.declared.channel.Channel.{Channel}
 use Rattle.radio_end_state.specs.Channel.{window_now}
@@ -27,35 +21,35 @@ abbrev pub Has : State → ℕ → Type 0
 Has s id = (index : ℕ) × Stands s id index
 
 -- ---- what a control message states of a Channel ID
-abbrev pub status_of : Control → ℕ → Status
-status_of m id = (get_or m.statuses id (record { status = Status.Absent })).status
+abbrev pub status_of : Control → ℕ → Option ℕ
+status_of m id = (get_or m.statuses id None)
 
-abbrev pub sequence_of : Control → ℕ → Sequence
-sequence_of m id = (get_or m.sequences id (record { sequence = Sequence.Absent })).sequence
+abbrev pub sequence_of : Control → ℕ → Option FlowSequence
+sequence_of m id = (get_or m.sequences id None)
 
-abbrev pub window_of : Control → ℕ → Window
-window_of m id = (get_or m.windows id (record { window = Window.Absent })).window
+abbrev pub window_of : Control → ℕ → Option Window
+window_of m id = (get_or m.windows id None)
 
 -- "the larger of 0 and watermark plus throughput per period minus bytes queued, cut at 2^31 - 1"; a difference of natural numbers is 0 where it would be below
 abbrev pub allowance_in : Channel → ℕ
 allowance_in c = min 2147483647 ((c.setting.watermark.0 + c.setting.throughput.0) - c.queued.0)
 
 -- "Until a sequence has been heard it sends Flow Window without the field"; a plain channel has none
-pub record WindowIs (c : Channel) (window : Window) : Type 0 where
-  pub plain : c.setting.controlled ≡ false → window ≡ Window.Absent
-  pub unheard : c.setting.controlled ≡ true → c.highest ≡ Highest.Unheard → window ≡ Window.Empty
-  pub heard : (h : FlowSequence) → c.setting.controlled ≡ true → c.highest ≡ Highest.At h
-      → window ≡ Window.Given (record { 0 = (h.0 + allowance_in c) % 4294967296 })
+pub record WindowIs (c : Channel) (window : Option Window) : Type 0 where
+  pub plain : c.setting.controlled ≡ false → window ≡ None
+  pub unheard : c.setting.controlled ≡ true → c.highest ≡ None → window ≡ Some Window.Empty
+  pub heard : (h : FlowSequence) → c.setting.controlled ≡ true → c.highest ≡ Some h
+      → window ≡ Some (Window.Given (record { 0 = (h.0 + allowance_in c) % 4294967296 }))
 
 -- the message: Datalink Identifier, Link Instance and Context if there, Channel Status of every channel, Flow Window of every flow-controlled channel, and nothing else
 pub record Names (s : State) (m : Control) : Type 0 where
-  pub datalink : m.datalink ≡ Datalink.Given s.datalink
+  pub datalink : m.datalink ≡ Some s.datalink
   pub instance : m.instance ≡ s.instance
   pub context : m.context ≡ s.context
-  pub status : (index : ℕ) → index < length s.channels → status_of m (channel_at s index).setting.id ≡ Status.Given (channel_at s index).status
+  pub status : (index : ℕ) → index < length s.channels → status_of m (channel_at s index).setting.id ≡ Some (channel_at s index).status
   pub window : (index : ℕ) → index < length s.channels → WindowIs (channel_at s index) (window_of m (channel_at s index).setting.id)
-  pub no_other : (id : ℕ) → (Has s id → ⊥) → (status_of m id ≡ Status.Absent) × (window_of m id ≡ Window.Absent)
-  pub no_sequence_lem : (id : ℕ) → sequence_of m id ≡ Sequence.Absent
+  pub no_other : (id : ℕ) → (Has s id → ⊥) → (status_of m id ≡ None) × (window_of m id ≡ None)
+  pub no_sequence_lem : (id : ℕ) → sequence_of m id ≡ None
 
 -- ---- the states that calls make
 abbrev pub on_channel : ℕ → (Channel → Channel) → Channel → Channel
@@ -76,7 +70,7 @@ abbrev pub queued_set : ℕ → Channel → Channel
 queued_set bytes c = record { setting = c.setting; status = c.status; queued = record { 0 = bytes }; highest = c.highest }
 
 -- a Flow Sequence of a flow-controlled channel is heard; one of a plain channel is passed over (`rows_heard`, `plain_Passes` of the flow)
-abbrev pub sequence_heard : Sequence → Channel → Channel
+abbrev pub sequence_heard : Option FlowSequence → Channel → Channel
 sequence_heard stated c =
     record { setting = c.setting; status = c.status; queued = c.queued; highest = hearing c.setting.controlled c.highest stated }
 
@@ -85,13 +79,13 @@ abbrev pub packet_queued : ℕ → Channel → Channel
 packet_queued bytes c = queued_set (min 18446744073709551615 (c.queued.0 + bytes)) c
 
 -- a data message without a Channel Identifier names channel 0
-abbrev pub named_channel : named.Channel → ℕ
-named_channel named.Channel.Absent = 0
-named_channel (named.Channel.Given id) = id
+abbrev pub named_channel : Option ℕ → ℕ
+named_channel None = 0
+named_channel (Some id) = id
 
-abbrev pub counted_sequence : Counted → Sequence
-counted_sequence Counted.Absent = Sequence.Absent
-counted_sequence (Counted.Given id sequence) = Sequence.Given sequence
+abbrev pub counted_sequence : Option (ℕ × FlowSequence) → Option FlowSequence
+counted_sequence None = None
+counted_sequence (Some (id, sequence)) = Some sequence
 
 -- every channel hears what a control message states of its Channel ID
 abbrev pub control_taken : Control → Channel → Channel
@@ -103,24 +97,24 @@ data_taken m bytes c = packet_queued bytes (sequence_heard (counted_sequence m.s
 
 -- "12 for a message naming a channel that it lacks", of a control message: each channel of which it states a Flow Sequence is there
 abbrev pub NamesOwn : State → Control → Type 0
-NamesOwn s m = (id : ℕ) → id < 255 → (sequence : FlowSequence) → sequence_of m id ≡ Sequence.Given sequence → Has s id
+NamesOwn s m = (id : ℕ) → id < 255 → (sequence : FlowSequence) → sequence_of m id ≡ Some sequence → Has s id
 
 -- 20, of a Link Instance or a Context: 1 to 8 bytes, and the number no larger than they can say
 abbrev pub Spelled : (number length : ℕ) → Type 0
 Spelled number length = (1 ≤ length) × (length ≤ 8) × (number < 256 ^ length)
 
-abbrev pub ContextWritable : Context → Type 0
-ContextWritable Context.Absent = Unit {0}
-ContextWritable (Context.Given bytes length) = Spelled bytes.0 length
+abbrev pub ContextWritable : Option (ContextBytes × ℕ) → Type 0
+ContextWritable None = Unit {0}
+ContextWritable (Some (bytes, length)) = Spelled bytes.0 length
 
-abbrev pub InstanceWritable : Instance → Type 0
-InstanceWritable Instance.Absent = Unit {0}
-InstanceWritable (Instance.Given number length) = Spelled number.0 length
+abbrev pub InstanceWritable : Option (LinkInstanceId × ℕ) → Type 0
+InstanceWritable None = Unit {0}
+InstanceWritable (Some (number, length)) = Spelled number.0 length
 
-abbrev pub context_set : State → Context → State
+abbrev pub context_set : State → Option (ContextBytes × ℕ) → State
 context_set s context = record { datalink = s.datalink; channels = s.channels; instance = s.instance; context = context }
 
-abbrev pub instance_set : State → Instance → State
+abbrev pub instance_set : State → Option (LinkInstanceId × ℕ) → State
 instance_set s instance = record { datalink = s.datalink; channels = s.channels; instance = instance; context = s.context }
 
 -- ---- "sends one unasked when a status, a Context or a window changes"
@@ -144,7 +138,7 @@ WindowChanges s id change = (index : ℕ) × Stands s id index × (window_now (c
 pub record AllowanceChanges (c : Channel) (bytes : ℕ) : Type 0 where
   pub controlled : c.setting.controlled ≡ true
   pub highest : FlowSequence
-  pub heard : c.highest ≡ Highest.At highest
+  pub heard : c.highest ≡ Some highest
   pub other : allowance_in c ≡ allowance_in (queued_set bytes c) → ⊥
 
 abbrev pub QueuedChanges : State → (id bytes : ℕ) → Type 0

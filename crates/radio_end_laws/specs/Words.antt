@@ -1,8 +1,5 @@
 -- Number 19 of a state in words, and what such words say, in literal numbers: 8 words of the radio's own, then 8 for each channel, in configuration order.
-use Rattle.std.specs.Prelude.{ℕ, ◌+◌, ◌*◌, ◌≤◌, ◌<◌, true, false, List, ◌≡◌, length, get_or}
-use Rattle.meaning.specs.declared.message.Instance.{Instance}
-use Rattle.meaning.specs.declared.message.Context.{Context}
-use Rattle.radio_flow.specs.declared.Highest.{Highest}
+use Rattle.std.specs.Prelude.{ℕ, ◌+◌, ◌*◌, ◌≤◌, ◌<◌, true, false, List, ◌≡◌, length, get_or, Some, None}
 use Rattle.radio_end_state.specs.declared.channel.Channel.{Channel}
 use Rattle.radio_end_state.specs.State.{State, channel_at}
 use Rattle.radio_end_laws.specs.Plain.{Spelled}
@@ -49,14 +46,14 @@ pub record ChannelSaid (words : List ℕ) (b : ℕ) (c : Channel) : Type 0 where
   pub throughput : c.setting.throughput.0 ≡ get_or words (b + 3) 0
   pub status : c.status ≡ get_or words (b + 4) 0
   pub queued : c.queued.0 ≡ get_or words (b + 5) 0
-  pub unheard : get_or words (b + 6) 0 ≡ 0 → c.highest ≡ Highest.Unheard
-  pub heard : get_or words (b + 6) 0 ≡ 1 → c.highest ≡ Highest.At (record { 0 = get_or words (b + 7) 0 })
+  pub unheard : get_or words (b + 6) 0 ≡ 0 → c.highest ≡ None
+  pub heard : get_or words (b + 6) 0 ≡ 1 → c.highest ≡ Some (record { 0 = get_or words (b + 7) 0 })
 
 pub record StateSaid (words : List ℕ) (s : State) : Type 0 where
   pub datalink : s.datalink.0 ≡ get_or words 0 0
   pub many : length s.channels ≡ get_or words 1 0
-  pub no_instance_lem : get_or words 2 0 ≡ 0 → s.instance ≡ Instance.Absent
-  pub instance : get_or words 2 0 ≡ 1 → s.instance ≡ Instance.Given (record { 0 = get_or words 3 0 }) (get_or words 4 0)
-  pub no_context_lem : get_or words 5 0 ≡ 0 → s.context ≡ Context.Absent
-  pub context : get_or words 5 0 ≡ 1 → s.context ≡ Context.Given (record { 0 = get_or words 6 0 }) (get_or words 7 0)
+  pub no_instance_lem : get_or words 2 0 ≡ 0 → s.instance ≡ None
+  pub instance : get_or words 2 0 ≡ 1 → s.instance ≡ Some (record { 0 = get_or words 3 0 }, get_or words 4 0)
+  pub no_context_lem : get_or words 5 0 ≡ 0 → s.context ≡ None
+  pub context : get_or words 5 0 ≡ 1 → s.context ≡ Some (record { 0 = get_or words 6 0 }, get_or words 7 0)
   pub channel : (i : ℕ) → i < get_or words 1 0 → ChannelSaid words (8 + 8 * i) (channel_at s i)

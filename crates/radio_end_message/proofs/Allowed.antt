@@ -1,4 +1,10 @@
 -- The message may always be written: number 20 is not given. Assumes nothing.
+use Rattle.quantity.specs.declared.count.FlowSequence.{FlowSequence}
+use Rattle.std.specs.Prelude.{Option, Some, None, Result}
+use Rattle.quantity.specs.declared.count.LinkInstanceId.{LinkInstanceId}
+use Rattle.quantity.specs.declared.count.ByteCount.{ByteCount}
+use Rattle.quantity.specs.declared.refusal.Refusal.{Refusal}
+use Rattle.meaning.specs.declared.message.ContextBytes.{ContextBytes}
 use Prim.Native.Nat.{ℕ, zero, suc, ◌≤◌, ◌<◌}
 use mathlib.Core.Bool.{Bool, true, false, cond}
 use mathlib.Core.List.{List, [], ◌∷◌}
@@ -14,18 +20,9 @@ use Rattle.facts.proofs.Tables.{all_places}
 use Rattle.quantity.specs.declared.count.DatalinkId.{DatalinkId}
 use Rattle.quantity.specs.Limits.{CHANNEL-IDS, HIGHEST-STATUS}
 use Rattle.meaning.specs.declared.message.End.TheVariants as ends
-use Rattle.meaning.specs.declared.message.Datalink.{Datalink}
-use Rattle.meaning.specs.declared.message.Instance.{Instance}
-use Rattle.meaning.specs.declared.message.Status.{Status}
 use Rattle.meaning.specs.declared.message.Window.{Window}
-use Rattle.meaning.specs.declared.message.Context.{Context}
-use Rattle.meaning.specs.declared.message.StatusCell.{StatusCell}
-use Rattle.meaning.specs.declared.message.WindowCell.{WindowCell}
-use Rattle.meaning.specs.declared.message.SequenceCell.{SequenceCell}
 use Rattle.meaning.specs.declared.message.Control.{Control}
-use Rattle.meaning.specs.Cells.{no_sequence}
 use Rattle.writable.specs.Allowed.{instance_allowed, context_allowed, status_allowed, statuses_allowed, stands, sequences_allowed, window_allowed, windows_allowed, control_allowed}
-use Rattle.writer.specs.declared.answer.WriteAnswer.{WriteAnswer}
 use Rattle.writer.specs.Written.{control_written, Outcome}
 use Rattle.radio_end_state.specs.declared.channel.Channel.{Channel}
 use Rattle.radio_end_state.specs.Channel.{hearing_on}
@@ -38,36 +35,36 @@ use Rattle.radio_end_message.specs.Changed.{changed_channels, changed, tables_of
 use Rattle.radio_end_message.proofs.Filling.{same_or_not, taken_place, kept_place, changed_length, changed_at, replaced_id}
 
 -- ---- each part of the message
-stated_low : (c : Channel) (rest : StatusCell) (b : Bool) → c.status ≤ 15 → status_allowed ends.Radio rest.status ≡ true
-    → status_allowed ends.Radio (cond b (record { status = Status.Given c.status }) rest).status ≡ true
+stated_low : (c : Channel) (rest : Option ℕ) (b : Bool) → c.status ≤ 15 → status_allowed ends.Radio rest ≡ true
+    → status_allowed ends.Radio (cond b (Some c.status) rest) ≡ true
 stated_low c rest true low e = le-leb c.status HIGHEST-STATUS low
 stated_low c rest false low e = e
 
-status_low : (cs : List Channel) → ((i : ℕ) → i < length cs → (get_or cs i no_channel).status ≤ 15) → (id : ℕ) → status_allowed ends.Radio (status_for cs id).status ≡ true
+status_low : (cs : List Channel) → ((i : ℕ) → i < length cs → (get_or cs i no_channel).status ≤ 15) → (id : ℕ) → status_allowed ends.Radio (status_for cs id) ≡ true
 unfolding status_for
 status_low [] low id = refl
 status_low (c ∷ cs) low id = stated_low c (status_for cs id) (eqb c.setting.id id) (low 0 (omega arith)) (status_low cs (λ i h. low (suc i) (omega arith)) id)
 
-window_may : (cs : List Channel) (id : ℕ) → window_allowed ends.Radio (window_for cs id).window ≡ true
-window_may cs id = go (window_for cs id).window
+window_may : (cs : List Channel) (id : ℕ) → window_allowed ends.Radio (window_for cs id) ≡ true
+window_may cs id = go (window_for cs id)
   where
-    go : (w : Window) → window_allowed ends.Radio w ≡ true
-    go Window.Absent = refl
-    go Window.Empty = refl
-    go (Window.Given number) = refl
+    go : (w : Option Window) → window_allowed ends.Radio w ≡ true
+    go None = refl
+    go (Some Window.Empty) = refl
+    go (Some (Window.Given number)) = refl
 
-sequences_none : (n : ℕ) → sequences_allowed ends.Radio (replicate n no_sequence) ≡ true
+sequences_none : (n : ℕ) → sequences_allowed ends.Radio (replicate n None) ≡ true
 unfolding sequences_allowed
 sequences_none zero = refl
 sequences_none (suc n) = sequences_none n
 
 -- channel 0 has a status
-stands_by : (c : Channel) (rest : StatusCell) (i n : ℕ) (b : Bool) → cond b 0 (suc i) < suc n → (i < n → stands rest.status ≡ true)
-    → stands (cond b (record { status = Status.Given c.status }) rest).status ≡ true
+stands_by : (c : Channel) (rest : Option ℕ) (i n : ℕ) (b : Bool) → cond b 0 (suc i) < suc n → (i < n → stands rest ≡ true)
+    → stands (cond b (Some c.status) rest) ≡ true
 stands_by c rest i n true h f = refl
 stands_by c rest i n false h f = f (omega arith)
 
-primary_stands : (cs : List Channel) → index_of 0 (ids cs) < length (ids cs) → stands (status_for cs 0).status ≡ true
+primary_stands : (cs : List Channel) → index_of 0 (ids cs) < length (ids cs) → stands (status_for cs 0) ≡ true
 unfolding index_of ids status_for
 primary_stands [] h = absurd (omega arith)
 primary_stands (c ∷ cs) h = stands_by c (status_for cs 0) (index_of 0 (ids cs)) (length (ids cs)) (eqb c.setting.id 0) h (λ l. primary_stands cs l)
@@ -80,13 +77,13 @@ message_allowed s instance context low primary =
     rw (instance, context, statuses, primary_stands s.channels (ltb-true _ _ primary), sequences_none CHANNEL-IDS) windows
   where
     statuses : statuses_allowed ends.Radio (tabulate CHANNEL-IDS (status_for s.channels)) ≡ true
-    statuses = all_places (statuses_allowed ends.Radio) (λ (cell : StatusCell). status_allowed ends.Radio cell.status) refl (λ cell cells. refl) CHANNEL-IDS (status_for s.channels) (status_low s.channels low)
+    statuses = all_places (statuses_allowed ends.Radio) (λ (cell : Option ℕ). status_allowed ends.Radio cell) refl (λ cell cells. refl) CHANNEL-IDS (status_for s.channels) (status_low s.channels low)
 
     windows : windows_allowed ends.Radio (tabulate CHANNEL-IDS (window_for s.channels)) ≡ true
-    windows = all_places (windows_allowed ends.Radio) (λ (cell : WindowCell). window_allowed ends.Radio cell.window) refl (λ cell cells. refl) CHANNEL-IDS (window_for s.channels) (window_may s.channels)
+    windows = all_places (windows_allowed ends.Radio) (λ (cell : Option Window). window_allowed ends.Radio cell) refl (λ cell cells. refl) CHANNEL-IDS (window_for s.channels) (window_may s.channels)
 
 -- ---- after a change
-module _ (s : State) (context : Context) (index : ℕ) (c : Channel) (cells : List SequenceCell) (change : Change s context index c) where
+module _ (s : State) (context : Option (ContextBytes × ℕ)) (index : ℕ) (c : Channel) (cells : List (Option FlowSequence)) (change : Change s context index c) where
   abbrev after : List Channel
   after = changed_channels s index c cells
 
@@ -119,22 +116,22 @@ module _ (s : State) (context : Context) (index : ℕ) (c : Channel) (cells : Li
   change_allowed = message_allowed (changed s context index c cells) facts.instance change.context_allowed_lem all_low (rw ids_same facts.primary)
 
 -- ---- the parts make the message
-pub built : (s : State) (context : Context) (index : ℕ) (c : Channel) (cells : List SequenceCell) (tables : Tables) (datalink : DatalinkId) (instance : Instance)
+pub built : (s : State) (context : Option (ContextBytes × ℕ)) (index : ℕ) (c : Channel) (cells : List (Option FlowSequence)) (tables : Tables) (datalink : DatalinkId) (instance : Option (LinkInstanceId × ℕ))
     → tables ≡ tables_of (changed_channels s index c cells) → datalink ≡ s.datalink → instance ≡ s.instance
     → record {
-      datalink = Datalink.Given datalink;
+      datalink = Some datalink;
       instance = instance;
       context = context;
       statuses = tables.statuses;
-      sequences = replicate CHANNEL-IDS no_sequence;
+      sequences = replicate CHANNEL-IDS None;
       windows = tables.windows;
     } ≡ message_of (changed s context index c cells)
 unfolding message_of changed tables_of
 built s context index c cells tables datalink instance t d i = rw (t, d, i)
 
 -- and it is written, or 18 is given
-pub written : (s : State) (context : Context) (index : ℕ) (c : Channel) (cells : List SequenceCell) → Change s context index c → (m : Control) → m ≡ message_of (changed s context index c cells)
-    → (out : List ℕ) (answer : WriteAnswer) (out' : List ℕ) → Outcome (control_allowed ends.Radio m) (control_written m) out answer out'
+pub written : (s : State) (context : Option (ContextBytes × ℕ)) (index : ℕ) (c : Channel) (cells : List (Option FlowSequence)) → Change s context index c → (m : Control) → m ≡ message_of (changed s context index c cells)
+    → (out : List ℕ) (answer : Result ByteCount Refusal) (out' : List ℕ) → Outcome (control_allowed ends.Radio m) (control_written m) out answer out'
     → Outcome true (message_bytes (changed s context index c cells)) out answer out'
 written s context index c cells change m e out answer out' o =
     let same : Outcome (control_allowed ends.Radio (message_of (changed s context index c cells))) (message_bytes (changed s context index c cells)) out answer out' = rw e at o in

@@ -1,4 +1,6 @@
 -- The tables filled from the last channel to the first: the first with an ID is the one that is stated. Assumes nothing.
+use Rattle.quantity.specs.declared.count.FlowSequence.{FlowSequence}
+use Rattle.std.specs.Prelude.{Option, Some, None}
 use Prim.Native.Nat.{ℕ, zero, suc, ◌-◌, ◌≤◌, ◌<◌}
 use mathlib.Core.Bool.{Bool, true, false}
 use mathlib.Core.List.{List, [], ◌∷◌, map}
@@ -12,12 +14,7 @@ use lib.Seq.{drop-cons, get_or-set_same, get_or-set_other}
 use Rattle.facts.specs.Tables.{tabulate}
 use Rattle.facts.proofs.Tables.{tabulate_same, set_tabulate}
 use Rattle.quantity.specs.Limits.{CHANNEL-IDS}
-use Rattle.meaning.specs.declared.message.Status.{Status}
 use Rattle.meaning.specs.declared.message.Window.{Window}
-use Rattle.meaning.specs.declared.message.SequenceCell.{SequenceCell}
-use Rattle.meaning.specs.declared.message.StatusCell.{StatusCell}
-use Rattle.meaning.specs.declared.message.WindowCell.{WindowCell}
-use Rattle.meaning.specs.Cells.{no_sequence, no_status, no_window}
 use Rattle.radio_end_state.specs.declared.channel.Channel.{Channel}
 use Rattle.radio_end_state.specs.Channel.{window_now, hearing_on}
 use Rattle.radio_end_state.specs.State.{State, no_channel, channel_at}
@@ -39,36 +36,36 @@ same_or_not a b = go (eqb a b) refl
     go true e = inl (eqb-true a b e)
     go false e = inr (eqb-false a b e)
 
-pub record Filling (cs : List Channel) (statuses : List StatusCell) (windows : List WindowCell) (at : ℕ) : Type 0 where
+pub record Filling (cs : List Channel) (statuses : List (Option ℕ)) (windows : List (Option Window)) (at : ℕ) : Type 0 where
   pub inside : at ≤ length cs
   pub statuses_are : statuses ≡ tabulate CHANNEL-IDS (status_for (drop at cs))
   pub windows_are : windows ≡ tabulate CHANNEL-IDS (window_for (drop at cs))
 
 -- a table that says nothing; the number of places stays a variable
-none_stated : (n k : ℕ) → n ≡ k → replicate n no_status ≡ tabulate k (status_for [])
+none_stated : (n k : ℕ) → n ≡ k → replicate n None ≡ tabulate k (status_for [])
 unfolding status_for
-none_stated n k e = sym (tabulate_same no_status e)
+none_stated n k e = sym (tabulate_same None e)
 
-none_granted : (n k : ℕ) → n ≡ k → replicate n no_window ≡ tabulate k (window_for [])
+none_granted : (n k : ℕ) → n ≡ k → replicate n None ≡ tabulate k (window_for [])
 unfolding window_for
-none_granted n k e = sym (tabulate_same no_window e)
+none_granted n k e = sym (tabulate_same None e)
 
-pub fill_start : (cs : List Channel) (n : ℕ) → n ≡ length cs → Filling cs (replicate CHANNEL-IDS no_status) (replicate CHANNEL-IDS no_window) n
+pub fill_start : (cs : List Channel) (n : ℕ) → n ≡ length cs → Filling cs (replicate CHANNEL-IDS None) (replicate CHANNEL-IDS None) n
 fill_start cs n e =
     let past : drop n cs ≡ [] = drop_of_length-le cs {i = n} (omega arith) in
     record { inside = omega arith; statuses_are = rw past (none_stated CHANNEL-IDS CHANNEL-IDS refl); windows_are = rw past (none_granted CHANNEL-IDS CHANNEL-IDS refl) }
 
-status_more : (d : Channel) (cs : List Channel) → set (tabulate CHANNEL-IDS (status_for cs)) d.setting.id (record { status = Status.Given d.status }) ≡ tabulate CHANNEL-IDS (status_for (d ∷ cs))
+status_more : (d : Channel) (cs : List Channel) → set (tabulate CHANNEL-IDS (status_for cs)) d.setting.id (Some d.status) ≡ tabulate CHANNEL-IDS (status_for (d ∷ cs))
 unfolding status_for
-status_more d cs = set_tabulate CHANNEL-IDS (status_for cs) (status_for (d ∷ cs)) d.setting.id (record { status = Status.Given d.status }) (λ k. rw (eqb_sym k d.setting.id))
+status_more d cs = set_tabulate CHANNEL-IDS (status_for cs) (status_for (d ∷ cs)) d.setting.id (Some d.status) (λ k. rw (eqb_sym k d.setting.id))
 
-window_more : (d : Channel) (cs : List Channel) → set (tabulate CHANNEL-IDS (window_for cs)) d.setting.id (record { window = window_now d }) ≡ tabulate CHANNEL-IDS (window_for (d ∷ cs))
+window_more : (d : Channel) (cs : List Channel) → set (tabulate CHANNEL-IDS (window_for cs)) d.setting.id (window_now d) ≡ tabulate CHANNEL-IDS (window_for (d ∷ cs))
 unfolding window_for
-window_more d cs = set_tabulate CHANNEL-IDS (window_for cs) (window_for (d ∷ cs)) d.setting.id (record { window = window_now d }) (λ k. rw (eqb_sym k d.setting.id))
+window_more d cs = set_tabulate CHANNEL-IDS (window_for cs) (window_for (d ∷ cs)) d.setting.id (window_now d) (λ k. rw (eqb_sym k d.setting.id))
 
-pub fill_on : (cs : List Channel) (statuses : List StatusCell) (windows : List WindowCell) (at at' id : ℕ) (d : Channel) (window : Window) → Filling cs statuses windows at → 0 < at → at' ≡ at - 1
+pub fill_on : (cs : List Channel) (statuses : List (Option ℕ)) (windows : List (Option Window)) (at at' id : ℕ) (d : Channel) (window : Option Window) → Filling cs statuses windows at → 0 < at → at' ≡ at - 1
     → d ≡ get_or cs at' no_channel → id ≡ d.setting.id → window ≡ window_now d
-    → Filling cs (set statuses id (record { status = Status.Given d.status })) (set windows id (record { window = window })) at'
+    → Filling cs (set statuses id (Some d.status)) (set windows id window) at'
 fill_on cs statuses windows at at' id d window f h e is named w =
     let next : at ≡ suc at' = omega arith in
     let here : drop at' cs ≡ d ∷ drop at cs = drop-cons cs at' no_channel (omega (arith, f.inside)) ∙ rw (← is, ← next) in
@@ -78,7 +75,7 @@ fill_on cs statuses windows at at' id d window f h e is named w =
       windows_are = rw (named, w, here, f.windows_are) (window_more d (drop at cs));
     }
 
-pub fill_end : (cs : List Channel) (statuses : List StatusCell) (windows : List WindowCell) (at : ℕ) → Filling cs statuses windows at → at ≤ 0 → record { statuses = statuses; windows = windows } ≡ tables_of cs
+pub fill_end : (cs : List Channel) (statuses : List (Option ℕ)) (windows : List (Option Window)) (at : ℕ) → Filling cs statuses windows at → at ≤ 0 → record { statuses = statuses; windows = windows } ≡ tables_of cs
 unfolding tables_of
 fill_end cs statuses windows at f h =
     let first : at ≡ 0 = omega arith in
@@ -97,7 +94,7 @@ get_d_map f [] at h = absurd (omega arith)
 get_d_map f (c ∷ cs) zero h = refl
 get_d_map f (c ∷ cs) (suc at) h = get_d_map f cs at (omega arith)
 
-module _ (s : State) (index : ℕ) (c : Channel) (cells : List SequenceCell) where
+module _ (s : State) (index : ℕ) (c : Channel) (cells : List (Option FlowSequence)) where
   pub changed_length : length (changed_channels s index c cells) ≡ length s.channels
   unfolding changed_channels
   changed_length = simp (length-map, length-set)
@@ -119,19 +116,19 @@ pub replaced_small : (s : State) (index : ℕ) (c : Channel) → Replaces s inde
 replaced_small s index c r at h = rw (replaced_id s index c r.same_id at h) (channel_fit (channel_at s at) ((fit_facts s r.fits).each at h)).unreserved
 
 -- one turn of the loop
-module _ (s : State) (index : ℕ) (c : Channel) (cells : List SequenceCell) where
+module _ (s : State) (index : ℕ) (c : Channel) (cells : List (Option FlowSequence)) where
   abbrev after : List Channel
   after = changed_channels s index c cells
 
-  module _ (statuses : List StatusCell) (windows : List WindowCell) (at : ℕ) (f : Filling after statuses windows at) (h : 0 < at) (cur : Channel) (is : cur ≡ get_or (set s.channels index c) (at - 1) no_channel) where
+  module _ (statuses : List (Option ℕ)) (windows : List (Option Window)) (at : ℕ) (f : Filling after statuses windows at) (h : 0 < at) (cur : Channel) (is : cur ≡ get_or (set s.channels index c) (at - 1) no_channel) where
     pub turn_inside : at - 1 < length s.channels
     turn_inside = omega (arith, f.inside, changed_length s index c cells)
 
     pub turn_small : Replaces s index c → cur.setting.id < 255
     turn_small r = rw is (replaced_small s index c r (at - 1) turn_inside)
 
-    pub fill_turn : (d : Channel) (window : Window) → d ≡ hearing_on cur (get_or cells cur.setting.id no_sequence).sequence → window ≡ window_now d
-        → Filling after (set statuses cur.setting.id (record { status = Status.Given d.status })) (set windows cur.setting.id (record { window = window })) (at - 1)
+    pub fill_turn : (d : Channel) (window : Option Window) → d ≡ hearing_on cur (get_or cells cur.setting.id None) → window ≡ window_now d
+        → Filling after (set statuses cur.setting.id (Some d.status)) (set windows cur.setting.id window) (at - 1)
     unfolding hearing_on
     fill_turn d window e w =
         fill_on after statuses windows at (at - 1) cur.setting.id d window f h refl (e ∙ ap (hears cells) is ∙ sym (changed_at s index c cells (at - 1) turn_inside)) (sym (ap (λ (x : Channel). x.setting.id) e)) w

@@ -6,18 +6,19 @@ ghost use Rattle.radio_end_words.specs.Words.{state_in};
 ghost use Rattle.radio_end_message.specs.Changed.{changed, Change};
 
 use crate::tables;
-use meaning::message::{Context, Control, Datalink, End, Sequence, SequenceCell};
+use meaning::message::{ContextBytes, Control, End};
+use quantity::count::{ByteCount, FlowSequence};
 use quantity::limit::CHANNEL_IDS;
+use quantity::refusal::Refusal;
 use radio_end_state::channel::Channel;
 use radio_end_words::head;
-use writer::answer::WriteAnswer;
 
 fn build(
     words: &[u64],
-    context: Context,
+    context: Option<(ContextBytes, usize)>,
     index: usize,
     channel: Channel,
-    sequences: [SequenceCell; CHANNEL_IDS],
+    sequences: [Option<FlowSequence>; CHANNEL_IDS],
 ) -> Control
     requires { Change (state_in words.now) context index channel }
     ensures { result ≡ message_of (changed (state_in words.now) context index channel sequences) }
@@ -28,26 +29,24 @@ fn build(
     let datalink = head::datalink(words);
     let instance = head::instance(words);
     Control {
-        datalink: Datalink::Given(datalink),
+        datalink: Some(datalink),
         instance,
         context,
         statuses,
-        sequences: [SequenceCell {
-            sequence: Sequence::Absent,
-        }; CHANNEL_IDS],
+        sequences: [None; CHANNEL_IDS],
         windows,
     }
 }
 
-// 18 is judged before a byte is touched; the message is always allowed.
+// 18 is judged before a byte is touched; the message is always allowed. The change stands in four parameters, as `Change` and `changed` name them.
 pub fn write(
     words: &[u64],
-    context: Context,
+    context: Option<(ContextBytes, usize)>,
     index: usize,
     channel: Channel,
-    sequences: [SequenceCell; CHANNEL_IDS],
+    sequences: [Option<FlowSequence>; CHANNEL_IDS],
     out: &mut [u8],
-) -> WriteAnswer
+) -> Result<ByteCount, Refusal>
     requires { Change (state_in words.now) context index channel }
     ensures { Outcome true (message_bytes (changed (state_in words.now) context index channel sequences)) out.old result out.new }
 {

@@ -4,7 +4,8 @@ ghost use Rattle.radio_end_state.specs.State.{no_channel};
 ghost use Rattle.radio_end_words.specs.Words.{state_in, Placed};
 ghost use Rattle.radio_end_message.specs.Changed.{changed_channels, tables_of, Replaces};
 
-use meaning::message::{SequenceCell, Status, StatusCell, Window, WindowCell};
+use meaning::message::Window;
+use quantity::count::FlowSequence;
 use quantity::limit::CHANNEL_IDS;
 use radio_end_state::channel;
 use radio_end_state::channel::Channel;
@@ -12,8 +13,8 @@ use radio_end_words::place;
 
 #[derive(Clone, Copy)]
 pub struct Tables {
-    pub statuses: [StatusCell; CHANNEL_IDS],
-    pub windows: [WindowCell; CHANNEL_IDS],
+    pub statuses: [Option<u8>; CHANNEL_IDS],
+    pub windows: [Option<Window>; CHANNEL_IDS],
 }
 
 // The channel at a place, or the one that takes its place.
@@ -32,31 +33,20 @@ pub(crate) fn fill(
     words: &[u64],
     index: usize,
     channel: Channel,
-    sequences: [SequenceCell; CHANNEL_IDS],
+    sequences: [Option<FlowSequence>; CHANNEL_IDS],
 ) -> Tables
     requires { Replaces (state_in words.now) index channel }
     ensures { result ≡ tables_of (changed_channels (state_in words.now) index channel sequences) }
 {
-    let mut statuses = [StatusCell {
-        status: Status::Absent,
-    }; CHANNEL_IDS];
-    let mut windows = [WindowCell {
-        window: Window::Absent,
-    }; CHANNEL_IDS];
-    let mut at = place::count(words);
-    while 0 < at {
-        at -= 1;
+    let mut statuses = [None; CHANNEL_IDS];
+    let mut windows = [None; CHANNEL_IDS];
+    for at in (0..place::count(words)).rev() {
         let before = current(words, at, index, channel);
-        let setting = before.setting;
-        let id = setting.id as usize;
-        let cell = sequences[id];
-        let stated = cell.sequence;
-        let heard = channel::hear(before, stated);
+        let id = before.setting.id as usize;
+        let heard = channel::hear(before, sequences[id]);
         let window = channel::window(heard);
-        statuses[id] = StatusCell {
-            status: Status::Given(heard.status),
-        };
-        windows[id] = WindowCell { window };
+        statuses[id] = Some(heard.status);
+        windows[id] = window;
     }
     Tables { statuses, windows }
 }

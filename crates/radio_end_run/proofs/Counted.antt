@@ -1,4 +1,7 @@
 -- A run in numbers that never wrap. Assumes nothing.
+use Rattle.std.specs.Prelude.{Option, Some, None, Result, Ok, Err}
+use Rattle.quantity.specs.declared.refusal.Refusal.{Refusal}
+use Rattle.meaning.specs.declared.message.Plane.{Plane}
 use Prim.Native.Nat.{ℕ, ◌^◌, ◌≤◌, ◌<◌}
 use mathlib.Core.Bool.{Bool, true, false, cond}
 use mathlib.Core.List.Memᴰ
@@ -14,16 +17,12 @@ use Rattle.quantity.specs.declared.count.FlowSequence.{FlowSequence}
 use Rattle.quantity.specs.Window.{sequence_at}
 use Rattle.wire.specs.Numbers.{Octets}
 use Rattle.meaning.specs.declared.message.End.TheVariants as ends
-use Rattle.meaning.specs.declared.message.Sequence.{Sequence}
-use Rattle.meaning.specs.declared.message.Counted.{Counted}
 use Rattle.meaning.specs.declared.message.Window.{Window}
 use Rattle.reader.specs.Readings.{Verdict, DataReading, read_control, read_data, plane_of, packet_of}
-use Rattle.reader.specs.declared.answer.PlaneAnswer.{PlaneAnswer}
 use Rattle.acceptance.proofs.Data.{data_account}
 use Rattle.roundtrip.specs.Values.{SequenceWord, CountedWord, DataValue}
 use Rattle.roundtrip.proofs.HeldData.{data_value}
 use Rattle.roundtrip.proofs.Writable.{control_is_value}
-use Rattle.radio_flow.specs.declared.Highest.{Highest}
 use Rattle.radio_flow.specs.Granting.{allowance_of, window_from, window_of}
 use Rattle.radio_flow.specs.Numbers.{heard_all, number_of, larger, number_after}
 use Rattle.radio_flow.proofs.Numbers.{heard_number, highest_number, never_falls, none_above, one_of_them, allowance_is, window_stands, window_distance}
@@ -43,11 +42,11 @@ data_is_value datalink datagram octets e =
     let options = account.0.0 e in
     subst (λ (r : DataReading). DataValue r.message) (sym (account.1 options.0 options.1)) (data_value ends.Ips datalink datagram octets options.0 options.1)
 
-counted_word : (q : Counted) → CountedWord q → SequenceWord (sequence_counted q)
-counted_word Counted.Absent h = tt
-counted_word (Counted.Given id sequence) h = h
+counted_word : (q : Option (ℕ × FlowSequence)) → CountedWord q → SequenceWord (sequence_counted q)
+counted_word None h = tt
+counted_word (Some (id, sequence)) h = h
 
-own_word : (b : Bool) (q : Sequence) → SequenceWord q → SequenceWord (cond b q Sequence.Absent)
+own_word : (b : Bool) (q : Option FlowSequence) → SequenceWord q → SequenceWord (cond b q None)
 own_word true q h = h
 own_word false q h = tt
 
@@ -68,18 +67,18 @@ received_word id datalink datagram octets = plane (plane_of datagram)
     data' Verdict.OtherPlane e = tt
     data' (Verdict.Refused refusal) e = tt
 
-    plane : (p : PlaneAnswer)
+    plane : (p : Result Plane Refusal)
         → SequenceWord (stated_of id (on_plane p (if_read (read_control ends.Ips datalink datagram).verdict (stated (read_control ends.Ips datalink datagram).message))
         (if_read (read_data ends.Ips datalink datagram).verdict (carried (read_data ends.Ips datalink datagram).message (record { 0 = length (packet_of datagram) })))))
-    plane PlaneAnswer.Control = control _ refl
-    plane PlaneAnswer.Data = data' _ refl
-    plane (PlaneAnswer.Refused refusal) = tt
+    plane (Ok Plane.Control) = control _ refl
+    plane (Ok Plane.Data) = data' _ refl
+    plane (Err refusal) = tt
 
-given_small : (q : Sequence) → SequenceWord q → (w : FlowSequence) → Memᴰ w (given q) → w.0 < 2 ^ 32
-given_small Sequence.Absent h w m = absurd (Memᴰ.not-nil m)
-given_small (Sequence.Given sequence) h w m = rw (Memᴰ.eq_of_singleton m) h
+given_small : (q : Option FlowSequence) → SequenceWord q → (w : FlowSequence) → Memᴰ w (given q) → w.0 < 2 ^ 32
+given_small None h w m = absurd (Memᴰ.not-nil m)
+given_small (Some sequence) h w m = rw (Memᴰ.eq_of_singleton m) h
 
-accepted_small : (b : Bool) (q : Sequence) → SequenceWord q → (w : FlowSequence) → Memᴰ w (cond b (given q) []) → w.0 < 2 ^ 32
+accepted_small : (b : Bool) (q : Option FlowSequence) → SequenceWord q → (w : FlowSequence) → Memᴰ w (cond b (given q) []) → w.0 < 2 ^ 32
 accepted_small true q h w m = given_small q h w m
 accepted_small false q h w m = absurd (Memᴰ.not-nil m)
 
@@ -101,7 +100,7 @@ run_small (c ∷ cs) bytes s id w m =
     (Memᴰ.append_cases (heard_by c s id) m)
 
 -- ---- the highest number, one word after another
-all_numbers : (h : ℕ) (ws : List FlowSequence) → ((w : FlowSequence) → Memᴰ w ws → w.0 < 2 ^ 32) → heard_all (Highest.At (sequence_at h)) ws ≡ Highest.At (sequence_at (number_after h ws))
+all_numbers : (h : ℕ) (ws : List FlowSequence) → ((w : FlowSequence) → Memᴰ w ws → w.0 < 2 ^ 32) → heard_all (Some (sequence_at h)) ws ≡ Some (sequence_at (number_after h ws))
 all_numbers h [] small = refl
 all_numbers h (w ∷ ws) small =
     rw (heard_number h w (small w (Memᴰ.head refl))) (all_numbers (larger h (number_of h w)) ws (λ v m. small v (Memᴰ.tail m)))
@@ -125,15 +124,15 @@ largest first later = record { least = never_falls first later; none_above = non
 
 -- ---- the window of a channel
 module _ (c : Channel) where
-  plain_absent : c.setting.controlled ≡ false → window_now c ≡ Window.Absent
+  plain_absent : c.setting.controlled ≡ false → window_now c ≡ None
   unfolding window_now window_of
   plain_absent k = rw k
 
-  unheard_empty : c.setting.controlled ≡ true → c.highest ≡ Highest.Unheard → window_now c ≡ Window.Empty
+  unheard_empty : c.setting.controlled ≡ true → c.highest ≡ None → window_now c ≡ Some Window.Empty
   unfolding window_now window_of
   unheard_empty k h = rw (k, h)
 
-  heard_grants : (number : ℕ) (k : Setting) (bytes : ByteCount) → c.setting ≡ k → c.queued ≡ bytes → k.controlled ≡ true → c.highest ≡ Highest.At (sequence_at number)
+  heard_grants : (number : ℕ) (k : Setting) (bytes : ByteCount) → c.setting ≡ k → c.queued ≡ bytes → k.controlled ≡ true → c.highest ≡ Some (sequence_at number)
       → Grants c number k.watermark.0 k.throughput.0 bytes.0
   unfolding window_now window_of
   heard_grants number k bytes e f controlled h =
@@ -172,7 +171,7 @@ module _ (cs : List Call) (s : State) (index : ℕ) (inside : index < length s.c
   pub run_status : after.status ≡ status_through cs s before.setting.id before.status
   run_status = (run cs s index inside).status_is
 
-  pub run_plain : before.setting.controlled ≡ false → (after.highest ≡ before.highest) × (window_now after ≡ Window.Absent)
+  pub run_plain : before.setting.controlled ≡ false → (after.highest ≡ before.highest) × (window_now after ≡ None)
   run_plain k = ((run cs s index inside).plain k, plain_absent after (ap (λ (x : Setting). x.controlled) run_settings ∙ k))
 
   module _ (controlled : before.setting.controlled ≡ true) where
@@ -183,13 +182,13 @@ module _ (cs : List Call) (s : State) (index : ℕ) (inside : index < length s.c
     run_highest = (run cs s index inside).highest controlled
 
     -- until a sequence has been heard
-    pub run_unheard : before.highest ≡ Highest.Unheard → heard ≡ [] → (after.highest ≡ Highest.Unheard) × (window_now after ≡ Window.Empty)
+    pub run_unheard : before.highest ≡ None → heard ≡ [] → (after.highest ≡ None) × (window_now after ≡ Some Window.Empty)
     run_unheard none silent =
-        let same : after.highest ≡ Highest.Unheard = run_highest ∙ rw (silent, none) in
+        let same : after.highest ≡ None = run_highest ∙ rw (silent, none) in
         (same, unheard_empty after still same)
 
     -- the window at a highest number, by the configuration and the bytes queued
-    pub run_window : (number : ℕ) → after.highest ≡ Highest.At (sequence_at number)
+    pub run_window : (number : ℕ) → after.highest ≡ Some (sequence_at number)
         → Grants after number before.setting.watermark.0 before.setting.throughput.0 (queued_through cs s before.setting.id before.queued).0
     run_window number h = heard_grants after number before.setting _ run_settings run_queued controlled h
 
@@ -198,13 +197,13 @@ module _ (cs : List Call) (s : State) (index : ℕ) (inside : index < length s.c
       small = run_small cs bytes s before.setting.id
 
       -- THE FIRST WORD STARTS THE NUMBER; the kept word is the low 32 bits of the largest number since
-      pub run_number : (first : FlowSequence) (later : List FlowSequence) → before.highest ≡ Highest.Unheard → heard ≡ first ∷ later
-          → (after.highest ≡ Highest.At (sequence_at (number_after first.0 later))) × Largest first.0 later (number_after first.0 later)
+      pub run_number : (first : FlowSequence) (later : List FlowSequence) → before.highest ≡ None → heard ≡ first ∷ later
+          → (after.highest ≡ Some (sequence_at (number_after first.0 later))) × Largest first.0 later (number_after first.0 later)
       run_number first later none e =
           let each : (w : FlowSequence) → Memᴰ w (first ∷ later) → w.0 < 2 ^ 32 = λ w m. small w (rw e m) in
           (run_highest ∙ rw (none, e) (highest_number first later (each first (Memᴰ.head refl)) (λ w m. each w (Memᴰ.tail m))), largest first.0 later)
 
       -- and from a number on: it never falls
-      pub run_never_falls : (number : ℕ) → before.highest ≡ Highest.At (sequence_at number)
-          → (after.highest ≡ Highest.At (sequence_at (number_after number heard))) × Largest number heard (number_after number heard)
+      pub run_never_falls : (number : ℕ) → before.highest ≡ Some (sequence_at number)
+          → (after.highest ≡ Some (sequence_at (number_after number heard))) × Largest number heard (number_after number heard)
       run_never_falls number h = (run_highest ∙ rw h (all_numbers number heard small), largest number heard)

@@ -1,4 +1,5 @@
 -- From a fresh start: what the promises of a run ask of a channel. Assumes nothing.
+use Rattle.std.specs.Prelude.{Some, None}
 use Prim.Native.Nat.{ℕ, zero, suc, ◌<◌}
 use mathlib.Core.Bool.{true}
 use mathlib.Core.List.{List, [], ◌∷◌, map}
@@ -8,7 +9,6 @@ use lib.ListN.{length, get_or}
 use Rattle.quantity.specs.declared.count.FlowSequence.{FlowSequence}
 use Rattle.quantity.specs.Window.{sequence_at}
 use Rattle.meaning.specs.declared.message.Window.{Window}
-use Rattle.radio_flow.specs.declared.Highest.{Highest}
 use Rattle.radio_flow.specs.Numbers.{number_after}
 use Rattle.radio_end_state.specs.declared.channel.Setting.{Setting}
 use Rattle.radio_end_state.specs.declared.channel.Channel.{Channel}
@@ -32,7 +32,7 @@ module _ (k : Configuration) (index : ℕ) (inside : index < length k.settings) 
   setting = get_or k.settings index no_setting
 
   -- "fresh: status 0, nothing queued, none heard"
-  pub fresh_at_lem : channel_at (fresh_state k) index ≡ record { setting = get_or k.settings index no_setting; status = 0; queued = record { 0 = 0 }; highest = Highest.Unheard }
+  pub fresh_at_lem : channel_at (fresh_state k) index ≡ record { setting = get_or k.settings index no_setting; status = 0; queued = record { 0 = 0 }; highest = None }
   unfolding channel_at fresh_state
   fresh_at_lem = fresh_get_d k.settings index inside
 
@@ -44,7 +44,7 @@ module _ (k : Configuration) (index : ℕ) (inside : index < length k.settings) 
     kind : (channel_at (fresh_state k) index).setting.controlled ≡ true
     kind = ap (λ (c : Channel). c.setting.controlled) fresh_at_lem ∙ controlled
 
-    none : (channel_at (fresh_state k) index).highest ≡ Highest.Unheard
+    none : (channel_at (fresh_state k) index).highest ≡ None
     none = ap (λ (c : Channel). c.highest) fresh_at_lem
 
     own : (channel_at (fresh_state k) index).setting.id ≡ setting.id
@@ -60,12 +60,12 @@ module _ (k : Configuration) (index : ℕ) (inside : index < length k.settings) 
     same = ap (heard_through cs (fresh_state k)) own
 
     -- "Until a sequence has been heard it sends Flow Window without the field."
-    pub fresh_unheard : heard ≡ [] → window_now after ≡ Window.Empty
+    pub fresh_unheard : heard ≡ [] → window_now after ≡ Some Window.Empty
     fresh_unheard e = (run_unheard cs (fresh_state k) index fresh_inside kind none (same ∙ e)).1
 
     -- the first word heard starts the number, and the window is granted from the largest number since
     pub fresh_number : BytesIn cs → (first : FlowSequence) (later : List FlowSequence) → heard ≡ first ∷ later
-        → (after.highest ≡ Highest.At (sequence_at (number_after first.0 later))) × Largest first.0 later (number_after first.0 later)
+        → (after.highest ≡ Some (sequence_at (number_after first.0 later))) × Largest first.0 later (number_after first.0 later)
     fresh_number bytes first later e = run_number cs (fresh_state k) index fresh_inside kind bytes first later none (same ∙ e)
 
     pub fresh_window : BytesIn cs → (first : FlowSequence) (later : List FlowSequence) → heard ≡ first ∷ later

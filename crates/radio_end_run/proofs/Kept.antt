@@ -1,4 +1,7 @@
 -- A state within the limits stays within them, whatever is called; the datagrams are made of bytes. Assumes nothing.
+use Rattle.std.specs.Prelude.{Option, Some, None}
+use Rattle.quantity.specs.declared.count.LinkInstanceId.{LinkInstanceId}
+use Rattle.meaning.specs.declared.message.ContextBytes.{ContextBytes}
 use Prim.Native.Nat.{ℕ, ◌^◌, ◌≤◌, ◌<◌}
 use mathlib.Core.Bool.{Bool, true, false, cond}
 use mathlib.Core.List.{List, [], ◌∷◌, Memᴰ}
@@ -11,10 +14,7 @@ use lib.Seq.{ext_get_or}
 use Rattle.quantity.specs.declared.count.FlowSequence.{FlowSequence}
 use Rattle.quantity.specs.Limits.{RESERVED-CHANNEL, MOST-ALLOWANCE, HIGHEST-STATUS}
 use Rattle.meaning.specs.declared.message.End.TheVariants as ends
-use Rattle.meaning.specs.declared.message.Instance.{Instance}
-use Rattle.meaning.specs.declared.message.Context.{Context}
 use Rattle.writable.specs.Allowed.{instance_allowed, context_allowed}
-use Rattle.radio_flow.specs.declared.Highest.{Highest}
 use Rattle.radio_flow.specs.Granting.{is_ahead, heard_of}
 use Rattle.radio_flow.specs.Numbers.{heard_all}
 use Rattle.radio_end_state.specs.declared.channel.Setting.{Setting}
@@ -28,15 +28,15 @@ use Rattle.radio_end_run.proofs.Steps.{step_own, step}
 use Rattle.radio_end_run.proofs.Counted.{heard_small}
 
 -- ---- a highest word of 32 bits stays one
-ahead_fits : (b : Bool) (highest sequence : FlowSequence) → highest.0 < 2 ^ 32 → sequence.0 < 2 ^ 32 → highest_fits (cond b (Highest.At sequence) (Highest.At highest)) ≡ true
+ahead_fits : (b : Bool) (highest sequence : FlowSequence) → highest.0 < 2 ^ 32 → sequence.0 < 2 ^ 32 → highest_fits (cond b (Some sequence) (Some highest)) ≡ true
 ahead_fits true highest sequence h k = lt-ltb sequence.0 (2 ^ 32) k
 ahead_fits false highest sequence h k = lt-ltb highest.0 (2 ^ 32) h
 
-heard_fits : (highest : Highest) (sequence : FlowSequence) → highest_fits highest ≡ true → sequence.0 < 2 ^ 32 → highest_fits (heard_of highest sequence) ≡ true
-heard_fits Highest.Unheard sequence e k = lt-ltb sequence.0 (2 ^ 32) k
-heard_fits (Highest.At highest) sequence e k = ahead_fits (is_ahead highest sequence) highest sequence (ltb-true highest.0 (2 ^ 32) e) k
+heard_fits : (highest : Option FlowSequence) (sequence : FlowSequence) → highest_fits highest ≡ true → sequence.0 < 2 ^ 32 → highest_fits (heard_of highest sequence) ≡ true
+heard_fits None sequence e k = lt-ltb sequence.0 (2 ^ 32) k
+heard_fits (Some highest) sequence e k = ahead_fits (is_ahead highest sequence) highest sequence (ltb-true highest.0 (2 ^ 32) e) k
 
-all_fit : (ws : List FlowSequence) (highest : Highest) → highest_fits highest ≡ true → ((w : FlowSequence) → Memᴰ w ws → w.0 < 2 ^ 32) → highest_fits (heard_all highest ws) ≡ true
+all_fit : (ws : List FlowSequence) (highest : Option FlowSequence) → highest_fits highest ≡ true → ((w : FlowSequence) → Memᴰ w ws → w.0 < 2 ^ 32) → highest_fits (heard_all highest ws) ≡ true
 all_fit [] highest e small = e
 all_fit (w ∷ ws) highest e small = all_fit ws (heard_of highest w) (heard_fits highest w e (small w (Memᴰ.head refl))) (λ v m. small v (Memᴰ.tail m))
 
@@ -70,7 +70,7 @@ status_low (link instance) s id before e w low = low
 status_low (tell out) s id before e w low = low
 
 -- ---- the Context and the Link Instance
-context_fits : (c : Call) (s : State) → accepted_by c s ≡ true → Writable c → (k : Context) → context_allowed ends.Radio k ≡ true → context_allowed ends.Radio (context_by c s k) ≡ true
+context_fits : (c : Call) (s : State) → accepted_by c s ≡ true → Writable c → (k : Option (ContextBytes × ℕ)) → context_allowed ends.Radio k ≡ true → context_allowed ends.Radio (context_by c s k) ≡ true
 unfolding context_by
 context_fits (hear datagram out) s e w k h = h
 context_fits (status own value out) s e w k h = h
@@ -79,7 +79,7 @@ context_fits (context told out) s e w k h = rw e w
 context_fits (link instance) s e w k h = h
 context_fits (tell out) s e w k h = h
 
-instance_fits : (c : Call) (s : State) → accepted_by c s ≡ true → Writable c → (n : Instance) → instance_allowed ends.Radio n ≡ true → instance_allowed ends.Radio (instance_by c s n) ≡ true
+instance_fits : (c : Call) (s : State) → accepted_by c s ≡ true → Writable c → (n : Option (LinkInstanceId × ℕ)) → instance_allowed ends.Radio n ≡ true → instance_allowed ends.Radio (instance_by c s n) ≡ true
 unfolding instance_by
 instance_fits (hear datagram out) s e w n h = h
 instance_fits (status own value out) s e w n h = h

@@ -1,4 +1,9 @@
 -- What each call comes to: it is refused and leaves the state, or it makes its change of every channel. Assumes nothing.
+use Rattle.std.specs.Prelude.{Option, Result, Ok, Err}
+use Rattle.quantity.specs.declared.count.LinkInstanceId.{LinkInstanceId}
+use Rattle.quantity.specs.declared.refusal.Refusal.{Refusal}
+use Rattle.meaning.specs.declared.message.ContextBytes.{ContextBytes}
+use Rattle.meaning.specs.declared.message.Plane.{Plane}
 use Prim.Native.Nat.{ℕ, ◌≤◌, ◌<◌}
 use mathlib.Core.Bool.{Bool, true, false, cond}
 use mathlib.Core.List.{List, []}
@@ -11,14 +16,11 @@ use Rattle.quantity.specs.Limits.{HIGHEST-STATUS}
 use Rattle.quantity.specs.Refusals.{NO-CHANNEL, NO-ROOM, OUTSIDE-LIMITS, NOT-WRITABLE}
 use Rattle.wire.specs.Options.{over}
 use Rattle.meaning.specs.declared.message.End.TheVariants as ends
-use Rattle.meaning.specs.declared.message.Instance.{Instance}
-use Rattle.meaning.specs.declared.message.Context.{Context}
 use Rattle.meaning.specs.declared.message.Control.{Control}
 use Rattle.meaning.specs.declared.message.Data.{Data}
 use Rattle.writable.specs.Allowed.{instance_allowed, context_allowed}
 use Rattle.writer.specs.Written.{no_room_of}
 use Rattle.reader.specs.Readings.{Verdict, read_control, read_data, plane_of, packet_of}
-use Rattle.reader.specs.declared.answer.PlaneAnswer.{PlaneAnswer}
 use Rattle.radio_end_state.specs.declared.answer.Answer.{Answer}
 use Rattle.radio_end_state.specs.declared.channel.Channel.{Channel}
 use Rattle.radio_end_state.specs.Channel.{hearing_on, with_queued, with_status}
@@ -43,7 +45,7 @@ module _ (s : State) (P : State → Type 0) where
   unless : (b : Bool) (number : ℕ) (out : List ℕ) (x : After) → (b ≡ true → Comes s P x) → Comes s P (cond b x (refused_by number s out))
   unless b number out x f = by_test b x (refused_by number s out) f (λ e. refused refl refl)
 
-  telling_comes : (say : ByteCount → Answer) → ((n : ByteCount) → is_accepted (say n) ≡ true) → (after : State) (out : List ℕ) → P after → Comes s P (telling say s after out)
+  telling_comes : (say : ByteCount → Result Answer Refusal) → ((n : ByteCount) → is_accepted (say n) ≡ true) → (after : State) (out : List ℕ) → P after → Comes s P (telling say s after out)
   unfolding telling
   telling_comes say accepts after out p =
       by_test (no_room_of (length (message_bytes after)) (length out)) (refused_by NO-ROOM s out)
@@ -53,10 +55,10 @@ module _ (s : State) (P : State → Type 0) where
   settling_comes : (after : State) (out : List ℕ) → P after → Comes s P (settling s after out)
   unfolding settling
   settling_comes after out p =
-      by_test (differs s after) (telling (λ n. Answer.Unasked n) s after out) (quietly after out) (λ e. telling_comes (λ n. Answer.Unasked n) (λ n. refl) after out p) (λ e. made refl p)
+      by_test (differs s after) (telling (λ n. Ok (Answer.Unasked n)) s after out) (quietly after out) (λ e. telling_comes (λ n. Ok (Answer.Unasked n)) (λ n. refl) after out p) (λ e. made refl p)
 
 -- ---- what it makes: something of each channel, a Context and a Link Instance; Datalink ID and the order of the channels stand
-pub record Makes (s : State) (part : Channel → Channel) (k : Context) (n : Instance) (s' : State) : Type 0 where
+pub record Makes (s : State) (part : Channel → Channel) (k : Option (ContextBytes × ℕ)) (n : Option (LinkInstanceId × ℕ)) (s' : State) : Type 0 where
   pub datalink : s'.datalink ≡ s.datalink
   pub many : length s'.channels ≡ length s.channels
   pub each : (index : ℕ) → index < length s.channels → channel_at s' index ≡ part (channel_at s index)
@@ -81,7 +83,7 @@ part_of (context k out) s c = c
 part_of (link instance) s c = c
 part_of (tell out) s c = c
 
-unfoldable pub context_made : Call → State → Context
+unfoldable pub context_made : Call → State → Option (ContextBytes × ℕ)
 context_made (hear datagram out) s = s.context
 context_made (status id value out) s = s.context
 context_made (queued id bytes out) s = s.context
@@ -89,7 +91,7 @@ context_made (context k out) s = k
 context_made (link instance) s = s.context
 context_made (tell out) s = s.context
 
-unfoldable pub instance_made : Call → State → Instance
+unfoldable pub instance_made : Call → State → Option (LinkInstanceId × ℕ)
 instance_made (hear datagram out) s = s.instance
 instance_made (status id value out) s = s.instance
 instance_made (queued id bytes out) s = s.instance
@@ -119,11 +121,11 @@ module _ (s : State) where
       let hears : Channel → Channel = λ c. hearing_on c (sequence_in message c.setting.id) in
       record { datalink = refl; many = map_length hears s.channels; each = get_d_map hears s.channels; context_is = refl; instance_is = refl }
 
-  context_made_lem : (k : Context) → Makes s (λ c. c) k s.instance (with_context s k)
+  context_made_lem : (k : Option (ContextBytes × ℕ)) → Makes s (λ c. c) k s.instance (with_context s k)
   unfolding with_context channel_at
   context_made_lem k = record { datalink = refl; many = refl; each = λ index h. refl; context_is = refl; instance_is = refl }
 
-  instance_made_lem : (n : Instance) → Makes s (λ c. c) s.context n (with_instance s n)
+  instance_made_lem : (n : Option (LinkInstanceId × ℕ)) → Makes s (λ c. c) s.context n (with_instance s n)
   unfolding with_instance channel_at
   instance_made_lem n = record { datalink = refl; many = refl; each = λ index h. refl; context_is = refl; instance_is = refl }
 
@@ -136,7 +138,7 @@ module _ (s : State) (fits : state_fits s ≡ true) (out : List ℕ) where
   unfolding control_heard
   control_comes message =
       unless s (Hears (stated message)) (lacks_none s message) NO-CHANNEL out _
-      (λ e. telling_comes s (Hears (stated message)) (λ n. Answer.Answered n) (λ n. refl) (hearing_all s message) out (all_made s message))
+      (λ e. telling_comes s (Hears (stated message)) (λ n. Ok (Answer.Answered n)) (λ n. refl) (hearing_all s message) out (all_made s message))
 
   data_comes : (message : Data) (bytes : ByteCount) → Comes s (Hears (carried message bytes)) (data_heard s message bytes out)
   unfolding data_heard
@@ -150,10 +152,10 @@ module _ (s : State) (fits : state_fits s ≡ true) (out : List ℕ) where
   verdict_comes Verdict.OtherPlane received x h = made refl (nothing_made s)
   verdict_comes (Verdict.Refused refusal) received x h = refused refl refl
 
-  plane_comes : (p : PlaneAnswer) (a b : Received) (x y : After) → Comes s (Hears a) x → Comes s (Hears b) y → Comes s (Hears (on_plane p a b)) (by_plane p s out x y)
-  plane_comes PlaneAnswer.Control a b x y h k = h
-  plane_comes PlaneAnswer.Data a b x y h k = k
-  plane_comes (PlaneAnswer.Refused refusal) a b x y h k = refused refl refl
+  plane_comes : (p : Result Plane Refusal) (a b : Received) (x y : After) → Comes s (Hears a) x → Comes s (Hears b) y → Comes s (Hears (on_plane p a b)) (by_plane p s out x y)
+  plane_comes (Ok Plane.Control) a b x y h k = h
+  plane_comes (Ok Plane.Data) a b x y h k = k
+  plane_comes (Err refusal) a b x y h k = refused refl refl
 
   heard_comes : (datagram : List ℕ)
       → Comes s (Hears (received_in s.datalink datagram))
@@ -217,4 +219,4 @@ comes (link instance) s =
 comes (tell out) s =
     let P = Made (tell out) s in
     unless s P (state_fits s) OUTSIDE-LIMITS out _
-    (λ fits. telling_comes s P (λ n. Answer.Answered n) (λ n. refl) s out (record { fits = fits; makes = nothing_made s; writable = tt }))
+    (λ fits. telling_comes s P (λ n. Ok (Answer.Answered n)) (λ n. refl) s out (record { fits = fits; makes = nothing_made s; writable = tt }))

@@ -1,4 +1,6 @@
 -- What a Channel ID hears and has queued, by what the reader of the IPS end reads, and in literal numbers. Assumes nothing.
+use Rattle.meaning.specs.declared.message.Plane.{Plane}
+use Rattle.std.specs.Prelude.{Some, None, Ok}
 use Prim.Native.Nat.{ℕ, ◌+◌, min}
 use mathlib.Core.Bool.{true}
 use mathlib.Core.List.{List, [], ◌∷◌}
@@ -8,12 +10,7 @@ use lib.ListN.{length, get_or}
 use Rattle.quantity.specs.declared.count.ByteCount.{ByteCount}
 use Rattle.quantity.specs.declared.count.FlowSequence.{FlowSequence}
 use Rattle.meaning.specs.declared.message.End.TheVariants as ends
-use Rattle.meaning.specs.declared.message.Sequence.{Sequence}
-use Rattle.meaning.specs.declared.message.Counted.{Counted}
-use Rattle.meaning.specs.declared.message.Channel as named
-use Rattle.meaning.specs.Cells.{no_sequence}
 use Rattle.reader.specs.Readings.{Verdict, read_control, read_data, plane_of, packet_of}
-use Rattle.reader.specs.declared.answer.PlaneAnswer.{PlaneAnswer}
 use Rattle.radio_flow.specs.Granting.{queued_on}
 use Rattle.radio_end_state.specs.State.{State}
 use Rattle.radio_end_state.specs.Calls.{sequence_in, channel_named}
@@ -21,13 +18,13 @@ use Rattle.radio_end_run.specs.Run.{hear, status, queued, accepted_by, received_
 
 -- ---- a control message that is not refused
 module _ (s : State) (datagram out : List ℕ) (accepted : accepted_by (hear datagram out) s ≡ true) where
-  module _ (plane : plane_of datagram ≡ PlaneAnswer.Control) (read : (read_control ends.Ips s.datalink datagram).verdict ≡ Verdict.Accepted) where
-    pub control_states : (id : ℕ) (sequence : FlowSequence) → (get_or (read_control ends.Ips s.datalink datagram).message.sequences id no_sequence).sequence ≡ Sequence.Given sequence
+  module _ (plane : plane_of datagram ≡ Ok Plane.Control) (read : (read_control ends.Ips s.datalink datagram).verdict ≡ Verdict.Accepted) where
+    pub control_states : (id : ℕ) (sequence : FlowSequence) → (get_or (read_control ends.Ips s.datalink datagram).message.sequences id None) ≡ Some sequence
         → heard_by (hear datagram out) s id ≡ sequence ∷ []
     unfolding heard_by received_in sequence_in
     control_states id sequence e = rw (accepted, plane, read, e)
 
-    pub control_omits : (id : ℕ) → (get_or (read_control ends.Ips s.datalink datagram).message.sequences id no_sequence).sequence ≡ Sequence.Absent → heard_by (hear datagram out) s id ≡ []
+    pub control_omits : (id : ℕ) → (get_or (read_control ends.Ips s.datalink datagram).message.sequences id None) ≡ None → heard_by (hear datagram out) s id ≡ []
     unfolding heard_by received_in sequence_in
     control_omits id e = rw (accepted, plane, read, e)
 
@@ -36,14 +33,14 @@ module _ (s : State) (datagram out : List ℕ) (accepted : accepted_by (hear dat
     control_queues id bytes = rw (accepted, plane, read)
 
   -- ---- a data message that is not refused: "a data message without one names channel 0"
-  module _ (plane : plane_of datagram ≡ PlaneAnswer.Data) (read : (read_data ends.Ips s.datalink datagram).verdict ≡ Verdict.Accepted) where
+  module _ (plane : plane_of datagram ≡ Ok Plane.Data) (read : (read_data ends.Ips s.datalink datagram).verdict ≡ Verdict.Accepted) where
     of_channel_lem : (id : ℕ) → channel_named (read_data ends.Ips s.datalink datagram).message.channel ≡ id → (own : ℕ) (sequence : FlowSequence)
-        → (read_data ends.Ips s.datalink datagram).message.sequence ≡ Counted.Given own sequence → heard_by (hear datagram out) s id ≡ sequence ∷ []
+        → (read_data ends.Ips s.datalink datagram).message.sequence ≡ Some (own, sequence) → heard_by (hear datagram out) s id ≡ sequence ∷ []
     unfolding heard_by received_in
     of_channel_lem id e own sequence f = rw (accepted, plane, read, eq-eqb _ _ e, f)
 
-    pub data_states : (id own : ℕ) (sequence : FlowSequence) → (read_data ends.Ips s.datalink datagram).message.channel ≡ named.Channel.Given id
-        → (read_data ends.Ips s.datalink datagram).message.sequence ≡ Counted.Given own sequence → heard_by (hear datagram out) s id ≡ sequence ∷ []
+    pub data_states : (id own : ℕ) (sequence : FlowSequence) → (read_data ends.Ips s.datalink datagram).message.channel ≡ Some id
+        → (read_data ends.Ips s.datalink datagram).message.sequence ≡ Some (own, sequence) → heard_by (hear datagram out) s id ≡ sequence ∷ []
     data_states id own sequence e f = of_channel_lem id (ap channel_named e) own sequence f
 
     packet_on_lem : (id : ℕ) → channel_named (read_data ends.Ips s.datalink datagram).message.channel ≡ id → (bytes : ByteCount)
@@ -51,11 +48,11 @@ module _ (s : State) (datagram out : List ℕ) (accepted : accepted_by (hear dat
     unfolding queued_by received_in queued_on
     packet_on_lem id e bytes = rw (accepted, plane, read, eq-eqb _ _ e)
 
-    pub data_queues : (id : ℕ) → (read_data ends.Ips s.datalink datagram).message.channel ≡ named.Channel.Given id → (bytes : ByteCount)
+    pub data_queues : (id : ℕ) → (read_data ends.Ips s.datalink datagram).message.channel ≡ Some id → (bytes : ByteCount)
         → (queued_by (hear datagram out) s id bytes).0 ≡ min 18446744073709551615 (bytes.0 + length (packet_of datagram))
     data_queues id e = packet_on_lem id (ap channel_named e)
 
-    pub data_queues_primary : (read_data ends.Ips s.datalink datagram).message.channel ≡ named.Channel.Absent → (bytes : ByteCount)
+    pub data_queues_primary : (read_data ends.Ips s.datalink datagram).message.channel ≡ None → (bytes : ByteCount)
         → (queued_by (hear datagram out) s 0 bytes).0 ≡ min 18446744073709551615 (bytes.0 + length (packet_of datagram))
     data_queues_primary e = packet_on_lem 0 (ap channel_named e)
 

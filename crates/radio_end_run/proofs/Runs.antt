@@ -1,4 +1,5 @@
 -- Any sequence of calls. Assumes nothing.
+use Rattle.std.specs.Prelude.{Option}
 use Prim.Native.Nat.{ℕ, ◌<◌}
 use mathlib.Core.List.{List, [], ◌∷◌, ◌++◌, append_assoc}
 use mathlib.Core.Path.{◌≡◌, refl, sym, ap, ◌∙◌}
@@ -6,7 +7,6 @@ use native.Mathlib.Omega.{arith}
 use lib.ListN.{length}
 use Rattle.quantity.specs.declared.count.ByteCount.{ByteCount}
 use Rattle.quantity.specs.declared.count.FlowSequence.{FlowSequence}
-use Rattle.radio_flow.specs.declared.Highest.{Highest}
 use Rattle.radio_flow.specs.Granting.{heard_of}
 use Rattle.radio_flow.specs.Numbers.{heard_all}
 use Rattle.radio_end_state.specs.declared.channel.Setting.{Setting}
@@ -16,7 +16,7 @@ use Rattle.radio_end_run.specs.Run.{Call, state_after, states_after, through, he
 use Rattle.radio_end_run.specs.Promised.{ChannelLeft, ChannelRun, StateRun}
 use Rattle.radio_end_run.proofs.Steps.{step_own, step}
 
-pub heard_both : (highest : Highest) (xs ys : List FlowSequence) → heard_all highest (xs ++ ys) ≡ heard_all (heard_all highest xs) ys
+pub heard_both : (highest : Option FlowSequence) (xs ys : List FlowSequence) → heard_all highest (xs ++ ys) ≡ heard_all (heard_all highest xs) ys
 heard_both highest [] ys = refl
 heard_both highest (x ∷ xs) ys = heard_both (heard_of highest x) xs ys
 
@@ -30,7 +30,7 @@ left_both a b c more grown becomes heard bytes value first second =
     record {
       setting = second.setting ∙ first.setting;
       highest = λ k.
-          second.highest (kind ∙ k) ∙ ap (λ (n : ℕ). heard_all b.highest (more n)) own ∙ ap (λ (h : Highest). heard_all h (more a.setting.id)) (first.highest k)
+          second.highest (kind ∙ k) ∙ ap (λ (n : ℕ). heard_all b.highest (more n)) own ∙ ap (λ (h : Option FlowSequence). heard_all h (more a.setting.id)) (first.highest k)
           ∙ sym (heard_both a.highest heard (more a.setting.id));
       plain = λ k. second.plain (kind ∙ k) ∙ first.plain k;
       queued_is = second.queued_is ∙ ap (λ (n : ℕ). grown n b.queued) own ∙ ap (grown a.setting.id) first.queued_is;

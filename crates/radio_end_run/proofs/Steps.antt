@@ -1,4 +1,8 @@
 -- One call: what it leaves of a channel, and of the rest. Assumes nothing.
+use Rattle.std.specs.Prelude.{Option, Some, None}
+use Rattle.quantity.specs.declared.count.LinkInstanceId.{LinkInstanceId}
+use Rattle.quantity.specs.declared.count.FlowSequence.{FlowSequence}
+use Rattle.meaning.specs.declared.message.ContextBytes.{ContextBytes}
 use Prim.Native.Nat.{ℕ, ◌<◌}
 use mathlib.Core.Bool.{Bool, true, false, cond}
 use mathlib.Core.List.{[]}
@@ -7,11 +11,7 @@ use lib.Dec.{eqb}
 use lib.ListN.{length}
 use Rattle.facts.proofs.Tests.{clash}
 use Rattle.quantity.specs.declared.count.ByteCount.{ByteCount}
-use Rattle.meaning.specs.declared.message.Instance.{Instance}
-use Rattle.meaning.specs.declared.message.Context.{Context}
-use Rattle.meaning.specs.declared.message.Sequence.{Sequence}
 use Rattle.meaning.specs.declared.message.Data.{Data}
-use Rattle.radio_flow.specs.declared.Highest.{Highest}
 use Rattle.radio_flow.specs.Granting.{hearing, queued_on}
 use Rattle.radio_flow.specs.Numbers.{heard_all}
 use Rattle.radio_end_state.specs.declared.channel.Channel.{Channel}
@@ -52,7 +52,7 @@ module _ (s : State) (id : ℕ) where
   status_refused (tell out) e before = refl
 
 module _ (s : State) where
-  context_refused : (c : Call) → accepted_by c s ≡ false → (before : Context) → context_by c s before ≡ before
+  context_refused : (c : Call) → accepted_by c s ≡ false → (before : Option (ContextBytes × ℕ)) → context_by c s before ≡ before
   unfolding context_by
   context_refused (hear datagram out) e before = refl
   context_refused (status own value out) e before = refl
@@ -61,7 +61,7 @@ module _ (s : State) where
   context_refused (link instance) e before = refl
   context_refused (tell out) e before = refl
 
-  instance_refused : (c : Call) → accepted_by c s ≡ false → (before : Instance) → instance_by c s before ≡ before
+  instance_refused : (c : Call) → accepted_by c s ≡ false → (before : Option (LinkInstanceId × ℕ)) → instance_by c s before ≡ before
   unfolding instance_by
   instance_refused (hear datagram out) e before = refl
   instance_refused (status own value out) e before = refl
@@ -104,16 +104,16 @@ module _ (c : Channel) where
   same_left = record { setting = refl; highest = λ k. refl; plain = λ k. refl; queued_is = refl; status_is = refl }
 
   -- what a message states is heard, one after another
-  hearing_given : (controlled : Bool) (highest : Highest) (sequence : Sequence) → controlled ≡ true → hearing controlled highest sequence ≡ heard_all highest (given sequence)
+  hearing_given : (controlled : Bool) (highest : Option FlowSequence) (sequence : Option FlowSequence) → controlled ≡ true → hearing controlled highest sequence ≡ heard_all highest (given sequence)
   unfolding hearing
-  hearing_given controlled highest Sequence.Absent k = rw k
-  hearing_given controlled highest (Sequence.Given sequence) k = rw k
+  hearing_given controlled highest None k = rw k
+  hearing_given controlled highest (Some sequence) k = rw k
 
-  hearing_plain : (controlled : Bool) (highest : Highest) (sequence : Sequence) → controlled ≡ false → hearing controlled highest sequence ≡ highest
+  hearing_plain : (controlled : Bool) (highest : Option FlowSequence) (sequence : Option FlowSequence) → controlled ≡ false → hearing controlled highest sequence ≡ highest
   unfolding hearing
   hearing_plain controlled highest sequence k = rw k
 
-  hearing_left : (sequence : Sequence) → ChannelLeft c (hearing_on c sequence) (given sequence) c.queued c.status
+  hearing_left : (sequence : Option FlowSequence) → ChannelLeft c (hearing_on c sequence) (given sequence) c.queued c.status
   unfolding hearing_on
   hearing_left sequence =
       record {
@@ -125,7 +125,7 @@ module _ (c : Channel) where
       }
 
   carried_left : (b : Bool) (message : Data) (bytes : ByteCount)
-      → ChannelLeft c (cond b (data_on message bytes c) c) (given (cond b (sequence_counted message.sequence) Sequence.Absent)) (cond b (queued_on c.queued bytes) c.queued) c.status
+      → ChannelLeft c (cond b (data_on message bytes c) c) (given (cond b (sequence_counted message.sequence) None)) (cond b (queued_on c.queued bytes) c.queued) c.status
   unfolding data_on queueing with_queued hearing_on
   carried_left true message bytes =
       record {

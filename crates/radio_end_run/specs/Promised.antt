@@ -1,13 +1,13 @@
 -- What is promised of any sequence of calls, for any channel of the state.
-use Rattle.std.specs.Prelude.{ℕ, ◌+◌, ◌≤◌, true, false, ◌⊎◌, ◌≡◌, ℤ, pos, length, ◌≤ℤ◌}
+use Rattle.quantity.specs.declared.count.LinkInstanceId.{LinkInstanceId}
+use Rattle.meaning.specs.declared.message.ContextBytes.{ContextBytes}
+use Rattle.std.specs.Prelude.{ℕ, ◌+◌, ◌≤◌, true, false, ◌⊎◌, ◌≡◌, ℤ, pos, length, ◌≤ℤ◌, Option, Some}
 use mathlib.Core.List.{List, Memᴰ}
 use Rattle.quantity.specs.declared.count.ByteCount.{ByteCount}
 use Rattle.quantity.specs.declared.count.FlowSequence.{FlowSequence}
 use Rattle.quantity.specs.declared.count.FlowWindow.{FlowWindow}
 use Rattle.quantity.specs.Distance.{distance_of}
 use Rattle.quantity.specs.Window.{sequence_at, Stands}
-use Rattle.meaning.specs.declared.message.Instance.{Instance}
-use Rattle.meaning.specs.declared.message.Context.{Context}
 use Rattle.meaning.specs.declared.message.Window.{Window}
 use Rattle.radio_flow.specs.Numbers.{heard_all, numbers_heard, AllowanceIs}
 use Rattle.radio_end_state.specs.declared.channel.Channel.{Channel}
@@ -24,7 +24,7 @@ pub record ChannelLeft (before after : Channel) (heard : List FlowSequence) (byt
   pub status_is : after.status ≡ value
 
 -- the rest of the state before and after: Datalink ID, number and order of the channels stand
-pub record StateLeft (before after : State) (k : Context) (n : Instance) : Type 0 where
+pub record StateLeft (before after : State) (k : Option (ContextBytes × ℕ)) (n : Option (LinkInstanceId × ℕ)) : Type 0 where
   pub datalink : after.datalink ≡ before.datalink
   pub many : length after.channels ≡ length before.channels
   pub context_is : after.context ≡ k
@@ -49,7 +49,7 @@ pub record Largest (first : ℕ) (later : List FlowSequence) (number : ℕ) : Ty
 pub record Grants (c : Channel) (number watermark throughput bytes : ℕ) : Type 0 where
   pub window : FlowWindow
   pub allowance : ℕ
-  pub stated : window_now c ≡ Window.Given window
+  pub stated : window_now c ≡ Some (Window.Given window)
   pub stands : Stands number window (pos (number + allowance))
   pub exactly : AllowanceIs watermark throughput bytes allowance
   pub distance : distance_of (sequence_at number) window ≡ pos allowance

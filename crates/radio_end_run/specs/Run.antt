@@ -1,17 +1,17 @@
 -- Document 02, §3, for any sequence of calls: what each comes to, and what one channel hears, is told and has queued by it.
-use Rattle.std.specs.Prelude.{ℕ, Bool, true, false, cond, ◌&&◌, List, [], ◌∷◌, ◌++◌, eqb, length}
+use Rattle.quantity.specs.declared.count.LinkInstanceId.{LinkInstanceId}
+use Rattle.quantity.specs.declared.refusal.Refusal.{Refusal}
+use Rattle.meaning.specs.declared.message.ContextBytes.{ContextBytes}
+use Rattle.meaning.specs.declared.message.Plane.{Plane}
+use Rattle.std.specs.Prelude.{ℕ, Bool, true, false, cond, ◌&&◌, List, [], ◌∷◌, ◌++◌, eqb, length, Option, Some, None, Result, Ok, Err}
 use Rattle.quantity.specs.declared.count.ByteCount.{ByteCount}
 use Rattle.quantity.specs.declared.count.DatalinkId.{DatalinkId}
 use Rattle.quantity.specs.declared.count.FlowSequence.{FlowSequence}
 use Rattle.wire.specs.Numbers.{Octets}
 use Rattle.meaning.specs.declared.message.End.TheVariants as ends
-use Rattle.meaning.specs.declared.message.Instance.{Instance}
-use Rattle.meaning.specs.declared.message.Context.{Context}
-use Rattle.meaning.specs.declared.message.Sequence.{Sequence}
 use Rattle.meaning.specs.declared.message.Control.{Control}
 use Rattle.meaning.specs.declared.message.Data.{Data}
 use Rattle.reader.specs.Readings.{Verdict, read_control, read_data, plane_of, packet_of}
-use Rattle.reader.specs.declared.answer.PlaneAnswer.{PlaneAnswer}
 use Rattle.radio_flow.specs.Granting.{queued_on}
 use Rattle.radio_end_state.specs.declared.answer.Answer.{Answer}
 use Rattle.radio_end_state.specs.State.{State}
@@ -22,8 +22,8 @@ pub data Call : Type 0 where
   hear : (datagram out : List ℕ) → Call
   status : (id value : ℕ) (out : List ℕ) → Call
   queued : (id : ℕ) (bytes : ByteCount) (out : List ℕ) → Call
-  context : (told : Context) (out : List ℕ) → Call
-  link : (instance : Instance) → Call
+  context : (told : Option (ContextBytes × ℕ)) (out : List ℕ) → Call
+  link : (instance : Option (LinkInstanceId × ℕ)) → Call
   tell : (out : List ℕ) → Call
 
 unfoldable pub after_call : Call → State → After
@@ -53,11 +53,11 @@ answers_of [] s = []
 answers_of (c ∷ cs) s = after_call c s ∷ answers_of cs (state_after c s)
 
 -- "Any refusal leaves state and output as they were": whether a call is not refused
-abbrev pub is_accepted : Answer → Bool
-is_accepted (Answer.Answered bytes) = true
-is_accepted (Answer.Unasked bytes) = true
-is_accepted Answer.Quiet = true
-is_accepted (Answer.Refused refusal) = false
+abbrev pub is_accepted : Result Answer Refusal → Bool
+is_accepted (Ok (Answer.Answered bytes)) = true
+is_accepted (Ok (Answer.Unasked bytes)) = true
+is_accepted (Ok Answer.Quiet) = true
+is_accepted (Err refusal) = false
 
 abbrev pub accepted_by : Call → State → Bool
 accepted_by c s = is_accepted (after_call c s).answer
@@ -73,10 +73,10 @@ if_read Verdict.Accepted received = received
 if_read Verdict.OtherPlane received = dropped
 if_read (Verdict.Refused refusal) received = dropped
 
-abbrev pub on_plane : PlaneAnswer → (control data' : Received) → Received
-on_plane PlaneAnswer.Control control data' = control
-on_plane PlaneAnswer.Data control data' = data'
-on_plane (PlaneAnswer.Refused refusal) control data' = dropped
+abbrev pub on_plane : Result Plane Refusal → (control data' : Received) → Received
+on_plane (Ok Plane.Control) control data' = control
+on_plane (Ok Plane.Data) control data' = data'
+on_plane (Err refusal) control data' = dropped
 
 unfoldable pub received_in : DatalinkId → List ℕ → Received
 received_in datalink datagram =
@@ -84,14 +84,14 @@ received_in datalink datagram =
     (if_read (read_data ends.Ips datalink datagram).verdict (carried (read_data ends.Ips datalink datagram).message (record { 0 = length (packet_of datagram) })))
 
 -- ---- "Each Flow Sequence of a flow-controlled channel": what it states of a Channel ID, a data message of the channel that it names alone
-abbrev pub stated_of : (id : ℕ) → Received → Sequence
-stated_of id dropped = Sequence.Absent
+abbrev pub stated_of : (id : ℕ) → Received → Option FlowSequence
+stated_of id dropped = None
 stated_of id (stated message) = sequence_in message id
-stated_of id (carried message bytes) = cond (eqb (channel_named message.channel) id) (sequence_counted message.sequence) Sequence.Absent
+stated_of id (carried message bytes) = cond (eqb (channel_named message.channel) id) (sequence_counted message.sequence) None
 
-abbrev pub given : Sequence → List FlowSequence
-given Sequence.Absent = []
-given (Sequence.Given sequence) = sequence ∷ []
+abbrev pub given : Option FlowSequence → List FlowSequence
+given None = []
+given (Some sequence) = sequence ∷ []
 
 -- a Channel ID hears of a call what an accepted message states of it; of a refused call, 18 too, nothing
 unfoldable pub heard_by : Call → State → (id : ℕ) → List FlowSequence
@@ -137,7 +137,7 @@ abbrev pub status_through : List Call → State → (id : ℕ) → ℕ → ℕ
 status_through cs s id before = through (λ c t. status_by c t id) cs s before
 
 -- ---- the Context and the Link Instance after a call: only `context` and `link` change them
-unfoldable pub context_by : Call → State → Context → Context
+unfoldable pub context_by : Call → State → Option (ContextBytes × ℕ) → Option (ContextBytes × ℕ)
 context_by (hear datagram out) s before = before
 context_by (status own value out) s before = before
 context_by (queued own bytes out) s before = before
@@ -145,7 +145,7 @@ context_by (context k out) s before = cond (accepted_by (context k out) s) k bef
 context_by (link instance) s before = before
 context_by (tell out) s before = before
 
-unfoldable pub instance_by : Call → State → Instance → Instance
+unfoldable pub instance_by : Call → State → Option (LinkInstanceId × ℕ) → Option (LinkInstanceId × ℕ)
 instance_by (hear datagram out) s before = before
 instance_by (status own value out) s before = before
 instance_by (queued own bytes out) s before = before

@@ -1,4 +1,6 @@
 -- The ways out of a start on words. Assumes nothing.
+use Rattle.quantity.specs.declared.refusal.Refusal.{Refusal}
+use Rattle.std.specs.Prelude.{Result, Ok}
 use Prim.Native.Nat.{ℕ, ◌≤◌, ◌<◌}
 use mathlib.Core.Bool.{Bool, true, false, and-false, and-eq-true_iff}
 use mathlib.Core.List.{List}
@@ -15,7 +17,6 @@ use Rattle.radio_end_state.specs.State.{Configuration, no_setting, fresh_state}
 use Rattle.radio_end_state.specs.Limits.{up_to, stands_first, has_id, ids_fit, count_fits, datalink_fits, setting_fits, settings_fit, setting_ids, allowances_fit, configuration_fits}
 use Rattle.radio_end_state.proofs.UpTo.{up_to_at}
 use Rattle.radio_end_words.specs.Words.{word, words_for, state_words}
-use Rattle.radio_end_start.specs.declared.StartAnswer.{StartAnswer}
 use Rattle.radio_end_start.specs.Start.{CONFIGURED-COUNT, START-ID, configuration_length, start_word, settings_of, configuration_of, kinds_spelled, configuration_readable, configuration_in, starts_in, not_started, StartedIn, Configured, Startable}
 use Rattle.radio_end_start.proofs.Settings.{settings_length}
 use Rattle.radio_end_start.proofs.Walking.{fits_at}
@@ -92,10 +93,10 @@ module _ (w : List ℕ) where
 
   -- ---- the ways out
   module _ (words : List ℕ) (judged : Bool) (is : judged ≡ configuration_fits (configuration_in w)) where
-    refused_start : starts_in w words ≡ false → (r : StartAnswer) → r ≡ not_started OUTSIDE-LIMITS → StartedIn w words r words
+    refused_start : starts_in w words ≡ false → (r : Result (Unit {0}) Refusal) → r ≡ not_started OUTSIDE-LIMITS → StartedIn w words r words
     refused_start e r not-started = record { answer_is = not-started ∙ rw e; words_are = rw e }
 
-    pub begin_unfit : judged ≡ false → (r : StartAnswer) → r ≡ not_started OUTSIDE-LIMITS → StartedIn w words r words
+    pub begin_unfit : judged ≡ false → (r : Result (Unit {0}) Refusal) → r ≡ not_started OUTSIDE-LIMITS → StartedIn w words r words
     unfolding starts_in
     begin_unfit e = refused_start (rw (sym is ∙ e))
 
@@ -103,7 +104,7 @@ module _ (w : List ℕ) where
       fits : configuration_fits (configuration_in w) ≡ true
       fits = sym is ∙ good
 
-      pub begin_words : (length words ≡ words_for counted → ⊥) → (r : StartAnswer) → r ≡ not_started OUTSIDE-LIMITS → StartedIn w words r words
+      pub begin_words : (length words ≡ words_for counted → ⊥) → (r : Result (Unit {0}) Refusal) → r ≡ not_started OUTSIDE-LIMITS → StartedIn w words r words
       unfolding starts_in
       begin_words f = refused_start (rw (count_is fits, ne_eqb (length words) (words_for count) (λ e. f (e ∙ ap words_for (sym counted_is))), and-false))
 
@@ -116,12 +117,12 @@ module _ (w : List ℕ) where
           allowances_are : allowances_fit (configuration_in w).settings ≡ allowed
           allowances_are = ap allowances_fit (settings_are fits ∙ ap (settings_of w) (sym counted_is)) ∙ sym tested
 
-          pub begin_large : allowed ≡ false → (r : StartAnswer) → r ≡ not_started LARGE-ALLOWANCE → StartedIn w words r words
+          pub begin_large : allowed ≡ false → (r : Result (Unit {0}) Refusal) → r ≡ not_started LARGE-ALLOWANCE → StartedIn w words r words
           begin_large e r not-started =
               let large : allowances_fit (configuration_in w).settings ≡ false = allowances_are ∙ e in
               record { answer_is = not-started ∙ rw (starts, large); words_are = rw (starts, large) }
 
-          pub begun : allowed ≡ true → (words' : List ℕ) → words' ≡ state_words (fresh_state (configuration_of w)) → StartedIn w words StartAnswer.Started words'
+          pub begun : allowed ≡ true → (words' : List ℕ) → words' ≡ state_words (fresh_state (configuration_of w)) → StartedIn w words (Ok tt) words'
           begun e words' written =
               let all : allowances_fit (configuration_in w).settings ≡ true = allowances_are ∙ e in
               record { answer_is = rw (starts, all); words_are = rw (starts, all, says w (fits_readable fits)) written }

@@ -1,4 +1,5 @@
 -- Each answer of a start exactly when `AnswersExactly` says so, fact by fact; what a start is made of and leaves; and that two outcomes coincide. Assumes nothing.
+use Rattle.std.specs.Prelude.{Result, Ok, Err}
 use Prim.Native.Nat.{ℕ, zero, suc, ◌+◌, ◌*◌, ◌≤◌, ◌<◌}
 use mathlib.Core.Bool.{Bool, true, false, and-eq-true_iff}
 use mathlib.Core.List.{List, [], ◌∷◌}
@@ -17,7 +18,6 @@ use Rattle.radio_end_state.specs.State.{no_setting, fresh_state}
 use Rattle.radio_end_state.specs.Limits.{up_to, index_of, has_id, stands_first, ids_fit, setting_fits, allowance_fits, settings_fit, setting_ids, allowances_fit, configuration_fits, state_fits}
 use Rattle.radio_end_state.proofs.UpTo.{up_to_at, up_to_by}
 use Rattle.radio_end_words.specs.Words.{CONTROLLED, word, words_for, state_words, state_in}
-use Rattle.radio_end_start.specs.declared.StartAnswer.{StartAnswer}
 use Rattle.radio_end_start.specs.Start.{CONFIGURED-COUNT, START-KIND, start_word, setting_in, settings_of, configuration_of, kinds_spelled, configuration_in, walked, starts_in, not_started, StartedIn}
 use Rattle.radio_end_start.specs.Exactly.{StartsExactly, AllowancesExactly, LargeExactly, AnswersExactly, ConfigurationSays}
 use Rattle.radio_end_start.proofs.Settings.{settings_length, settings_at, numbers_length, number_at}
@@ -65,9 +65,9 @@ up_to_fails test (suc n) e = go (test n) (up_to test n) refl refl (λ g. up_to_f
     go true true f g earlier = clash (sym e ∙ rw (g, f))
     go true false f g earlier = let less = earlier g in record { place = less.place; inside = omega (arith, less.inside); fails = less.fails }
 
-abbrev numbered : StartAnswer → ℕ
-numbered StartAnswer.Started = 0
-numbered (StartAnswer.Refused refusal) = refusal.number
+abbrev numbered : Result (Unit {0}) Refusal → ℕ
+numbered (Ok tt) = 0
+numbered (Err refusal) = refusal.number
 
 -- what a start that is not refused leaves
 pub record StartLeaves (w words' : List ℕ) : Type 0 where
@@ -230,8 +230,8 @@ module _ (w words : List ℕ) where
             absurd (⊎_elim (λ (h : 2147483647 < get_or w (2 + 4 * x.channel + 2) 0). omega (arith, all.watermarks x.channel x.inside)) (λ (h : 2147483647 < get_or w (2 + 4 * x.channel + 3) 0). omega (arith, all.throughputs x.channel x.inside)) x.large)
 
   -- ---- of the call: started, 23 and 19, each exactly when
-  module _ {answer : StartAnswer} {words' : List ℕ} (started : StartedIn w words answer words') where
-    by_way : {X : Type 0} → (starts_in w words ≡ true → allowances_fit (configuration_in w).settings ≡ true → answer ≡ StartAnswer.Started → X)
+  module _ {answer : Result (Unit {0}) Refusal} {words' : List ℕ} (started : StartedIn w words answer words') where
+    by_way : {X : Type 0} → (starts_in w words ≡ true → allowances_fit (configuration_in w).settings ≡ true → answer ≡ Ok tt → X)
         → (starts_in w words ≡ true → allowances_fit (configuration_in w).settings ≡ false → answer ≡ not_started LARGE-ALLOWANCE → X)
         → (starts_in w words ≡ false → answer ≡ not_started OUTSIDE-LIMITS → X) → X
     by_way {X = X} begins large outside = go (starts_in w words) (allowances_fit (configuration_in w).settings) refl refl
@@ -242,7 +242,7 @@ module _ (w words : List ℕ) where
         go false b e f = outside e (started.answer_is ∙ rw e)
 
     -- two answers with other numbers
-    apart_answers : {X : Type 0} (a b : StartAnswer) → answer ≡ a → answer ≡ b → (numbered a ≡ numbered b → ⊥) → X
+    apart_answers : {X : Type 0} (a b : Result (Unit {0}) Refusal) → answer ≡ a → answer ≡ b → (numbered a ≡ numbered b → ⊥) → X
     apart_answers a b e f g = absurd (g (ap numbered (sym e ∙ f)))
 
     pub start_exactly : AnswersExactly w words answer
@@ -256,24 +256,24 @@ module _ (w words : List ℕ) where
     }
 
     -- what a start leaves, and that a refusal is 19 or 23 and leaves every word
-    pub started_leaves : answer ≡ StartAnswer.Started → StartLeaves w words'
+    pub started_leaves : answer ≡ Ok tt → StartLeaves w words'
     started_leaves e = by_way left (λ s t a. apart_answers _ _ e a (λ n. omega arith)) (λ s a. apart_answers _ _ e a (λ n. omega arith))
       where
-        left : starts_in w words ≡ true → allowances_fit (configuration_in w).settings ≡ true → answer ≡ StartAnswer.Started → StartLeaves w words'
+        left : starts_in w words ≡ true → allowances_fit (configuration_in w).settings ≡ true → answer ≡ Ok tt → StartLeaves w words'
         left s t a =
             let words_are : words' ≡ state_words (fresh_state (configuration_in w)) = rw (s, t) at started.words_are in
             let state_is : state_in words' ≡ fresh_state (configuration_in w) = rw words_are (fresh_said (configuration_in w)) in
             record { words_are = words_are; state_is = state_is; state_fits_lem = rw state_is (fresh_fits (configuration_in w) (starts_parts s).0 t) }
 
     -- and the configuration that it is made of
-    pub start_says : answer ≡ StartAnswer.Started → ConfigurationSays w (configuration_in w)
+    pub start_says : answer ≡ Ok tt → ConfigurationSays w (configuration_in w)
     start_says e = by_way (λ s t a. words_say_lem (starts_parts s).0) (λ s t a. apart_answers _ _ e a (λ n. omega arith)) (λ s a. apart_answers _ _ e a (λ n. omega arith))
 
-    pub refused_leaves : (refusal : Refusal) → answer ≡ StartAnswer.Refused refusal
+    pub refused_leaves : (refusal : Refusal) → answer ≡ Err refusal
         → ((refusal ≡ record { number = OUTSIDE-LIMITS; place = 0 }) ⊎ (refusal ≡ record { number = LARGE-ALLOWANCE; place = 0 })) × (words' ≡ words)
     refused_leaves refusal e =
-        by_way (λ s t a. let yes : StartAnswer.Started ≡ StartAnswer.Refused refusal = sym a ∙ e in clash (cc)) (λ s t a. (inr (cc), started.words_are ∙ rw (s, t))) (λ s a. (inl (cc), started.words_are ∙ rw s))
+        by_way (λ s t a. let yes : Ok tt ≡ Err refusal = sym a ∙ e in clash (cc)) (λ s t a. (inr (cc), started.words_are ∙ rw (s, t))) (λ s a. (inl (cc), started.words_are ∙ rw s))
 
 -- ANY TWO OUTCOMES THAT THE CONTRACT ALLOWS COINCIDE
-pub starts_coincide : {w words words' words'' : List ℕ} {answer answer' : StartAnswer} → StartedIn w words answer words' → StartedIn w words answer' words'' → (answer ≡ answer') × (words' ≡ words'')
+pub starts_coincide : {w words words' words'' : List ℕ} {answer answer' : Result (Unit {0}) Refusal} → StartedIn w words answer words' → StartedIn w words answer' words'' → (answer ≡ answer') × (words' ≡ words'')
 starts_coincide h k = (h.answer_is ∙ sym k.answer_is, h.words_are ∙ sym k.words_are)

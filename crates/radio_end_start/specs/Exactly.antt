@@ -1,8 +1,8 @@
 -- Numbers 19 and 23 of a start without an order of tests, and what it starts with, in literal numbers. The configuration has the Datalink ID, the count of channels, and of each channel
 -- its ID, its kind, its watermark and its throughput per period.
-use Rattle.std.specs.Prelude.{ℕ, ◌+◌, ◌*◌, ◌≤◌, ◌<◌, true, false, List, ◌⊎◌, ◌≡◌, length, get_or}
+use Rattle.quantity.specs.declared.refusal.Refusal.{Refusal}
+use Rattle.std.specs.Prelude.{ℕ, ◌+◌, ◌*◌, ◌≤◌, ◌<◌, true, false, List, ◌⊎◌, ◌≡◌, length, get_or, Result, Ok, Err}
 use Rattle.radio_end_state.specs.State.{Configuration, no_setting}
-use Rattle.radio_end_start.specs.declared.StartAnswer.{StartAnswer}
 
 -- not "channel count, ID 255, an ID twice, no channel 0"; words as many as the state's
 pub record StartsExactly (w words : List ℕ) : Type 0 where
@@ -30,13 +30,13 @@ pub record LargeExactly (w : List ℕ) : Type 0 where
   pub large : (2147483647 < get_or w (2 + 4 * channel + 2) 0) ⊎ (2147483647 < get_or w (2 + 4 * channel + 3) 0)
 
 -- EACH ANSWER OF A START, EXACTLY WHEN
-pub record AnswersExactly (w words : List ℕ) (answer : StartAnswer) : Type 0 where
-  pub started : answer ≡ StartAnswer.Started → StartsExactly w words × AllowancesExactly w
-  pub starts : StartsExactly w words → AllowancesExactly w → answer ≡ StartAnswer.Started
-  pub large : answer ≡ StartAnswer.Refused (record { number = 23; place = 0 }) → StartsExactly w words × LargeExactly w
-  pub larges : StartsExactly w words → LargeExactly w → answer ≡ StartAnswer.Refused (record { number = 23; place = 0 })
-  pub outside : answer ≡ StartAnswer.Refused (record { number = 19; place = 0 }) → StartsExactly w words → ⊥
-  pub outsides : (StartsExactly w words → ⊥) → answer ≡ StartAnswer.Refused (record { number = 19; place = 0 })
+pub record AnswersExactly (w words : List ℕ) (answer : Result (Unit {0}) Refusal) : Type 0 where
+  pub started : answer ≡ Ok tt → StartsExactly w words × AllowancesExactly w
+  pub starts : StartsExactly w words → AllowancesExactly w → answer ≡ Ok tt
+  pub large : answer ≡ Err (record { number = 23; place = 0 }) → StartsExactly w words × LargeExactly w
+  pub larges : StartsExactly w words → LargeExactly w → answer ≡ Err (record { number = 23; place = 0 })
+  pub outside : answer ≡ Err (record { number = 19; place = 0 }) → StartsExactly w words → ⊥
+  pub outsides : (StartsExactly w words → ⊥) → answer ≡ Err (record { number = 19; place = 0 })
 
 -- WHAT THE WORDS OF A CONFIGURATION SAY: word 0 is the Datalink ID, word 1 how many channels; of each its ID, its kind (0 plain, 1 flow-controlled), watermark, throughput
 pub record ConfigurationSays (w : List ℕ) (k : Configuration) : Type 0 where

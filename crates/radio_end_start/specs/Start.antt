@@ -1,6 +1,7 @@
 -- A fresh start of the radio's end on words: what the words of a configuration say, and the words that a fresh start leaves. The words are named as in
 -- src/layout.rt, with `-` for `_`.
-use Rattle.std.specs.Prelude.{ℕ, ◌+◌, ◌*◌, ◌≤◌, ◌<◌, Bool, cond, ◌&&◌, List, [], ◌∷◌, ◌≡◌, length, eqb, leb}
+use Rattle.quantity.specs.declared.refusal.Refusal.{Refusal}
+use Rattle.std.specs.Prelude.{ℕ, ◌+◌, ◌*◌, ◌≤◌, ◌<◌, Bool, cond, ◌&&◌, List, [], ◌∷◌, ◌≡◌, length, eqb, leb, Result, Ok, Err}
 use Rattle.facts.specs.Tables.{tabulate}
 use Rattle.quantity.specs.Limits.{MOST-CHANNELS, RESERVED-CHANNEL}
 use Rattle.quantity.specs.Refusals.{OUTSIDE-LIMITS, LARGE-ALLOWANCE}
@@ -9,7 +10,6 @@ use Rattle.radio_end_state.specs.declared.channel.Setting.{Setting}
 use Rattle.radio_end_state.specs.State.{Configuration, fresh_state}
 use Rattle.radio_end_state.specs.Limits.{up_to, ids_fit, settings_fit, setting_ids, allowances_fit, configuration_fits}
 use Rattle.radio_end_words.specs.Words.{CONTROLLED, word, words_for, state_words}
-use Rattle.radio_end_start.specs.declared.StartAnswer.{StartAnswer}
 
 -- ---- a configuration in words: the Datalink ID, the count of channels, then for each channel its ID, its kind, its watermark and its throughput per period
 abbrev pub CONFIGURATION-HEAD : ℕ
@@ -79,12 +79,12 @@ starts_in configuration words = configuration_fits (configuration_in configurati
 abbrev pub begins_in : (configuration words : List ℕ) → Bool
 begins_in configuration words = starts_in configuration words && allowances_fit (configuration_in configuration).settings
 
-abbrev pub not_started : (number : ℕ) → StartAnswer
-not_started number = StartAnswer.Refused (record { number = number; place = 0 })
+abbrev pub not_started : (number : ℕ) → Result (Unit {0}) Refusal
+not_started number = Err (record { number = number; place = 0 })
 
 -- THE CONTRACT OF A START ON WORDS: a refusal "changes no state and no lent byte"
-pub record StartedIn (configuration words : List ℕ) (answer : StartAnswer) (words' : List ℕ) : Type 0 where
-  pub answer_is : answer ≡ cond (starts_in configuration words) (cond (allowances_fit (configuration_in configuration).settings) StartAnswer.Started (not_started LARGE-ALLOWANCE)) (not_started OUTSIDE-LIMITS)
+pub record StartedIn (configuration words : List ℕ) (answer : Result (Unit {0}) Refusal) (words' : List ℕ) : Type 0 where
+  pub answer_is : answer ≡ cond (starts_in configuration words) (cond (allowances_fit (configuration_in configuration).settings) (Ok tt) (not_started LARGE-ALLOWANCE)) (not_started OUTSIDE-LIMITS)
   pub words_are : words' ≡ cond (begins_in configuration words) (state_words (fresh_state (configuration_in configuration))) words
 
 -- ---- what the pass over the channels of a configuration gives

@@ -3,7 +3,7 @@ ghost use Rattle.std.specs.Prelude.{◌≡◌, ◌++◌, map, ◌≤◌, ◌<◌
 ghost use Rattle.radio_end_state.specs.Channel.{fresh_channel};
 ghost use Rattle.radio_end_state.specs.State.{fresh_state};
 ghost use Rattle.radio_end_words.specs.Words.{HEAD, words_for, slots_of, state_words};
-ghost use Rattle.radio_end_start.specs.Start.{setting_with, settings_of, configuration_of, fresh_head, Startable};
+ghost use Rattle.radio_end_start.specs.Start.{setting_in, settings_of, configuration_of, fresh_head, Startable};
 
 use crate::layout::{
     CONFIGURATION_HEAD, CONFIGURATION_SLOT, CONFIGURED_DATALINK, START_ID, START_KIND,
@@ -17,7 +17,6 @@ use radio_end_words::layout::{
     INSTANCE_LENGTH, INSTANCE_TAG, INSTANCE_VALUE, SLOT,
 };
 use radio_end_words::{layout, slot};
-use radio_flow::Highest;
 
 // The radio's own words: no Link Instance and no Context.
 fn write_head(words: &mut [u64], datalink: u64, count: u64)
@@ -34,22 +33,24 @@ fn write_head(words: &mut [u64], datalink: u64, count: u64)
     words[CONTEXT_LENGTH] = 0;
 }
 
-// Status 0, nothing queued, no sequence heard.
-fn channel_of(id: u64, kind: u64, watermark: u64, throughput: u64) -> Channel
-    requires { id < 256 }
-    ensures { result ≡ fresh_channel (setting_with id kind watermark throughput) }
+// The channel at an index of the configuration: status 0, nothing queued, no sequence heard.
+fn channel_at(configuration: &[u64], count: usize, index: usize) -> Channel
+    requires startable { Startable configuration.now count }
+    requires below { index < count }
+    ensures { result ≡ fresh_channel (setting_in configuration.now index) }
 {
+    let from = CONFIGURATION_HEAD + CONFIGURATION_SLOT * index;
     let setting = Setting {
-        id: id as u8,
-        controlled: kind == CONTROLLED,
-        watermark: ByteCount(slot::narrow(watermark)),
-        throughput: ByteCount(slot::narrow(throughput)),
+        id: configuration[from + START_ID] as u8,
+        controlled: configuration[from + START_KIND] == CONTROLLED,
+        watermark: ByteCount(configuration[from + START_WATERMARK] as usize),
+        throughput: ByteCount(configuration[from + START_THROUGHPUT] as usize),
     };
     Channel {
         setting,
         status: 0,
         queued: ByteCount(0),
-        highest: Highest::Unheard,
+        highest: None,
     }
 }
 
@@ -58,20 +59,11 @@ fn write_channels(words: &mut [u64], configuration: &[u64], count: usize)
     requires { (length words.old ≡ words_for count) × Startable configuration.now count }
     ensures { words.new ≡ take HEAD words.old ++ slots_of (map fresh_channel (settings_of configuration.now count)) }
 {
-    let mut at = 0;
-    let mut from = CONFIGURATION_HEAD;
-    let mut to = layout::HEAD;
-    while at < count {
-        let id = configuration[from + START_ID];
-        let kind = configuration[from + START_KIND];
-        let watermark = configuration[from + START_WATERMARK];
-        let throughput = configuration[from + START_THROUGHPUT];
-        let channel = channel_of(id, kind, watermark, throughput);
-        let end = to + SLOT;
-        slot::save(&mut words[to..end], channel);
-        at += 1;
-        from += CONFIGURATION_SLOT;
-        to = end;
+    for index in 0..count {
+        let channel = channel_at(configuration, count, index);
+        let from = layout::HEAD + SLOT * index;
+        let to = from + SLOT;
+        slot::save(&mut words[from..to], channel);
     }
 }
 
@@ -80,6 +72,6 @@ pub(crate) fn write(words: &mut [u64], configuration: &[u64], count: usize)
     requires { (length words.old ≡ words_for count) × Startable configuration.now count }
     ensures { words.new ≡ state_words (fresh_state (configuration_of configuration.now)) }
 {
-    write_head(words, configuration[CONFIGURED_DATALINK], slot::wide(count));
+    write_head(words, configuration[CONFIGURED_DATALINK], count as u64);
     write_channels(words, configuration, count);
 }

@@ -1,9 +1,9 @@
 // A configuration in words: number 19, then 23.
-ghost use Rattle.std.specs.Prelude.{◌≡◌, ◌&&◌, leb, ltb};
+ghost use Rattle.std.specs.Prelude.{◌≡◌, ◌&&◌, ◌+◌, ◌≤◌, length, leb, ltb};
 ghost use Rattle.quantity.specs.Limits.{RESERVED-CHANNEL, MOST-ALLOWANCE};
-ghost use Rattle.radio_end_state.specs.Limits.{index_of, setting_ids, allowances_fit, configuration_fits};
+ghost use Rattle.radio_end_state.specs.Limits.{allowances_fit, configuration_fits};
 ghost use Rattle.radio_end_words.specs.Words.{CONTROLLED};
-ghost use Rattle.radio_end_start.specs.Start.{settings_of, configuration_in, walked, Configured};
+ghost use Rattle.radio_end_start.specs.Start.{CONFIGURATION-SLOT, START-ID, START-KIND, START-WATERMARK, START-THROUGHPUT, configuration_length, start_word, settings_of, configuration_in, walked, Configured};
 
 use crate::layout::{
     CONFIGURATION_HEAD, CONFIGURATION_SLOT, CONFIGURED_COUNT, CONFIGURED_DATALINK, START_ID,
@@ -11,54 +11,28 @@ use crate::layout::{
 };
 use quantity::limit;
 use quantity::limit::{FEWEST_CHANNELS, MOST_CHANNELS};
-use radio_end_words::{layout, slot};
+use radio_end_words::{layout, rows};
 
 // A Datalink ID is a byte.
 const BYTE_VALUES: u64 = 256;
 
-// The first channel with this ID; behind the last, if there is none.
-fn index_of(configuration: &[u64], count: usize, id: u64) -> usize
-    requires { Configured configuration.now count }
-    ensures { result ≡ index_of id (setting_ids (settings_of configuration.now count)) }
+// Whether the channel at an index has a kind that there is, and an ID that is not reserved.
+fn setting_fits(configuration: &[u64], index: usize) -> bool
+    requires { configuration_length index + CONFIGURATION-SLOT ≤ length configuration.now }
+    ensures { result ≡ (leb (start_word configuration.now index START-KIND) CONTROLLED && ltb (start_word configuration.now index START-ID) RESERVED-CHANNEL) }
 {
-    let mut at = 0;
-    let mut from = CONFIGURATION_HEAD;
-    while at < count {
-        if configuration[from + START_ID] == id {
-            return at;
-        }
-        at += 1;
-        from += CONFIGURATION_SLOT;
-    }
-    at
+    let from = CONFIGURATION_HEAD + CONFIGURATION_SLOT * index;
+    configuration[from + START_KIND] <= layout::CONTROLLED
+        && configuration[from + START_ID] < limit::RESERVED_CHANNEL as u64
 }
 
-// A kind that there is, and an ID that is not reserved.
-fn setting_fits(kind: u64, id: u64) -> bool
-    ensures { result ≡ (leb kind CONTROLLED && ltb id RESERVED-CHANNEL) }
-{
-    kind <= layout::CONTROLLED && id < limit::RESERVED_CHANNEL as u64
-}
-
-// The channels one after another: an ID that stands before is there twice.
+// The channels one after another, and each ID at its first place.
 fn walk(configuration: &[u64], count: usize) -> bool
     requires { Configured configuration.now count }
     ensures { result ≡ walked configuration.now count }
 {
-    let mut at = 0;
-    let mut from = CONFIGURATION_HEAD;
-    while at < count {
-        let id = configuration[from + START_ID];
-        if !setting_fits(configuration[from + START_KIND], id) {
-            return false;
-        }
-        if index_of(configuration, count, id) != at {
-            return false;
-        }
-        at += 1;
-        from += CONFIGURATION_SLOT;
-    }
-    index_of(configuration, count, 0) < count
+    (0..count).all(|index| setting_fits(configuration, index))
+        && rows::ids_fit::<CONFIGURATION_HEAD, CONFIGURATION_SLOT>(configuration, count)
 }
 
 // Number 19. The count is judged before it is multiplied.
@@ -68,7 +42,7 @@ pub fn fits(configuration: &[u64]) -> bool
     if configuration.len() < CONFIGURATION_HEAD {
         return false;
     }
-    let count = slot::narrow(configuration[CONFIGURED_COUNT]);
+    let count = configuration[CONFIGURED_COUNT] as usize;
     if count < FEWEST_CHANNELS {
         return false;
     }
@@ -84,10 +58,14 @@ pub fn fits(configuration: &[u64]) -> bool
     walk(configuration, count)
 }
 
-fn allowance_fits(watermark: u64, throughput: u64) -> bool
-    ensures { result ≡ (leb watermark MOST-ALLOWANCE && leb throughput MOST-ALLOWANCE) }
+// Whether watermark and throughput of the channel at an index are within the limit.
+fn allowance_fits(configuration: &[u64], index: usize) -> bool
+    requires { configuration_length index + CONFIGURATION-SLOT ≤ length configuration.now }
+    ensures { result ≡ (leb (start_word configuration.now index START-WATERMARK) MOST-ALLOWANCE && leb (start_word configuration.now index START-THROUGHPUT) MOST-ALLOWANCE) }
 {
-    watermark <= limit::MOST_ALLOWANCE as u64 && throughput <= limit::MOST_ALLOWANCE as u64
+    let from = CONFIGURATION_HEAD + CONFIGURATION_SLOT * index;
+    configuration[from + START_WATERMARK] <= limit::MOST_ALLOWANCE as u64
+        && configuration[from + START_THROUGHPUT] <= limit::MOST_ALLOWANCE as u64
 }
 
 // Number 23, of plain channels too.
@@ -95,17 +73,5 @@ pub fn allowances_fit(configuration: &[u64], count: usize) -> bool
     requires { Configured configuration.now count }
     ensures { result ≡ allowances_fit (settings_of configuration.now count) }
 {
-    let mut at = 0;
-    let mut from = CONFIGURATION_HEAD;
-    while at < count {
-        if !allowance_fits(
-            configuration[from + START_WATERMARK],
-            configuration[from + START_THROUGHPUT],
-        ) {
-            return false;
-        }
-        at += 1;
-        from += CONFIGURATION_SLOT;
-    }
-    true
+    (0..count).all(|index| allowance_fits(configuration, index))
 }

@@ -8,33 +8,25 @@ use crate::layout::CONFIGURED_COUNT;
 use quantity::refusal;
 use quantity::refusal::Refusal;
 use radio_end_words::layout::{HEAD, SLOT};
-use radio_end_words::slot;
 
 mod fresh;
 mod judge;
 pub mod layout;
 
-// 19 or 23, or the state has started.
-#[derive(Clone, Copy)]
-pub enum StartAnswer {
-    Started,
-    Refused(Refusal),
-}
-
-fn refused(number: u8) -> StartAnswer
+fn refused(number: u8) -> Result<(), Refusal>
     ensures { result ≡ not_started number }
 {
-    StartAnswer::Refused(Refusal { number, place: 0 })
+    Err(Refusal { number, place: 0 })
 }
 
 // 19, then 23, before anything is written; else the words of the fresh state. What stood in the words does not matter.
-pub fn start(words: &mut [u64], configuration: &[u64]) -> StartAnswer
+pub fn start(words: &mut [u64], configuration: &[u64]) -> Result<(), Refusal>
     ensures { StartedIn configuration.now words.old result words.new }
 {
     if !judge::fits(configuration) {
         return refused(refusal::OUTSIDE_LIMITS);
     }
-    let count = slot::narrow(configuration[CONFIGURED_COUNT]);
+    let count = configuration[CONFIGURED_COUNT] as usize;
     if words.len() != HEAD + SLOT * count {
         return refused(refusal::OUTSIDE_LIMITS);
     }
@@ -42,5 +34,5 @@ pub fn start(words: &mut [u64], configuration: &[u64]) -> StartAnswer
         return refused(refusal::LARGE_ALLOWANCE);
     }
     fresh::write(words, configuration, count);
-    StartAnswer::Started
+    Ok(())
 }

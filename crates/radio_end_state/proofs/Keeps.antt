@@ -1,4 +1,8 @@
 -- A refusal leaves state and output as they were. Assumes nothing.
+use Rattle.std.specs.Prelude.{Option, Result, Ok, Err}
+use Rattle.quantity.specs.declared.count.LinkInstanceId.{LinkInstanceId}
+use Rattle.meaning.specs.declared.message.ContextBytes.{ContextBytes}
+use Rattle.meaning.specs.declared.message.Plane.{Plane}
 use Prim.Native.Nat.{ℕ}
 use mathlib.Core.Bool.{Bool, true, false, cond}
 use mathlib.Core.List.{List}
@@ -10,12 +14,9 @@ use Rattle.quantity.specs.declared.count.ByteCount.{ByteCount}
 use Rattle.quantity.specs.declared.refusal.Refusal.{Refusal}
 use Rattle.quantity.specs.Limits.{HIGHEST-STATUS}
 use Rattle.meaning.specs.declared.message.End.TheVariants as ends
-use Rattle.meaning.specs.declared.message.Instance.{Instance}
-use Rattle.meaning.specs.declared.message.Context.{Context}
 use Rattle.writable.specs.Allowed.{instance_allowed, context_allowed}
 use Rattle.writer.specs.Written.{no_room_of}
 use Rattle.reader.specs.Readings.{Verdict, read_control, read_data, plane_of}
-use Rattle.reader.specs.declared.answer.PlaneAnswer.{PlaneAnswer}
 use Rattle.radio_end_state.specs.declared.answer.Answer.{Answer}
 use Rattle.radio_end_state.specs.State.{State}
 use Rattle.radio_end_state.specs.Limits.{state_fits, is_configured}
@@ -34,16 +35,16 @@ module _ (s : State) (out : List ℕ) where
   quiet : (after : State) → Keeps s out (quietly after out)
   quiet after refusal e = clash (cc)
 
-  tells : (say : ByteCount → Answer) → ((n : ByteCount) (refusal : Refusal) → say n ≡ Answer.Refused refusal → ⊥) → (after : State) → Keeps s out (telling say s after out)
+  tells : (say : ByteCount → Result Answer Refusal) → ((n : ByteCount) (refusal : Refusal) → say n ≡ Err refusal → ⊥) → (after : State) → Keeps s out (telling say s after out)
   unfolding telling
   tells say speaks after = either (no_room_of (length (message_bytes after)) (length out)) (refused _) (λ refusal e. absurd (speaks _ refusal e))
 
-  answers : (after : State) → Keeps s out (telling (λ n. Answer.Answered n) s after out)
-  answers = tells (λ n. Answer.Answered n) (λ n refusal e. clash (cc))
+  answers : (after : State) → Keeps s out (telling (λ n. Ok (Answer.Answered n)) s after out)
+  answers = tells (λ n. Ok (Answer.Answered n)) (λ n refusal e. clash (cc))
 
   settles : (after : State) → Keeps s out (settling s after out)
   unfolding settling
-  settles after = either (differs s after) (tells (λ n. Answer.Unasked n) (λ n refusal e. clash (cc)) after) (quiet after)
+  settles after = either (differs s after) (tells (λ n. Ok (Answer.Unasked n)) (λ n refusal e. clash (cc)) after) (quiet after)
 
   -- ---- the six calls
   status_keeps : (id value : ℕ) → Keeps s out (status_told s id value out)
@@ -55,11 +56,11 @@ module _ (s : State) (out : List ℕ) where
   unfolding queued_told
   queued_keeps id bytes = either (state_fits s) (either (is_configured s id) (settles _) (refused _)) (refused _)
 
-  context_keeps : (context : Context) → Keeps s out (context_told s context out)
+  context_keeps : (context : Option (ContextBytes × ℕ)) → Keeps s out (context_told s context out)
   unfolding context_told
   context_keeps context = either (state_fits s) (either (context_allowed ends.Radio context) (settles _) (refused _)) (refused _)
 
-  link_keeps : (instance : Instance) → Keeps s out (link_told s instance out)
+  link_keeps : (instance : Option (LinkInstanceId × ℕ)) → Keeps s out (link_told s instance out)
   unfolding link_told
   link_keeps instance = either (state_fits s) (either (instance_allowed ends.Radio instance) (quiet _) (refused _)) (refused _)
 
@@ -72,10 +73,10 @@ module _ (s : State) (out : List ℕ) where
   by_verdict_lem Verdict.OtherPlane k = quiet s
   by_verdict_lem (Verdict.Refused refusal) k = refused refusal
 
-  by_plane_lem : (p : PlaneAnswer) {control carried : After} → Keeps s out control → Keeps s out carried → Keeps s out (by_plane p s out control carried)
-  by_plane_lem PlaneAnswer.Control k l = k
-  by_plane_lem PlaneAnswer.Data k l = l
-  by_plane_lem (PlaneAnswer.Refused refusal) k l = refused refusal
+  by_plane_lem : (p : Result Plane Refusal) {control carried : After} → Keeps s out control → Keeps s out carried → Keeps s out (by_plane p s out control carried)
+  by_plane_lem (Ok Plane.Control) k l = k
+  by_plane_lem (Ok Plane.Data) k l = l
+  by_plane_lem (Err refusal) k l = refused refusal
 
   heard_keeps : (datagram : List ℕ) → Keeps s out (heard s datagram out)
   unfolding heard control_heard data_heard

@@ -1,24 +1,21 @@
 -- Document 02, §3: each call as a function of the state and the output, its answer, the state and every byte of the output afterwards. A refusal leaves state and
 -- output as they were.
-use Rattle.std.specs.Prelude.{ℕ, Bool, true, false, cond, not, ◌||◌, List, map, length, get_or, leb}
+use Rattle.quantity.specs.declared.count.LinkInstanceId.{LinkInstanceId}
+use Rattle.quantity.specs.declared.count.FlowSequence.{FlowSequence}
+use Rattle.meaning.specs.declared.message.ContextBytes.{ContextBytes}
+use Rattle.meaning.specs.declared.message.Plane.{Plane}
+use Rattle.std.specs.Prelude.{ℕ, Bool, true, false, cond, not, ◌||◌, List, map, length, get_or, leb, Option, Some, None, Result, Ok, Err}
 use Rattle.quantity.specs.declared.count.ByteCount.{ByteCount}
 use Rattle.quantity.specs.declared.refusal.Refusal.{Refusal}
 use Rattle.quantity.specs.Limits.{CHANNEL-IDS, HIGHEST-STATUS}
 use Rattle.quantity.specs.Refusals.{NO-CHANNEL, NO-ROOM, OUTSIDE-LIMITS, NOT-WRITABLE}
 use Rattle.wire.specs.Options.{over}
 use Rattle.meaning.specs.declared.message.End.TheVariants as ends
-use Rattle.meaning.specs.declared.message.Instance.{Instance}
-use Rattle.meaning.specs.declared.message.Context.{Context}
-use Rattle.meaning.specs.declared.message.Sequence.{Sequence}
-use Rattle.meaning.specs.declared.message.Counted.{Counted}
-use Rattle.meaning.specs.declared.message.Channel as named
 use Rattle.meaning.specs.declared.message.Control.{Control}
 use Rattle.meaning.specs.declared.message.Data.{Data}
-use Rattle.meaning.specs.Cells.{no_sequence}
 use Rattle.writable.specs.Allowed.{instance_allowed, context_allowed}
 use Rattle.writer.specs.Written.{no_room_of}
 use Rattle.reader.specs.Readings.{Verdict, ControlReading, DataReading, read_control, read_data, plane_of, packet_of}
-use Rattle.reader.specs.declared.answer.PlaneAnswer.{PlaneAnswer}
 use Rattle.radio_end_state.specs.declared.answer.Answer.{Answer}
 use Rattle.radio_end_state.specs.declared.channel.Channel.{Channel}
 use Rattle.radio_end_state.specs.Channel.{hearing_on, queueing, with_queued, with_status}
@@ -28,28 +25,28 @@ use Rattle.radio_end_state.specs.Message.{message_bytes, differs}
 
 -- what a call comes to
 pub record After : Type 0 where
-  pub answer : Answer
+  pub answer : Result Answer Refusal
   pub state : State
   pub output : List ℕ
 
 abbrev pub refused_at : Refusal → State → List ℕ → After
-refused_at refusal s out = record { answer = Answer.Refused refusal; state = s; output = out }
+refused_at refusal s out = record { answer = Err refusal; state = s; output = out }
 
 abbrev pub refused_by : ℕ → State → List ℕ → After
 refused_by number s out = refused_at (record { number = number; place = 0 }) s out
 
 -- ---- "there is a message to write": the message of the state afterwards, or 18, and then the state is that before
-unfoldable pub telling : (say : ByteCount → Answer) (before after : State) (out : List ℕ) → After
+unfoldable pub telling : (say : ByteCount → Result Answer Refusal) (before after : State) (out : List ℕ) → After
 telling say before after out =
     cond (no_room_of (length (message_bytes after)) (length out)) (refused_by NO-ROOM before out)
     (record { answer = say (record { 0 = length (message_bytes after) }); state = after; output = over (message_bytes after) out })
 
 abbrev pub quietly : State → List ℕ → After
-quietly s out = record { answer = Answer.Quiet; state = s; output = out }
+quietly s out = record { answer = Ok Answer.Quiet; state = s; output = out }
 
 -- a change is made, and the message written where a status, the Context or a window differs from before
 unfoldable pub settling : (before after : State) (out : List ℕ) → After
-settling before after out = cond (differs before after) (telling (λ n. Answer.Unasked n) before after out) (quietly after out)
+settling before after out = cond (differs before after) (telling (λ n. Ok (Answer.Unasked n)) before after out) (quietly after out)
 
 -- one channel becomes another
 abbrev pub changing : State → ℕ → (Channel → Channel) → List ℕ → After
@@ -76,26 +73,26 @@ status_told s id value out =
 unfoldable pub queued_told : State → (id : ℕ) (bytes : ByteCount) → List ℕ → After
 queued_told s id bytes out = within s out (configured s id out (changing s (index_in s id) (λ c. with_queued c bytes) out))
 
-unfoldable pub context_told : State → Context → List ℕ → After
+unfoldable pub context_told : State → Option (ContextBytes × ℕ) → List ℕ → After
 context_told s context out = within s out (writable (context_allowed ends.Radio context) s out (settling s (with_context s context) out))
 
 -- "Link Instance: kept without a message"
-unfoldable pub link_told : State → Instance → List ℕ → After
+unfoldable pub link_told : State → Option (LinkInstanceId × ℕ) → List ℕ → After
 link_told s instance out = within s out (writable (instance_allowed ends.Radio instance) s out (quietly (with_instance s instance) out))
 
 -- "Tell(output): the message as it stands, changes nothing: 19, 18."
 unfoldable pub told : State → List ℕ → After
-told s out = within s out (telling (λ n. Answer.Answered n) s s out)
+told s out = within s out (telling (λ n. Ok (Answer.Answered n)) s s out)
 
 -- ---- HEAR: 19, then 1 to 11 as the reader of the IPS end, then 12, then 18
 
 -- what a control message states of a Channel ID
-unfoldable pub sequence_in : Control → ℕ → Sequence
-sequence_in message id = (get_or message.sequences id no_sequence).sequence
+unfoldable pub sequence_in : Control → ℕ → Option FlowSequence
+sequence_in message id = (get_or message.sequences id None)
 
-abbrev pub is_stated : Sequence → Bool
-is_stated Sequence.Absent = false
-is_stated (Sequence.Given sequence) = true
+abbrev pub is_stated : Option FlowSequence → Bool
+is_stated None = false
+is_stated (Some sequence) = true
 
 -- it names no channel that is lacking
 abbrev pub names_own : State → Control → ℕ → Bool
@@ -111,16 +108,16 @@ hearing_all s message = with_channels s (map (λ (c : Channel). hearing_on c (se
 -- "A control message is always answered, with windows as they are after hearing"
 unfoldable pub control_heard : State → Control → List ℕ → After
 control_heard s message out =
-    cond (lacks_none s message) (telling (λ n. Answer.Answered n) s (hearing_all s message) out) (refused_by NO-CHANNEL s out)
+    cond (lacks_none s message) (telling (λ n. Ok (Answer.Answered n)) s (hearing_all s message) out) (refused_by NO-CHANNEL s out)
 
 -- "a data message without one names channel 0"
-abbrev pub channel_named : named.Channel → ℕ
-channel_named named.Channel.Absent = 0
-channel_named (named.Channel.Given id) = id
+abbrev pub channel_named : Option ℕ → ℕ
+channel_named None = 0
+channel_named (Some id) = id
 
-abbrev pub sequence_counted : Counted → Sequence
-sequence_counted Counted.Absent = Sequence.Absent
-sequence_counted (Counted.Given id sequence) = Sequence.Given sequence
+abbrev pub sequence_counted : Option (ℕ × FlowSequence) → Option FlowSequence
+sequence_counted None = None
+sequence_counted (Some (id, sequence)) = Some sequence
 
 -- its Flow Sequence is heard and its packet queued
 unfoldable pub data_on : Data → ByteCount → Channel → Channel
@@ -136,10 +133,10 @@ by_verdict Verdict.Accepted s out accepted = accepted
 by_verdict Verdict.OtherPlane s out accepted = quietly s out
 by_verdict (Verdict.Refused refusal) s out accepted = refused_at refusal s out
 
-abbrev pub by_plane : PlaneAnswer → State → List ℕ → (control data' : After) → After
-by_plane PlaneAnswer.Control s out control data' = control
-by_plane PlaneAnswer.Data s out control data' = data'
-by_plane (PlaneAnswer.Refused refusal) s out control data' = refused_at refusal s out
+abbrev pub by_plane : Result Plane Refusal → State → List ℕ → (control data' : After) → After
+by_plane (Ok Plane.Control) s out control data' = control
+by_plane (Ok Plane.Data) s out control data' = data'
+by_plane (Err refusal) s out control data' = refused_at refusal s out
 
 abbrev pub control_read : State → ControlReading → List ℕ → After
 control_read s reading out = by_verdict reading.verdict s out (control_heard s reading.message out)

@@ -1,10 +1,10 @@
 -- Number 19 of the radio's end, and 23: "watermark or throughput above 2^31 - 1, tested in configuration after 19"; in a state both are 19.
-use Rattle.std.specs.Prelude.{ℕ, zero, suc, ◌^◌, Bool, true, cond, ◌&&◌, List, [], ◌∷◌, map, length, get_or, eqb, leb, ltb}
+use Rattle.quantity.specs.declared.count.FlowSequence.{FlowSequence}
+use Rattle.std.specs.Prelude.{ℕ, zero, suc, ◌^◌, Bool, true, cond, ◌&&◌, List, [], ◌∷◌, map, length, get_or, eqb, leb, ltb, Option, Some, None}
 use Rattle.quantity.specs.declared.count.DatalinkId.{DatalinkId}
 use Rattle.quantity.specs.Limits.{FEWEST-CHANNELS, MOST-CHANNELS, RESERVED-CHANNEL, HIGHEST-STATUS, MOST-ALLOWANCE}
 use Rattle.meaning.specs.declared.message.End.TheVariants as ends
 use Rattle.writable.specs.Allowed.{instance_allowed, context_allowed}
-use Rattle.radio_flow.specs.declared.Highest.{Highest}
 use Rattle.radio_end_state.specs.declared.channel.Setting.{Setting}
 use Rattle.radio_end_state.specs.declared.channel.Channel.{Channel}
 use Rattle.radio_end_state.specs.State.{Configuration, State, no_setting, no_channel}
@@ -46,9 +46,9 @@ abbrev pub allowance_fits : Setting → Bool
 allowance_fits k = leb k.watermark.0 MOST-ALLOWANCE && leb k.throughput.0 MOST-ALLOWANCE
 
 -- ---- a channel: "a status above 15"; a sequence is a number of 32 bits
-abbrev pub highest_fits : Highest → Bool
-highest_fits Highest.Unheard = true
-highest_fits (Highest.At sequence) = ltb sequence.0 (2 ^ 32)
+abbrev pub highest_fits : Option FlowSequence → Bool
+highest_fits None = true
+highest_fits (Some sequence) = ltb sequence.0 (2 ^ 32)
 
 unfoldable pub channel_fits : Channel → Bool
 channel_fits c = setting_fits c.setting && (allowance_fits c.setting && (leb c.status HIGHEST-STATUS && highest_fits c.highest))

@@ -1,9 +1,8 @@
 -- The state of the radio's end, its configuration, and the fresh start that it makes.
-use Rattle.std.specs.Prelude.{ℕ, false, List, [], map, set, get_or}
+use Rattle.quantity.specs.declared.count.LinkInstanceId.{LinkInstanceId}
+use Rattle.meaning.specs.declared.message.ContextBytes.{ContextBytes}
+use Rattle.std.specs.Prelude.{ℕ, false, List, [], map, set, get_or, Option, None}
 use Rattle.quantity.specs.declared.count.DatalinkId.{DatalinkId}
-use Rattle.meaning.specs.declared.message.Instance.{Instance}
-use Rattle.meaning.specs.declared.message.Context.{Context}
-use Rattle.radio_flow.specs.declared.Highest.{Highest}
 use Rattle.radio_end_state.specs.declared.channel.Setting.{Setting}
 use Rattle.radio_end_state.specs.declared.channel.Channel.{Channel}
 use Rattle.radio_end_state.specs.Channel.{fresh_channel}
@@ -17,15 +16,15 @@ pub record Configuration : Type 0 where
 pub record State : Type 0 where
   pub datalink : DatalinkId
   pub channels : List Channel
-  pub instance : Instance
-  pub context : Context
+  pub instance : Option (LinkInstanceId × ℕ)
+  pub context : Option (ContextBytes × ℕ)
 
 -- what an index past the end gives
 abbrev pub no_setting : Setting
 no_setting = record { id = 0; controlled = false; watermark = record { 0 = 0 }; throughput = record { 0 = 0 } }
 
 abbrev pub no_channel : Channel
-no_channel = record { setting = no_setting; status = 0; queued = record { 0 = 0 }; highest = Highest.Unheard }
+no_channel = record { setting = no_setting; status = 0; queued = record { 0 = 0 }; highest = None }
 
 unfoldable pub channel_at : State → ℕ → Channel
 channel_at s index = get_or s.channels index no_channel
@@ -37,16 +36,16 @@ with_channels s channels = record { datalink = s.datalink; channels = channels; 
 unfoldable pub with_channel : State → ℕ → Channel → State
 with_channel s index c = with_channels s (set s.channels index c)
 
-unfoldable pub with_context : State → Context → State
+unfoldable pub with_context : State → Option (ContextBytes × ℕ) → State
 with_context s context = record { datalink = s.datalink; channels = s.channels; instance = s.instance; context = context }
 
-unfoldable pub with_instance : State → Instance → State
+unfoldable pub with_instance : State → Option (LinkInstanceId × ℕ) → State
 with_instance s instance = record { datalink = s.datalink; channels = s.channels; instance = instance; context = s.context }
 
 -- ---- a fresh start
 unfoldable pub fresh_state : Configuration → State
-fresh_state k = record { datalink = k.datalink; channels = map fresh_channel k.settings; instance = Instance.Absent; context = Context.Absent }
+fresh_state k = record { datalink = k.datalink; channels = map fresh_channel k.settings; instance = None; context = None }
 
 -- ---- no channel at all, which every call refuses
 unfoldable pub blank_state : State
-blank_state = record { datalink = record { 0 = 0 }; channels = []; instance = Instance.Absent; context = Context.Absent }
+blank_state = record { datalink = record { 0 = 0 }; channels = []; instance = None; context = None }

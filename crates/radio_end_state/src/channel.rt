@@ -2,9 +2,8 @@
 ghost use Rattle.std.specs.Prelude.{◌≡◌};
 ghost use Rattle.radio_end_state.specs.Channel.{window_now, hearing_on, queueing, with_queued, with_status, channel_differs};
 
-use meaning::message::{Sequence, Window};
-use quantity::count::ByteCount;
-use radio_flow::Highest;
+use meaning::message::Window;
+use quantity::count::{ByteCount, FlowSequence};
 
 // A channel's configuration: watermark and throughput per period in bytes.
 #[derive(Clone, Copy)]
@@ -20,72 +19,45 @@ pub struct Channel {
     pub setting: Setting,
     pub status: u8,
     pub queued: ByteCount,
-    pub highest: Highest,
+    pub highest: Option<FlowSequence>,
 }
 
 // The Flow Window as it stands.
-pub fn window(channel: Channel) -> Window
+pub fn window(channel: Channel) -> Option<Window>
     ensures { result ≡ window_now channel }
 {
     let setting = channel.setting;
-    let watermark = setting.watermark;
-    let throughput = setting.throughput;
-    let queued = channel.queued;
-    let highest = channel.highest;
-    let allowance = radio_flow::allowance(watermark, throughput, queued);
-    radio_flow::window(setting.controlled, highest, allowance)
+    let allowance = radio_flow::allowance(setting.watermark, setting.throughput, channel.queued);
+    radio_flow::window(setting.controlled, channel.highest, allowance)
 }
 
 // The channel after what a message states of it.
-pub fn hear(channel: Channel, stated: Sequence) -> Channel
+pub fn hear(channel: Channel, stated: Option<FlowSequence>) -> Channel
     ensures { result ≡ hearing_on channel stated }
 {
     let setting = channel.setting;
-    let queued = channel.queued;
-    let before = channel.highest;
-    let highest = radio_flow::heard(setting.controlled, before, stated);
-    Channel {
-        setting,
-        status: channel.status,
-        queued,
-        highest,
-    }
+    let highest = radio_flow::heard(setting.controlled, channel.highest, stated);
+    Channel { highest, ..channel }
 }
 
 // The bytes queued are set.
 pub fn with_queued(channel: Channel, queued: ByteCount) -> Channel
     ensures { result ≡ with_queued channel queued }
 {
-    let setting = channel.setting;
-    let highest = channel.highest;
-    Channel {
-        setting,
-        status: channel.status,
-        queued,
-        highest,
-    }
+    Channel { queued, ..channel }
 }
 
 // A packet of so many bytes is queued.
 pub fn queue(channel: Channel, bytes: ByteCount) -> Channel
     ensures { result ≡ queueing channel bytes }
 {
-    let before = channel.queued;
-    with_queued(channel, radio_flow::queue(before, bytes))
+    with_queued(channel, radio_flow::queue(channel.queued, bytes))
 }
 
 pub fn with_status(channel: Channel, status: u8) -> Channel
     ensures { result ≡ with_status channel status }
 {
-    let setting = channel.setting;
-    let queued = channel.queued;
-    let highest = channel.highest;
-    Channel {
-        setting,
-        status,
-        queued,
-        highest,
-    }
+    Channel { status, ..channel }
 }
 
 // Whether a status or a window differs from before.

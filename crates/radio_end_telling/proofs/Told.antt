@@ -1,4 +1,7 @@
 -- The calls of the radio's own side, each way out. Assumes nothing.
+use Rattle.std.specs.Prelude.{Option, Result, Ok, Err, None}
+use Rattle.quantity.specs.declared.count.LinkInstanceId.{LinkInstanceId}
+use Rattle.meaning.specs.declared.message.ContextBytes.{ContextBytes}
 use Prim.Native.Nat.{ℕ, ◌≤◌, ◌<◌}
 use mathlib.Core.Bool.{true, false}
 use mathlib.Core.List.{List, []}
@@ -10,11 +13,7 @@ use Rattle.quantity.specs.declared.refusal.Refusal.{Refusal}
 use Rattle.quantity.specs.Limits.{HIGHEST-STATUS}
 use Rattle.quantity.specs.Refusals.{OUTSIDE-LIMITS, NOT-WRITABLE}
 use Rattle.meaning.specs.declared.message.End.TheVariants as ends
-use Rattle.meaning.specs.declared.message.Instance.{Instance}
-use Rattle.meaning.specs.declared.message.Context.{Context}
-use Rattle.meaning.specs.Cells.{no_sequence}
 use Rattle.writable.specs.Allowed.{instance_allowed, context_allowed}
-use Rattle.writer.specs.declared.answer.WriteAnswer.{WriteAnswer}
 use Rattle.writer.specs.Written.{Outcome}
 use Rattle.radio_end_state.specs.declared.answer.Answer.{Answer}
 use Rattle.radio_end_state.specs.declared.channel.Channel.{Channel}
@@ -26,29 +25,27 @@ use Rattle.radio_end_state.specs.Calls.{After, settling, status_told, queued_tol
 use Rattle.radio_end_words.specs.Words.{state_in, state_words}
 use Rattle.radio_end_words.proofs.Whole.{fit_words}
 use Rattle.radio_end_message.specs.Changed.{changed}
-use Rattle.radio_end_telling.specs.declared.locate.Found.{Found}
 use Rattle.radio_end_telling.specs.Left.{Left, found_of}
 use Rattle.radio_end_telling.proofs.Changing.{changed_nothing}
-use Rattle.radio_end_telling.proofs.Settling.{left_by_lem, left_refused, told_wrote, told_refused, FoundAt, found_call, found_refused, changing_is}
+use Rattle.radio_end_telling.proofs.Settling.{left_by_lem, left_refused, left_refusal, told_wrote, told_refused, FoundAt, found_call, found_refused, changing_is}
 
 -- one call is another, so it leaves the same
-pub left_as : (after other : After) (words : List ℕ) (answer : Answer) (words' out' : List ℕ) → after ≡ other → Left other words answer words' out' → Left after words answer words' out'
+pub left_as : (after other : After) (words : List ℕ) (answer : Result Answer Refusal) (words' out' : List ℕ) → after ≡ other → Left other words answer words' out' → Left after words answer words' out'
 left_as after other words answer words' out' e l = rw e l
 
 -- ---- a status
 module _ (words : List ℕ) (id value : ℕ) (out : List ℕ) where
-  pub status_unfound : (number : ℕ) → Found.Refused number ≡ found_of (state_in words) id → (answer : Answer) → answer ≡ Answer.Refused (record { number = number; place = 0 })
-      → Left (status_told (state_in words) id value out) words answer words out
+  pub status_unfound : (r : Refusal) → Err r ≡ found_of (state_in words) id → Left (status_told (state_in words) id value out) words (Err r) words out
   unfolding status_told
-  status_unfound number e answer f = left_refused _ words number (state_in words) out answer (found_refused (state_in words) id number e out _) f
+  status_unfound r e = left_refusal _ words r (state_in words) out (found_refused (state_in words) id r e out _)
 
   module _ (i : ℕ) (f : FoundAt (state_in words) id i) where
-    pub status_high : HIGHEST-STATUS < value → (answer : Answer) → answer ≡ Answer.Refused (record { number = NOT-WRITABLE; place = 0 }) → Left (status_told (state_in words) id value out) words answer words out
+    pub status_high : HIGHEST-STATUS < value → (answer : Result Answer Refusal) → answer ≡ Err (record { number = NOT-WRITABLE; place = 0 }) → Left (status_told (state_in words) id value out) words answer words out
     unfolding status_told
     status_high h answer e =
         left_refused _ words NOT-WRITABLE (state_in words) out answer (found_call (state_in words) id i f out _ ∙ rw (lt-leb value HIGHEST-STATUS h)) e
 
-    pub status_done : value ≤ HIGHEST-STATUS → (c d : Channel) → c ≡ channel_at (state_in words) i → d ≡ with_status c value → (answer : Answer) (words' out' : List ℕ)
+    pub status_done : value ≤ HIGHEST-STATUS → (c d : Channel) → c ≡ channel_at (state_in words) i → d ≡ with_status c value → (answer : Result Answer Refusal) (words' out' : List ℕ)
         → Left (settling (state_in words) (with_channel (state_in words) i d) out) words answer words' out' → Left (status_told (state_in words) id value out) words answer words' out'
     unfolding status_told
     status_done h c d e is answer words' out' l =
@@ -56,24 +53,23 @@ module _ (words : List ℕ) (id value : ℕ) (out : List ℕ) where
 
 -- ---- bytes queued
 module _ (words : List ℕ) (id : ℕ) (bytes : ByteCount) (out : List ℕ) where
-  pub queued_unfound : (number : ℕ) → Found.Refused number ≡ found_of (state_in words) id → (answer : Answer) → answer ≡ Answer.Refused (record { number = number; place = 0 })
-      → Left (queued_told (state_in words) id bytes out) words answer words out
+  pub queued_unfound : (r : Refusal) → Err r ≡ found_of (state_in words) id → Left (queued_told (state_in words) id bytes out) words (Err r) words out
   unfolding queued_told
-  queued_unfound number e answer f = left_refused _ words number (state_in words) out answer (found_refused (state_in words) id number e out _) f
+  queued_unfound r e = left_refusal _ words r (state_in words) out (found_refused (state_in words) id r e out _)
 
-  pub queued_done : (i : ℕ) → FoundAt (state_in words) id i → (c d : Channel) → c ≡ channel_at (state_in words) i → d ≡ with_queued c bytes → (answer : Answer) (words' out' : List ℕ)
+  pub queued_done : (i : ℕ) → FoundAt (state_in words) id i → (c d : Channel) → c ≡ channel_at (state_in words) i → d ≡ with_queued c bytes → (answer : Result Answer Refusal) (words' out' : List ℕ)
       → Left (settling (state_in words) (with_channel (state_in words) i d) out) words answer words' out' → Left (queued_told (state_in words) id bytes out) words answer words' out'
   unfolding queued_told
   queued_done i f c d e is answer words' out' l =
       left_as _ _ words answer words' out' (found_call (state_in words) id i f out _ ∙ changing_is words id i f (λ x. with_queued x bytes) c d e is out) l
 
 -- ---- the Context
-module _ (words : List ℕ) (k : Context) (out : List ℕ) (answer : Answer) where
-  pub context_unfit : state_fits (state_in words) ≡ false → answer ≡ Answer.Refused (record { number = OUTSIDE-LIMITS; place = 0 }) → Left (context_told (state_in words) k out) words answer words out
+module _ (words : List ℕ) (k : Option (ContextBytes × ℕ)) (out : List ℕ) (answer : Result Answer Refusal) where
+  pub context_unfit : state_fits (state_in words) ≡ false → answer ≡ Err (record { number = OUTSIDE-LIMITS; place = 0 }) → Left (context_told (state_in words) k out) words answer words out
   unfolding context_told
   context_unfit e f = left_refused _ words OUTSIDE-LIMITS (state_in words) out answer (rw e) f
 
-  pub context_unwritable : state_fits (state_in words) ≡ true → context_allowed ends.Radio k ≡ false → answer ≡ Answer.Refused (record { number = NOT-WRITABLE; place = 0 }) → Left (context_told (state_in words) k out) words answer words out
+  pub context_unwritable : state_fits (state_in words) ≡ true → context_allowed ends.Radio k ≡ false → answer ≡ Err (record { number = NOT-WRITABLE; place = 0 }) → Left (context_told (state_in words) k out) words answer words out
   unfolding context_told
   context_unwritable e a f = left_refused _ words NOT-WRITABLE (state_in words) out answer (rw (e, a)) f
 
@@ -83,38 +79,38 @@ module _ (words : List ℕ) (k : Context) (out : List ℕ) (answer : Answer) whe
   context_done e a words' out' l = left_as _ _ words answer words' out' (rw (e, a)) l
 
 -- ---- the Link Instance
-module _ (words : List ℕ) (i : Instance) (answer : Answer) where
-  pub link_unfit : state_fits (state_in words) ≡ false → answer ≡ Answer.Refused (record { number = OUTSIDE-LIMITS; place = 0 }) → Left (link_told (state_in words) i []) words answer words []
+module _ (words : List ℕ) (i : Option (LinkInstanceId × ℕ)) (answer : Result Answer Refusal) where
+  pub link_unfit : state_fits (state_in words) ≡ false → answer ≡ Err (record { number = OUTSIDE-LIMITS; place = 0 }) → Left (link_told (state_in words) i []) words answer words []
   unfolding link_told
   link_unfit e f = left_refused _ words OUTSIDE-LIMITS (state_in words) [] answer (rw e) f
 
-  pub link_unwritable : state_fits (state_in words) ≡ true → instance_allowed ends.Radio i ≡ false → answer ≡ Answer.Refused (record { number = NOT-WRITABLE; place = 0 }) → Left (link_told (state_in words) i []) words answer words []
+  pub link_unwritable : state_fits (state_in words) ≡ true → instance_allowed ends.Radio i ≡ false → answer ≡ Err (record { number = NOT-WRITABLE; place = 0 }) → Left (link_told (state_in words) i []) words answer words []
   unfolding link_told
   link_unwritable e a f = left_refused _ words NOT-WRITABLE (state_in words) [] answer (rw (e, a)) f
 
-pub link_done : (words : List ℕ) (i : Instance) → state_fits (state_in words) ≡ true → instance_allowed ends.Radio i ≡ true → (words' : List ℕ) → words' ≡ state_words (with_instance (state_in words) i)
-    → Left (link_told (state_in words) i []) words Answer.Quiet words' []
+pub link_done : (words : List ℕ) (i : Option (LinkInstanceId × ℕ)) → state_fits (state_in words) ≡ true → instance_allowed ends.Radio i ≡ true → (words' : List ℕ) → words' ≡ state_words (with_instance (state_in words) i)
+    → Left (link_told (state_in words) i []) words (Ok Answer.Quiet) words' []
 unfolding link_told
-link_done words i e a words' w = left_by_lem _ words Answer.Quiet (with_instance (state_in words) i) words' [] (rw (e, a)) w
+link_done words i e a words' w = left_by_lem _ words (Ok Answer.Quiet) (with_instance (state_in words) i) words' [] (rw (e, a)) w
 
 -- ---- the message as it stands
 module _ (words : List ℕ) (out : List ℕ) where
-  pub tell_unfit : state_fits (state_in words) ≡ false → (answer : Answer) → answer ≡ Answer.Refused (record { number = OUTSIDE-LIMITS; place = 0 }) → Left (told (state_in words) out) words answer words out
+  pub tell_unfit : state_fits (state_in words) ≡ false → (answer : Result Answer Refusal) → answer ≡ Err (record { number = OUTSIDE-LIMITS; place = 0 }) → Left (told (state_in words) out) words answer words out
   unfolding told
   tell_unfit e answer f = left_refused _ words OUTSIDE-LIMITS (state_in words) out answer (rw e) f
 
-  module _ (fits : state_fits (state_in words) ≡ true) (m n : ℕ) (many : n ≡ length (state_in words).channels) (c : Channel) (none : c ≡ no_channel) (k : Context) (kept : k ≡ (state_in words).context) (written : WriteAnswer) (out' : List ℕ) (o : Outcome true (message_bytes (changed (state_in words) k n c (replicate m no_sequence))) out written out') where
+  module _ (fits : state_fits (state_in words) ≡ true) (m n : ℕ) (many : n ≡ length (state_in words).channels) (c : Channel) (none : c ≡ no_channel) (k : Option (ContextBytes × ℕ)) (kept : k ≡ (state_in words).context) (written : Result ByteCount Refusal) (out' : List ℕ) (o : Outcome true (message_bytes (changed (state_in words) k n c (replicate m None))) out written out') where
     as_it_stands : Outcome true (message_bytes (state_in words)) out written out'
     as_it_stands =
-        let same : changed (state_in words) k n c (replicate m no_sequence) ≡ state_in words = rw (many, none, kept) (changed_nothing m (state_in words)) in
+        let same : changed (state_in words) k n c (replicate m None) ≡ state_in words = rw (many, none, kept) (changed_nothing m (state_in words)) in
         rw same at o
 
-    pub tell_wrote : (b : ByteCount) → written ≡ WriteAnswer.Wrote b → Left (told (state_in words) out) words (Answer.Answered b) words out'
+    pub tell_wrote : (b : ByteCount) → written ≡ Ok b → Left (told (state_in words) out) words (Ok (Answer.Answered b)) words out'
     unfolding told
     tell_wrote b f =
-        left_by_lem _ words (Answer.Answered b) (state_in words) words out' (rw fits (told_wrote (λ n. Answer.Answered n) (state_in words) (state_in words) out written out' as_it_stands b f)) (sym (fit_words words fits))
+        left_by_lem _ words (Ok (Answer.Answered b)) (state_in words) words out' (rw fits (told_wrote (λ n. Ok (Answer.Answered n)) (state_in words) (state_in words) out written out' as_it_stands b f)) (sym (fit_words words fits))
 
-    pub tell_refused : (x : Refusal) → written ≡ WriteAnswer.Refused x → Left (told (state_in words) out) words (Answer.Refused x) words out'
+    pub tell_refused : (x : Refusal) → written ≡ Err x → Left (told (state_in words) out) words (Err x) words out'
     unfolding told
     tell_refused x f =
-        left_by_lem _ words (Answer.Refused x) (state_in words) words out' (rw fits (told_refused (λ n. Answer.Answered n) (state_in words) (state_in words) out written out' as_it_stands x f)) refl
+        left_by_lem _ words (Err x) (state_in words) words out' (rw fits (told_refused (λ n. Ok (Answer.Answered n)) (state_in words) (state_in words) out written out' as_it_stands x f)) refl

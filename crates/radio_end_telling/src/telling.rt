@@ -4,51 +4,51 @@ ghost use Rattle.radio_end_state.specs.Calls.{status_told, queued_told, context_
 ghost use Rattle.radio_end_words.specs.Words.{state_in};
 ghost use Rattle.radio_end_telling.specs.Left.{Left};
 
-use crate::locate::Found;
 use crate::{locate, settle};
-use meaning::message::{Context, End, Instance, Sequence, SequenceCell};
-use quantity::count::ByteCount;
+use meaning::message::{ContextBytes, End};
+use quantity::count::{ByteCount, LinkInstanceId};
 use quantity::limit::{CHANNEL_IDS, HIGHEST_STATUS};
 use quantity::refusal;
+use quantity::refusal::Refusal;
 use radio_end_message::message;
 use radio_end_state::answer::Answer;
 use radio_end_state::channel;
 use radio_end_survey::survey;
 use radio_end_words::{head, place};
 use writable::part;
-use writer::answer::WriteAnswer;
 
 // A channel's status: 19, 12, 20, 18.
-pub fn tell_status(words: &mut [u64], id: u8, value: u8, out: &mut [u8]) -> Answer
+pub fn tell_status(words: &mut [u64], id: u8, value: u8, out: &mut [u8]) -> Result<Answer, Refusal>
     ensures { Left (status_told (state_in words.old) id value out.old) words.old result words.new out.new }
 {
-    match locate::find(words, id) {
-        Found::At(index) => {
-            if value > HIGHEST_STATUS {
-                return settle::refused(refusal::NOT_WRITABLE);
-            }
-            let before = place::load(words, index);
-            settle::channel(words, index, channel::with_status(before, value), out)
-        }
-        Found::Refused(number) => settle::refused(number),
+    let index = locate::find(words, id)?;
+    if value > HIGHEST_STATUS {
+        return settle::refused(refusal::NOT_WRITABLE);
     }
+    let before = place::load(words, index);
+    settle::channel(words, index, channel::with_status(before, value), out)
 }
 
 // The bytes queued on a channel: 19, 12, 18.
-pub fn tell_queued(words: &mut [u64], id: u8, bytes: ByteCount, out: &mut [u8]) -> Answer
+pub fn tell_queued(
+    words: &mut [u64],
+    id: u8,
+    bytes: ByteCount,
+    out: &mut [u8],
+) -> Result<Answer, Refusal>
     ensures { Left (queued_told (state_in words.old) id bytes out.old) words.old result words.new out.new }
 {
-    match locate::find(words, id) {
-        Found::At(index) => {
-            let before = place::load(words, index);
-            settle::channel(words, index, channel::with_queued(before, bytes), out)
-        }
-        Found::Refused(number) => settle::refused(number),
-    }
+    let index = locate::find(words, id)?;
+    let before = place::load(words, index);
+    settle::channel(words, index, channel::with_queued(before, bytes), out)
 }
 
 // The Context, or that there is none: 19, 20, 18.
-pub fn tell_context(words: &mut [u64], context: Context, out: &mut [u8]) -> Answer
+pub fn tell_context(
+    words: &mut [u64],
+    context: Option<(ContextBytes, usize)>,
+    out: &mut [u8],
+) -> Result<Answer, Refusal>
     ensures { Left (context_told (state_in words.old) context out.old) words.old result words.new out.new }
 {
     if !survey::fits(words) {
@@ -61,7 +61,10 @@ pub fn tell_context(words: &mut [u64], context: Context, out: &mut [u8]) -> Answ
 }
 
 // The Link Instance, or that there is none; kept without a message: 19, 20.
-pub fn tell_link(words: &mut [u64], instance: Instance) -> Answer
+pub fn tell_link(
+    words: &mut [u64],
+    instance: Option<(LinkInstanceId, usize)>,
+) -> Result<Answer, Refusal>
     ensures { Left (link_told (state_in words.old) instance []) words.old result words.new [] }
 {
     if !survey::fits(words) {
@@ -71,29 +74,25 @@ pub fn tell_link(words: &mut [u64], instance: Instance) -> Answer
         return settle::refused(refusal::NOT_WRITABLE);
     }
     head::save_instance(words, instance);
-    Answer::Quiet
+    Ok(Answer::Quiet)
 }
 
 // The message as it stands: 19, 18. It changes nothing.
-pub fn tell(words: &[u64], out: &mut [u8]) -> Answer
+pub fn tell(words: &[u64], out: &mut [u8]) -> Result<Answer, Refusal>
     ensures { Left (told (state_in words.now) out.old) words.now result words.now out.new }
 {
     if !survey::fits(words) {
         return settle::refused(refusal::OUTSIDE_LIMITS);
     }
     let context = head::context(words);
-    let unstated = [SequenceCell {
-        sequence: Sequence::Absent,
-    }; CHANNEL_IDS];
-    match message::write(
+    let count = place::count(words);
+    let size = message::write(
         words,
         context,
-        place::count(words),
+        count,
         settle::no_channel(),
-        unstated,
+        [None; CHANNEL_IDS],
         out,
-    ) {
-        WriteAnswer::Wrote(size) => Answer::Answered(size),
-        WriteAnswer::Refused(refusal) => Answer::Refused(refusal),
-    }
+    )?;
+    Ok(Answer::Answered(size))
 }

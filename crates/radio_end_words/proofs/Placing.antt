@@ -1,23 +1,26 @@
 -- Where a channel stands in the words, and what is written. Assumes nothing.
-use Prim.Native.Nat.{ℕ, suc, ◌+◌, ◌-◌, ◌^◌, ◌≤◌, ◌<◌}
+use Rattle.std.specs.Prelude.{Option, Some, None}
+use Rattle.quantity.specs.declared.count.LinkInstanceId.{LinkInstanceId}
+use Rattle.quantity.specs.declared.count.FlowSequence.{FlowSequence}
+use Rattle.meaning.specs.declared.message.ContextBytes.{ContextBytes}
+use Prim.Native.Nat.{ℕ, ◌+◌, ◌-◌, ◌^◌, ◌≤◌, ◌<◌}
 use mathlib.Core.Bool.{true}
-use mathlib.Core.List.{List, ◌∷◌, ◌++◌}
+use mathlib.Core.List.{List, ◌++◌}
 use mathlib.Core.Path.{◌≡◌, refl, sym, ap, ◌∙◌}
-use native.Mathlib.Numerals.{add-one}
 use borrow.Rule.Slice.PartMut.{put_mid}
 use native.Mathlib.Omega.{arith}
-use borrow.Author.Tests.{ltb-true, eq-eqb, ne_eqb}
-use lib.ListN.{length, take, drop, get_or, set, drop_of_length-le}
-use lib.Seq.{get_or-take, get_or-drop, drop-cons, drop-drop}
+use borrow.Author.Tests.{ltb-true}
+use lib.ListN.{length, take, drop, get_or, set}
+use lib.Seq.{get_or-take, get_or-drop, drop-drop, ext_get_or}
+use Rattle.radio_end_words.specs.Rows.{Rows}
+use Rattle.radio_end_words.specs.Rows as rows
+use Rattle.radio_end_words.proofs.Numbered as numbered
 use Rattle.facts.proofs.Tables.{length_tabulate, get_d_tabulate}
-use Rattle.meaning.specs.declared.message.Instance.{Instance}
-use Rattle.meaning.specs.declared.message.Context.{Context}
 use Rattle.lent_messages.specs.declared.stated.Stated.{Stated}
 use Rattle.lent_messages.specs.Stated.{instance_stated, context_stated}
-use Rattle.radio_flow.specs.declared.Highest.{Highest}
 use Rattle.radio_end_state.specs.declared.channel.Channel.{Channel}
 use Rattle.radio_end_state.specs.State.{no_channel, channel_at, with_channel, with_context, with_instance}
-use Rattle.radio_end_state.specs.Limits.{index_of, ids, highest_fits, state_fits}
+use Rattle.radio_end_state.specs.Limits.{ids, highest_fits, state_fits}
 use Rattle.radio_end_state.proofs.Fit.{ChannelFit, channel_fit, fit_facts, ids_at, ids_length}
 use Rattle.radio_end_words.specs.Words.{HEAD, SLOT, ID, DATALINK-WORD, COUNT-WORD, INSTANCE-TAG, INSTANCE-VALUE, INSTANCE-LENGTH, CONTEXT-TAG, CONTEXT-VALUE, CONTEXT-LENGTH, words_for, word, slot_start, slot, channel_in, state_of, state_in, highest_value, channel_words, head_words, state_words, Loadable, Placed, Counted}
 use Rattle.radio_end_words.proofs.Slots.{channel_back}
@@ -56,14 +59,14 @@ module _ (words : List ℕ) (fits : state_fits (state_in words) ≡ true) where
   fit_put i c h =
       ap (λ (w : List ℕ). take (slot_start i) w ++ (channel_words c ++ drop (slot_start i + SLOT) w)) (sym (fit_words words fits)) ∙ put_channel_lem (state_in words) i c h
 
-  pub context_saved : (k : Context) (t : Stated) → t ≡ context_stated k
+  pub context_saved : (k : Option (ContextBytes × ℕ)) (t : Stated) → t ≡ context_stated k
       → set (set (set words CONTEXT-TAG t.tag) CONTEXT-VALUE t.first) CONTEXT-LENGTH t.second ≡ state_words (with_context (state_in words) k)
   unfolding state_words head_words with_context
   context_saved k t e =
       rw e
       (ap (λ (w : List ℕ). set (set (set w CONTEXT-TAG (context_stated k).tag) CONTEXT-VALUE (context_stated k).first) CONTEXT-LENGTH (context_stated k).second) (sym (fit_words words fits)))
 
-  pub instance_saved : (i : Instance) (t : Stated) → t ≡ instance_stated i
+  pub instance_saved : (i : Option (LinkInstanceId × ℕ)) (t : Stated) → t ≡ instance_stated i
       → set (set (set words INSTANCE-TAG t.tag) INSTANCE-VALUE t.first) INSTANCE-LENGTH t.second ≡ state_words (with_instance (state_in words) i)
   unfolding state_words head_words with_instance
   instance_saved i t e =
@@ -71,9 +74,9 @@ module _ (words : List ℕ) (fits : state_fits (state_in words) ≡ true) where
       (ap (λ (w : List ℕ). set (set (set w INSTANCE-TAG (instance_stated i).tag) INSTANCE-VALUE (instance_stated i).first) INSTANCE-LENGTH (instance_stated i).second) (sym (fit_words words fits)))
 
 -- ---- a channel within the limits can be loaded
-highest_small : (h : Highest) → highest_fits h ≡ true → highest_value h < 2 ^ 32
-highest_small Highest.Unheard e = omega arith
-highest_small (Highest.At sequence) e = ltb-true sequence.0 (2 ^ 32) e
+highest_small : (h : Option FlowSequence) → highest_fits h ≡ true → highest_value h < 2 ^ 32
+highest_small None e = omega arith
+highest_small (Some sequence) e = ltb-true sequence.0 (2 ^ 32) e
 
 pub channel_loadable : (c : Channel) → ChannelFit c → Loadable (channel_words c)
 unfolding channel_words
@@ -122,12 +125,6 @@ pub slot_word : (words : List ℕ) (i k : ℕ) → k < SLOT → word (slot words
 unfolding slot
 slot_word words i k h = get_or-take SLOT (drop (slot_start i) words) k 0 h ∙ get_or-drop (slot_start i) words k 0
 
--- what is sought so far
-pub record Seeking (words : List ℕ) (count id at from : ℕ) : Type 0 where
-  pub inside : at ≤ count
-  pub from_is : from ≡ slot_start at
-  pub so_far : index_of id (ids (state_of words).channels) ≡ at + index_of id (drop at (ids (state_of words).channels))
-
 module _ (words : List ℕ) (count : ℕ) (counted : Counted words count) where
   abbrev numbers : List ℕ
   numbers = ids (state_of words).channels
@@ -144,26 +141,11 @@ module _ (words : List ℕ) (count : ℕ) (counted : Counted words count) where
   unfolding channel_in
   number_at i h = ids_at (state_of words).channels i ∙ ap (λ (c : Channel). c.setting.id) (said_channel i h) ∙ slot_word words i ID (omega arith)
 
-  pub seek_start : (id : ℕ) → Seeking words count id 0 HEAD
-  seek_start id = record { inside = omega arith; from_is = omega arith; so_far = omega arith }
+  -- the channels stand in rows
+  pub in_rows : Rows HEAD SLOT words count
+  in_rows = record { long = counted.long; some = omega arith; few = counted.few }
 
-  here : (id at from : ℕ) → Seeking words count id at from → at < count → drop at numbers ≡ word words (from + ID) ∷ drop (suc at) numbers
-  here id at from s h = drop-cons numbers at 0 (omega (arith, numbers_length)) ∙ ap (λ (n : ℕ). n ∷ drop (suc at) numbers) (number_at at h ∙ ap (λ (k : ℕ). word words (k + ID)) (sym s.from_is))
-
-  pub seek_found : (id at from : ℕ) → Seeking words count id at from → at < count → word words (from + ID) ≡ id → at ≡ index_of id numbers
-  unfolding index_of
-  seek_found id at from s h e =
-      let none : index_of id (drop at numbers) ≡ 0 = rw (here id at from s h, eq-eqb _ _ e) in
-      omega (arith, s.so_far)
-
-  pub seek_on : (id at from : ℕ) → Seeking words count id at from → at < count → (word words (from + ID) ≡ id → ⊥) → Seeking words count id (at + 1) (from + SLOT)
-  unfolding index_of
-  seek_on id at from s h e =
-      let one : index_of id (drop at numbers) ≡ suc (index_of id (drop (suc at) numbers)) = rw (here id at from s h, ne_eqb _ _ e) in
-      record { inside = omega arith; from_is = omega (arith, s.from_is); so_far = rw (add-one at) (omega (arith, s.so_far)) }
-
-  pub seek_end : (id at from : ℕ) → Seeking words count id at from → count ≤ at → at ≡ index_of id numbers
-  unfolding index_of
-  seek_end id at from s h =
-      let none : index_of id (drop at numbers) ≡ 0 = rw (drop_of_length-le numbers {i = at} (omega (arith, numbers_length))) in
-      omega (arith, s.so_far)
+  pub numbers_are : rows.numbers HEAD SLOT words count ≡ numbers
+  numbers_are =
+      ext_get_or 0 (rows.numbers HEAD SLOT words count) numbers (numbered.numbers_length HEAD SLOT words count ∙ sym numbers_length)
+      (λ i h. let low : i < count = omega (arith, numbered.numbers_length HEAD SLOT words count) in let first : slot_start i + ID ≡ slot_start i = omega arith in numbered.number_at HEAD SLOT words count i low ∙ sym (number_at i low ∙ ap (word words) first))

@@ -1,4 +1,6 @@
 -- One channel in its words, and all of them one after another. Assumes nothing.
+use Rattle.std.specs.Prelude.{Option, Some, None}
+use Rattle.quantity.specs.declared.count.FlowSequence.{FlowSequence}
 use Prim.Native.Nat.{ℕ, zero, suc, ◌+◌, ◌*◌, ◌≤◌, ◌<◌}
 use mathlib.Core.Bool.{Bool, true, false, cond, and-eq-true_iff}
 use mathlib.Core.List.{List, [], ◌∷◌, ◌++◌, append_assoc}
@@ -10,7 +12,6 @@ use lib.ListN.{length, take, drop, get_or, set, length-append, length-take, leng
 use lib.Seq.{sets, sets-eq, take_all, take-append-add, drop-append-add, drop-drop}
 use mir.Val.{bool_byte}
 use Rattle.facts.specs.Tables.{tabulate}
-use Rattle.radio_flow.specs.declared.Highest.{Highest}
 use Rattle.radio_end_state.specs.declared.channel.Channel.{Channel}
 use Rattle.radio_end_state.specs.State.{no_channel}
 use Rattle.radio_end_words.specs.Words.{SLOT, CONTROLLED, PLAIN, UNHEARD, HEARD, KIND, HIGHEST-TAG, HIGHEST-VALUE, word, highest_of, channel_in, highest_spelled, spelled, highest_tag, highest_value, channel_words, slots_of}
@@ -32,10 +33,10 @@ kind_back : (b : Bool) → eqb (cond b CONTROLLED PLAIN) CONTROLLED ≡ b
 kind_back true = refl
 kind_back false = refl
 
-highest_back : (h : Highest) → highest_of (highest_tag h) (highest_value h) ≡ h
+highest_back : (h : Option FlowSequence) → highest_of (highest_tag h) (highest_value h) ≡ h
 unfolding highest_of
-highest_back Highest.Unheard = refl
-highest_back (Highest.At sequence) = refl
+highest_back None = refl
+highest_back (Some sequence) = refl
 
 -- the channel that is saved is the one that is loaded
 pub channel_back : (c : Channel) → channel_in (channel_words c) ≡ c
@@ -46,9 +47,9 @@ pub channel_length : (c : Channel) → length (channel_words c) ≡ SLOT
 unfolding channel_words
 channel_length c = refl
 
-highest_says : (h : Highest) → highest_spelled (highest_tag h) (highest_value h) ≡ true
-highest_says Highest.Unheard = refl
-highest_says (Highest.At sequence) = refl
+highest_says : (h : Option FlowSequence) → highest_spelled (highest_tag h) (highest_value h) ≡ true
+highest_says None = refl
+highest_says (Some sequence) = refl
 
 kind_says : (b : Bool) → leb (cond b CONTROLLED PLAIN) CONTROLLED ≡ true
 kind_says true = refl

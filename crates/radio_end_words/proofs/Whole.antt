@@ -1,4 +1,7 @@
 -- The words of a whole state: a state has one form in words, and words that say a state are its words. Assumes nothing.
+use Rattle.std.specs.Prelude.{Option, Some, None}
+use Rattle.quantity.specs.declared.count.LinkInstanceId.{LinkInstanceId}
+use Rattle.meaning.specs.declared.message.ContextBytes.{ContextBytes}
 use Prim.Native.Nat.{ℕ, ◌+◌, ◌*◌, ◌<◌}
 use mathlib.Core.Bool.{Bool, true, false, ◌&&◌, and-eq-true_iff}
 use mathlib.Core.List.{List, ◌++◌}
@@ -11,8 +14,6 @@ use lib.Seq.{take-append-add, drop-append-add, drop-drop, ext_get_or}
 use Rattle.facts.specs.Tables.{tabulate}
 use Rattle.facts.proofs.Tables.{length_tabulate, get_d_tabulate}
 use Rattle.facts.proofs.Tests.{clash}
-use Rattle.meaning.specs.declared.message.Instance.{Instance}
-use Rattle.meaning.specs.declared.message.Context.{Context}
 use Rattle.lent_messages.specs.declared.stated.Stated.{Stated}
 use Rattle.lent_messages.specs.Layout.{ABSENT, GIVEN}
 use Rattle.lent_messages.specs.Stated.{instance_stated, context_stated, instance_of, context_of}
@@ -24,25 +25,25 @@ use Rattle.radio_end_state.proofs.UpTo.{up_to_at, up_to_by}
 use Rattle.radio_end_words.proofs.Slots.{channel_back, channel_says, eight, slots_length, slot_of, slots_put, slots_forth}
 
 -- ---- Link Instance and Context
-instance_back : (i : Instance) → instance_of (instance_stated i).tag (instance_stated i).first (instance_stated i).second ≡ i
+instance_back : (i : Option (LinkInstanceId × ℕ)) → instance_of (instance_stated i).tag (instance_stated i).first (instance_stated i).second ≡ i
 unfolding instance_of
-instance_back Instance.Absent = refl
-instance_back (Instance.Given id size) = refl
+instance_back None = refl
+instance_back (Some (id, size)) = refl
 
-context_back : (k : Context) → context_of (context_stated k).tag (context_stated k).first (context_stated k).second ≡ k
+context_back : (k : Option (ContextBytes × ℕ)) → context_of (context_stated k).tag (context_stated k).first (context_stated k).second ≡ k
 unfolding context_of
-context_back Context.Absent = refl
-context_back (Context.Given bytes size) = refl
+context_back None = refl
+context_back (Some (bytes, size)) = refl
 
-instance_says : (i : Instance) → name_spelled (instance_stated i).tag (instance_stated i).first (instance_stated i).second ≡ true
+instance_says : (i : Option (LinkInstanceId × ℕ)) → name_spelled (instance_stated i).tag (instance_stated i).first (instance_stated i).second ≡ true
 unfolding name_spelled
-instance_says Instance.Absent = refl
-instance_says (Instance.Given id size) = refl
+instance_says None = refl
+instance_says (Some (id, size)) = refl
 
-context_says : (k : Context) → name_spelled (context_stated k).tag (context_stated k).first (context_stated k).second ≡ true
+context_says : (k : Option (ContextBytes × ℕ)) → name_spelled (context_stated k).tag (context_stated k).first (context_stated k).second ≡ true
 unfolding name_spelled
-context_says Context.Absent = refl
-context_says (Context.Given bytes size) = refl
+context_says None = refl
+context_says (Some (bytes, size)) = refl
 
 abbrev stated_by : (tag value size : ℕ) → Stated
 stated_by tag value size = record { tag = tag; first = value; second = size }

@@ -1,10 +1,10 @@
 -- The state of the radio's end in lent words of 64 bits: its own words, then as many for each channel, in configuration order. The words are named as in
 -- src/layout.rt, with `-` for `_`. A state has one form in words: what is absent is written as zeros.
-use Rattle.std.specs.Prelude.{ℕ, ◌+◌, ◌*◌, ◌^◌, ◌≤◌, ◌<◌, Bool, true, cond, ◌&&◌, List, [], ◌∷◌, ◌++◌, ◌≡◌, length, take, drop, get_or, eqb, leb}
+use Rattle.quantity.specs.declared.count.FlowSequence.{FlowSequence}
+use Rattle.std.specs.Prelude.{ℕ, ◌+◌, ◌*◌, ◌^◌, ◌≤◌, ◌<◌, Bool, true, cond, ◌&&◌, List, [], ◌∷◌, ◌++◌, ◌≡◌, length, take, drop, get_or, eqb, leb, Option, Some, None}
 use Rattle.facts.specs.Tables.{tabulate}
 use Rattle.lent_messages.specs.Layout.{ABSENT, GIVEN}
 use Rattle.lent_messages.specs.Stated.{instance_stated, context_stated, instance_of, context_of}
-use Rattle.radio_flow.specs.declared.Highest.{Highest}
 use Rattle.radio_end_state.specs.declared.channel.Channel.{Channel}
 use Rattle.radio_end_state.specs.State.{State, blank_state}
 use Rattle.radio_end_state.specs.Limits.{up_to, state_fits}
@@ -92,8 +92,8 @@ unfoldable pub slot : List ℕ → ℕ → List ℕ
 slot words index = take SLOT (drop (slot_start index) words)
 
 -- ---- what a slot's words say
-unfoldable pub highest_of : (tag value : ℕ) → Highest
-highest_of tag value = cond (eqb tag UNHEARD) Highest.Unheard (Highest.At (record { 0 = value }))
+unfoldable pub highest_of : (tag value : ℕ) → Option FlowSequence
+highest_of tag value = cond (eqb tag UNHEARD) None (Some (record { 0 = value }))
 
 unfoldable pub channel_in : List ℕ → Channel
 channel_in w = record {
@@ -138,13 +138,13 @@ unfoldable pub state_in : List ℕ → State
 state_in words = cond (readable words) (state_of words) blank_state
 
 -- ---- a state as words
-abbrev pub highest_tag : Highest → ℕ
-highest_tag Highest.Unheard = UNHEARD
-highest_tag (Highest.At sequence) = HEARD
+abbrev pub highest_tag : Option FlowSequence → ℕ
+highest_tag None = UNHEARD
+highest_tag (Some sequence) = HEARD
 
-abbrev pub highest_value : Highest → ℕ
-highest_value Highest.Unheard = 0
-highest_value (Highest.At sequence) = sequence.0
+abbrev pub highest_value : Option FlowSequence → ℕ
+highest_value None = 0
+highest_value (Some sequence) = sequence.0
 
 unfoldable pub channel_words : Channel → List ℕ
 channel_words c =

@@ -8,20 +8,19 @@ use crate::layout::{
     CONTEXT_LENGTH, CONTEXT_TAG, CONTEXT_VALUE, DATALINK_WORD, INSTANCE_LENGTH, INSTANCE_TAG,
     INSTANCE_VALUE,
 };
-use crate::slot;
 use lent_messages::stated;
-use meaning::message::{Context, Instance};
-use quantity::count::DatalinkId;
+use meaning::message::ContextBytes;
+use quantity::count::{DatalinkId, LinkInstanceId};
 
 pub fn datalink(words: &[u64]) -> DatalinkId
     requires { state_fits (state_in words.now) ≡ true }
     ensures { result ≡ (state_in words.now).datalink }
 {
-    DatalinkId(slot::byte(words[DATALINK_WORD]))
+    DatalinkId(words[DATALINK_WORD] as u8)
 }
 
 // Before 19 is known: the words say so much, if there are enough of them.
-pub fn instance_said(words: &[u64]) -> Instance
+pub fn instance_said(words: &[u64]) -> Option<(LinkInstanceId, usize)>
     requires { HEAD ≤ length words.now }
     ensures { result ≡ (state_of words.now).instance }
 {
@@ -32,7 +31,7 @@ pub fn instance_said(words: &[u64]) -> Instance
     )
 }
 
-pub fn context_said(words: &[u64]) -> Context
+pub fn context_said(words: &[u64]) -> Option<(ContextBytes, usize)>
     requires { HEAD ≤ length words.now }
     ensures { result ≡ (state_of words.now).context }
 {
@@ -43,21 +42,21 @@ pub fn context_said(words: &[u64]) -> Context
     )
 }
 
-pub fn instance(words: &[u64]) -> Instance
+pub fn instance(words: &[u64]) -> Option<(LinkInstanceId, usize)>
     requires { state_fits (state_in words.now) ≡ true }
     ensures { result ≡ (state_in words.now).instance }
 {
     instance_said(words)
 }
 
-pub fn context(words: &[u64]) -> Context
+pub fn context(words: &[u64]) -> Option<(ContextBytes, usize)>
     requires { state_fits (state_in words.now) ≡ true }
     ensures { result ≡ (state_in words.now).context }
 {
     context_said(words)
 }
 
-pub fn save_instance(words: &mut [u64], instance: Instance)
+pub fn save_instance(words: &mut [u64], instance: Option<(LinkInstanceId, usize)>)
     requires { state_fits (state_in words.old) ≡ true }
     ensures { words.new ≡ state_words (with_instance (state_in words.old) instance) }
 {
@@ -67,7 +66,7 @@ pub fn save_instance(words: &mut [u64], instance: Instance)
     words[INSTANCE_LENGTH] = named.second;
 }
 
-pub fn save_context(words: &mut [u64], context: Context)
+pub fn save_context(words: &mut [u64], context: Option<(ContextBytes, usize)>)
     requires { state_fits (state_in words.old) ≡ true }
     ensures { words.new ≡ state_words (with_context (state_in words.old) context) }
 {

@@ -4,4 +4,5 @@
 pub mod head;
 pub mod layout;
 pub mod place;
+pub mod rows;
 pub mod slot;

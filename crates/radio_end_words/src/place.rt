@@ -4,8 +4,8 @@ ghost use Rattle.radio_end_state.specs.State.{channel_at, with_channel};
 ghost use Rattle.radio_end_state.specs.Limits.{state_fits, ids, index_of, index_in};
 ghost use Rattle.radio_end_words.specs.Words.{state_of, state_in, state_words, Counted, Placed};
 
-use crate::layout::{COUNT_WORD, HEAD, ID, SLOT};
-use crate::slot;
+use crate::layout::{COUNT_WORD, HEAD, SLOT};
+use crate::{rows, slot};
 use radio_end_state::channel::Channel;
 
 // The first channel with this ID; behind the last, if there is none.
@@ -13,23 +13,14 @@ pub fn index_of(words: &[u64], count: usize, id: u64) -> usize
     requires { Counted words.now count }
     ensures { result ≡ index_of id (ids (state_of words.now).channels) }
 {
-    let mut at = 0;
-    let mut from = HEAD;
-    while at < count {
-        if words[from + ID] == id {
-            return at;
-        }
-        at += 1;
-        from += SLOT;
-    }
-    at
+    rows::index_of::<HEAD, SLOT>(words, count, id)
 }
 
 pub fn count(words: &[u64]) -> usize
     requires { state_fits (state_in words.now) ≡ true }
     ensures { result ≡ length (state_in words.now).channels }
 {
-    slot::narrow(words[COUNT_WORD])
+    words[COUNT_WORD] as usize
 }
 
 pub fn find(words: &[u64], id: u8) -> usize

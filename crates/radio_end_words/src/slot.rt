@@ -8,60 +8,32 @@ use crate::layout::{
 };
 use quantity::count::{ByteCount, FlowSequence};
 use radio_end_state::channel::{Channel, Setting};
-use radio_flow::Highest;
 
-pub(crate) fn byte(value: u64) -> u8
-    requires { value < 256 }
-    ensures { result ≡ value }
-{
-    value as u8
-}
-
-fn half(value: u64) -> u32
-    requires { value < 2 ^ 32 }
-    ensures { result ≡ value }
-{
-    value as u32
-}
-
-// A length has 64 bits, as a word.
-pub fn narrow(value: u64) -> usize
-    ensures { result ≡ value }
-{
-    value as usize
-}
-
-pub fn wide(value: usize) -> u64
-    ensures { result ≡ value }
-{
-    value as u64
-}
-
-fn highest_of(tag: u64, value: u64) -> Highest
+fn highest_of(tag: u64, value: u64) -> Option<FlowSequence>
     requires { value < 2 ^ 32 }
     ensures { result ≡ highest_of tag value }
 {
     if tag == UNHEARD {
-        return Highest::Unheard;
+        return None;
     }
-    Highest::At(FlowSequence(half(value)))
+    Some(FlowSequence(value as u32))
 }
 
-pub fn highest_tag(highest: Highest) -> u64
+pub fn highest_tag(highest: Option<FlowSequence>) -> u64
     ensures { result ≡ highest_tag highest }
 {
     match highest {
-        Highest::Unheard => UNHEARD,
-        Highest::At(_) => HEARD,
+        None => UNHEARD,
+        Some(_) => HEARD,
     }
 }
 
-pub fn highest_value(highest: Highest) -> u64
+pub fn highest_value(highest: Option<FlowSequence>) -> u64
     ensures { result ≡ highest_value highest }
 {
     match highest {
-        Highest::Unheard => 0,
-        Highest::At(sequence) => sequence.0 as u64,
+        None => 0,
+        Some(sequence) => sequence.0 as u64,
     }
 }
 
@@ -71,16 +43,16 @@ pub fn load(part: &[u64]) -> Channel
     ensures { result ≡ channel_in part.now }
 {
     let setting = Setting {
-        id: byte(part[ID]),
+        id: part[ID] as u8,
         controlled: part[KIND] == CONTROLLED,
-        watermark: ByteCount(narrow(part[WATERMARK])),
-        throughput: ByteCount(narrow(part[THROUGHPUT])),
+        watermark: ByteCount(part[WATERMARK] as usize),
+        throughput: ByteCount(part[THROUGHPUT] as usize),
     };
     let highest = highest_of(part[HIGHEST_TAG], part[HIGHEST_VALUE]);
     Channel {
         setting,
-        status: byte(part[STATUS]),
-        queued: ByteCount(narrow(part[QUEUED])),
+        status: part[STATUS] as u8,
+        queued: ByteCount(part[QUEUED] as usize),
         highest,
     }
 }
@@ -97,10 +69,10 @@ pub fn save(part: &mut [u64], channel: Channel)
     let highest = channel.highest;
     part[ID] = setting.id as u64;
     part[KIND] = setting.controlled as u64;
-    part[WATERMARK] = wide(watermark.0);
-    part[THROUGHPUT] = wide(throughput.0);
+    part[WATERMARK] = watermark.0 as u64;
+    part[THROUGHPUT] = throughput.0 as u64;
     part[STATUS] = channel.status as u64;
-    part[QUEUED] = wide(queued.0);
+    part[QUEUED] = queued.0 as u64;
     part[HIGHEST_TAG] = highest_tag(highest);
     part[HIGHEST_VALUE] = highest_value(highest);
 }

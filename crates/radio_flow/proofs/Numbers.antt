@@ -1,4 +1,5 @@
 -- The highest sequence and the window in numbers that never wrap. Assumes nothing.
+use Rattle.std.specs.Prelude.{Some, None}
 use Prim.Native.Nat.{ℕ, ◌+◌, ◌%◌, ◌^◌, ◌≤◌, ◌<◌, max}
 use mathlib.Core.Path.{◌≡◌, refl, sym, ap, ◌∙◌}
 use mathlib.Core.List.Memᴰ
@@ -16,7 +17,6 @@ use Rattle.quantity.specs.Distance.{distance_of, fits_of}
 use Rattle.quantity.specs.Window.{sequence_at, Stands}
 use Rattle.quantity.proofs.Distance.{distance_ahead}
 use Rattle.quantity.proofs.Window.{standing_stands, fits_is, sequence_start}
-use Rattle.radio_flow.specs.declared.Highest.{Highest}
 use Rattle.radio_flow.specs.Granting.{place_of, is_ahead, later_of, heard_of, allowance_of, window_from}
 use Rattle.radio_flow.specs.Numbers.{heard_all, number_of, larger, number_after, numbers_heard, AllowanceIs}
 
@@ -25,33 +25,33 @@ ahead_is : (h : ℕ) (s : FlowSequence) (z : ℤ) → Stands h (place_of s) z �
 unfolding is_ahead fits_of
 ahead_is h s z st = fits_is h (place_of s) (record { 0 = 1 }) z st
 
-later_is : (h : ℕ) (s : FlowSequence) (z : ℤ) → s.0 < 2 ^ 32 → Stands h (place_of s) z → later_of (sequence_at h) s ≡ Highest.At (sequence_at (larger h z))
+later_is : (h : ℕ) (s : FlowSequence) (z : ℤ) → s.0 < 2 ^ 32 → Stands h (place_of s) z → later_of (sequence_at h) s ≡ Some (sequence_at (larger h z))
 later_is h s (pos k) small st =
     by_le (h + 1) k
     (λ (l : h + 1 ≤ k).
     let new : s.0 ≡ max h k % 2 ^ 32 = omega (arith, st.bits) in
-    rw (ahead_is h s (pos k) st, le-leb (h + 1) k l) (ap (λ (n : ℕ). Highest.At (record { 0 = n })) new))
+    rw (ahead_is h s (pos k) st, le-leb (h + 1) k l) (ap (λ (n : ℕ). Some (record { 0 = n })) new))
     (λ (l : k < h + 1).
     let old : h % 2 ^ 32 ≡ max h k % 2 ^ 32 = omega arith in
-    rw (ahead_is h s (pos k) st, lt-leb (h + 1) k l) (ap (λ (n : ℕ). Highest.At (record { 0 = n })) old))
+    rw (ahead_is h s (pos k) st, lt-leb (h + 1) k l) (ap (λ (n : ℕ). Some (record { 0 = n })) old))
 later_is h s (negsuc k) small st = rw (ahead_is h s (negsuc k) st)
 
 -- the word that is kept is the low 32 bits of the larger number
-pub heard_number : (h : ℕ) (s : FlowSequence) → s.0 < 2 ^ 32 → heard_of (Highest.At (sequence_at h)) s ≡ Highest.At (sequence_at (larger h (number_of h s)))
+pub heard_number : (h : ℕ) (s : FlowSequence) → s.0 < 2 ^ 32 → heard_of (Some (sequence_at h)) s ≡ Some (sequence_at (larger h (number_of h s)))
 heard_number h s small = later_is h s (number_of h s) small (standing_stands h (place_of s))
 
 -- ---- any sequences
 all_numbers : (h : ℕ) (ss : List FlowSequence) → ((s : FlowSequence) → Memᴰ s ss → s.0 < 2 ^ 32)
-    → heard_all (Highest.At (sequence_at h)) ss ≡ Highest.At (sequence_at (number_after h ss))
+    → heard_all (Some (sequence_at h)) ss ≡ Some (sequence_at (number_after h ss))
 all_numbers h [] small = refl
 all_numbers h (s ∷ ss) small =
     rw (heard_number h s (small s (Memᴰ.head refl))) (all_numbers (larger h (number_of h s)) ss (λ t m. small t (Memᴰ.tail m)))
 
 -- THE HIGHEST NUMBER starts at the first word; the kept word is its low 32 bits
 pub highest_number : (first : FlowSequence) (ss : List FlowSequence) → first.0 < 2 ^ 32 → ((s : FlowSequence) → Memᴰ s ss → s.0 < 2 ^ 32)
-    → heard_all Highest.Unheard (first ∷ ss) ≡ Highest.At (sequence_at (number_after first.0 ss))
+    → heard_all None (first ∷ ss) ≡ Some (sequence_at (number_after first.0 ss))
 highest_number first ss small each =
-    ap (λ (s : FlowSequence). heard_all (Highest.At s) ss) (sym (sequence_start first small)) ∙ all_numbers first.0 ss each
+    ap (λ (s : FlowSequence). heard_all (Some s) ss) (sym (sequence_start first small)) ∙ all_numbers first.0 ss each
 
 larger_least : (h : ℕ) (z : ℤ) → h ≤ larger h z
 larger_least h (pos k) = omega arith

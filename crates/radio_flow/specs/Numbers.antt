@@ -1,12 +1,11 @@
 -- Document 02, §3, in numbers that never wrap: the highest number heard, and the number that a window stands for.
-use Rattle.std.specs.Prelude.{ℕ, ◌+◌, ◌≤◌, max, ◌≡◌, List, [], ◌∷◌, ℤ, pos, negsuc}
+use Rattle.std.specs.Prelude.{ℕ, ◌+◌, ◌≤◌, max, ◌≡◌, List, [], ◌∷◌, ℤ, pos, negsuc, Option}
 use Rattle.quantity.specs.declared.count.FlowSequence.{FlowSequence}
 use Rattle.quantity.specs.Window.{standing_at}
-use Rattle.radio_flow.specs.declared.Highest.{Highest}
 use Rattle.radio_flow.specs.Granting.{place_of, heard_of}
 
 -- the highest word after sequences were heard, one after another
-abbrev pub heard_all : Highest → List FlowSequence → Highest
+abbrev pub heard_all : Option FlowSequence → List FlowSequence → Option FlowSequence
 heard_all highest [] = highest
 heard_all highest (sequence ∷ sequences) = heard_all (heard_of highest sequence) sequences
 

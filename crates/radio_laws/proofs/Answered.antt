@@ -1,8 +1,9 @@
 -- Promise: each answer to an accepted radio control message, and what the endpoint keeps of it: of a call as it should be on a state. Assumes nothing.
+use Rattle.std.specs.Prelude.{Some, Result, Ok}
+use Rattle.quantity.specs.declared.refusal.Refusal.{Refusal}
 use Prim.Native.Nat.{ℕ, ◌≤◌}
 use mathlib.Core.Bool.{Bool, true, false, cond, not, ◌&&◌}
 use mathlib.Core.List.{List, []}
-use mathlib.Core.Option.{some}
 use mathlib.Core.Path.{◌≡◌, refl, sym, ap, ◌∙◌}
 use borrow.Author.Tests.{eq-eqb, eqb-true, le-ltb}
 use lib.Dec.{eqb}
@@ -37,8 +38,8 @@ link_instance = record { is_known = refl; listed = refl; once = refl }
 datalink_context : ForMessage 4
 datalink_context = record { is_known = refl; listed = refl; once = refl }
 
-abbrev told : Bool → RadioAnswer
-told due = cond due RadioAnswer.Due RadioAnswer.Accepted
+abbrev told : Bool → Result RadioAnswer Refusal
+told due = cond due (Ok RadioAnswer.Due) (Ok RadioAnswer.Accepted)
 
 -- a Context that isn't the last one
 differs : (last : ContextBytes) (size : ℕ) (content : List ℕ) → (last.0 ≡ big_endian content → size ≡ length content → ⊥)
@@ -52,7 +53,7 @@ differs last size content other = go (eqb (big_endian content) last.0) refl (eqb
 
 module _ (s : State) (fits : state_fits s ≡ true) (time : ℕ) (timely : s.pacer.clock ≤ time) (datagram : List ℕ) (octets : Octets datagram)
     (f : Options) (a : Accepts planes.Control ends.Radio s.datalink.id datagram f)
-    {answer : RadioAnswer} {s' : State} (h : PerformedWithAny (radio time datagram) s (of_radio answer) s') where
+    {answer : Result RadioAnswer Refusal} {s' : State} (h : PerformedWithAny (radio time datagram) s (of_radio answer) s') where
   abbrev table : Table
   table = table_of planes.Control ends.Radio f
 
@@ -70,10 +71,10 @@ module _ (s : State) (fits : state_fits s ≡ true) (time : ℕ) (timely : s.pac
   unfolding heard_by with_pacer control_stated
   instance_left = ap (λ (t : State). t.instance) (left s fits time timely datagram octets f a h)
 
-  context_is : (content : List ℕ) → Holds 4 content f → table 4 0 ≡ some content
+  context_is : (content : List ℕ) → Holds 4 content f → table 4 0 ≡ Some content
   context_is = says_once 4 datalink_context s.datalink.id datagram f a
 
-  instance_is : (content : List ℕ) → Holds 3 content f → table 3 0 ≡ some content
+  instance_is : (content : List ℕ) → Holds 3 content f → table 3 0 ≡ Some content
   instance_is = says_once 3 link_instance s.datalink.id datagram f a
 
   -- THE PROMISE
@@ -100,14 +101,14 @@ with_any {time} {datagram} {w} h memory = record { reply_is = h.reply_is; world_
     go true = refl
     go false = refl
 
-answers : {f : Options} {w w' : World} {answer : RadioAnswer} → HandedIn f w answer w' → Answers f w.state answer w'.state
+answers : {f : Options} {w w' : World} {answer : Result RadioAnswer Refusal} → HandedIn f w answer w' → Answers f w.state answer w'.state
 answers {f} {w} h = answered w.state h.fits h.time h.timely h.datagram h.octets f h.accepts (with_any h.performed)
 
 kept_between : {w w' : World} → Between w w' → w'.state.context ≡ w.state.context
 kept_between {w} b = ap (λ (w : World). w.state.context) (ran_world b.performed) ∙ no_gap b.calls w b.no_control
 
 -- THE PROMISE, drawn from `answered` and `no_gap`: after a message without a Context the next one is due, and the same again is not, whatever other calls come between
-pub gap_answered : {f g h : Options} {r s s' t t' u : World} {without again once_more : RadioAnswer}
+pub gap_answered : {f g h : Options} {r s s' t t' u : World} {without again once_more : Result RadioAnswer Refusal}
     → HandedIn f r without s → Between s s' → HandedIn g s' again t → Between t t' → HandedIn h t' once_more u
     → ((other : List ℕ) → Holds 4 other f → ⊥) → (content : List ℕ) → Holds 4 content g → Holds 4 content h → GapAnswers without again once_more
 gap_answered one quiet two still three none content a b = record {

@@ -1,9 +1,9 @@
 -- What the table of an accepted radio control message says of a channel, by the options that stand in the message. Assumes nothing.
+use Rattle.std.specs.Prelude.{Option, Some, None}
 use Prim.Native.Nat.{ℕ}
 use mathlib.Core.Bool.{Bool, true, false, cond}
 use mathlib.Core.List.{List, [], ◌∷◌}
 use mathlib.Core.Logic.{◌↔◌, inl, inr}
-use mathlib.Core.Option.{Option, none, some}
 use mathlib.Core.Path.{◌≡◌, refl, sym, ◌∙◌}
 use borrow.Author.Tests.{eq-eqb, eqb-true}
 use lib.Dec.{eqb}
@@ -66,11 +66,11 @@ holds_listed _ l (later {more = f} h) = holds_listed f l.1 h
 
 module _ (kind : ℕ) (k : ForChannels kind) (id : DatalinkId) (datagram : List ℕ) (f : Options) (a : Accepts planes.Control ends.Radio id datagram f) (n : ℕ) where
   -- what stands in it for a channel is what its table says
-  pub says : (rest : List ℕ) → Holds kind (n ∷ rest) f → table_of planes.Control ends.Radio f kind n ≡ some (n ∷ rest)
+  pub says : (rest : List ℕ) → Holds kind (n ∷ rest) f → table_of planes.Control ends.Radio f kind n ≡ Some (n ∷ rest)
   says rest h = (table_stands planes.Control ends.Radio id datagram f a kind n (n ∷ rest)).1 (holds_stands kind k n (n ∷ rest) f h refl)
 
   -- and what its table says stands in it
-  pub said : (content : List ℕ) → table_of planes.Control ends.Radio f kind n ≡ some content → (rest : List ℕ) × (content ≡ n ∷ rest) × Holds kind (n ∷ rest) f
+  pub said : (content : List ℕ) → table_of planes.Control ends.Radio f kind n ≡ Some content → (rest : List ℕ) × (content ≡ n ∷ rest) × Holds kind (n ∷ rest) f
   said content e =
       let h = stands_holds kind k n content f ((table_stands planes.Control ends.Radio id datagram f a kind n content).0 e) in
       go content h.1 h.0
@@ -80,10 +80,10 @@ module _ (kind : ℕ) (k : ForChannels kind) (id : DatalinkId) (datagram : List 
       go (x ∷ rest) e h = (rest, rw e, rw e h)
 
 -- ---- the same options for a channel are the same row of the table
-alike : (x y : Option (List ℕ)) → ((content : List ℕ) → x ≡ some content → y ≡ some content) → ((content : List ℕ) → y ≡ some content → x ≡ some content) → x ≡ y
-alike none none to back = refl
-alike none (some content) to back = back content refl
-alike (some content) y to back = sym (to content refl)
+alike : (x y : Option (List ℕ)) → ((content : List ℕ) → x ≡ Some content → y ≡ Some content) → ((content : List ℕ) → y ≡ Some content → x ≡ Some content) → x ≡ y
+alike None None to back = refl
+alike None (Some content) to back = back content refl
+alike (Some content) y to back = sym (to content refl)
 
 module _ (kind : ℕ) (k : ForChannels kind) (id : DatalinkId) (datagram other : List ℕ) (f g : Options)
     (a : Accepts planes.Control ends.Radio id datagram f) (b : Accepts planes.Control ends.Radio id other g) (n : ℕ) where
@@ -118,12 +118,12 @@ module _ (kind : ℕ) (k : ForMessage kind) (content : List ℕ) where
   stands_once (option other bytes f) (inr x) = later (stands_once f x)
 
 module _ (kind : ℕ) (k : ForMessage kind) (id : DatalinkId) (datagram : List ℕ) (f : Options) (a : Accepts planes.Control ends.Radio id datagram f) where
-  pub says_once : (content : List ℕ) → Holds kind content f → table_of planes.Control ends.Radio f kind 0 ≡ some content
+  pub says_once : (content : List ℕ) → Holds kind content f → table_of planes.Control ends.Radio f kind 0 ≡ Some content
   says_once content h = (table_stands planes.Control ends.Radio id datagram f a kind 0 content).1 (once_stands kind k content f h)
 
-  pub said_once : ((content : List ℕ) → Holds kind content f → ⊥) → table_of planes.Control ends.Radio f kind 0 ≡ none
+  pub said_once : ((content : List ℕ) → Holds kind content f → ⊥) → table_of planes.Control ends.Radio f kind 0 ≡ None
   said_once never = go (table_of planes.Control ends.Radio f kind 0) refl
     where
-      go : (x : Option (List ℕ)) → table_of planes.Control ends.Radio f kind 0 ≡ x → x ≡ none
-      go none e = refl
-      go (some content) e = absurd (never content (stands_once kind k content f ((table_stands planes.Control ends.Radio id datagram f a kind 0 content).0 e)))
+      go : (x : Option (List ℕ)) → table_of planes.Control ends.Radio f kind 0 ≡ x → x ≡ None
+      go None e = refl
+      go (Some content) e = absurd (never content (stands_once kind k content f ((table_stands planes.Control ends.Radio id datagram f a kind 0 content).0 e)))

@@ -1,8 +1,8 @@
 -- Promise: what a radio control message handed in leaves of each configured channel, option by option: of a call as it should be on a state. Assumes nothing.
+use Rattle.std.specs.Prelude.{Option, Some, None, Ok}
 use Prim.Native.Nat.{ℕ, suc, ◌+◌, ◌*◌, ◌%◌, ◌≤◌, ◌<◌}
 use mathlib.Core.Bool.{true, false}
 use mathlib.Core.List.{List, [], ◌∷◌}
-use mathlib.Core.Option.{Option, none, some}
 use mathlib.Core.Logic.{◌↔◌}
 use mathlib.Core.Path.{◌≡◌, refl, sym, ap, ap₂, ◌∙◌}
 use native.Mathlib.Omega.{arith}
@@ -16,16 +16,13 @@ use Rattle.wire.specs.Numbers.{Octets, number_from}
 use Rattle.wire.specs.Options.{Options, option, bytes}
 use Rattle.meaning.specs.declared.message.End.TheVariants as ends
 use Rattle.meaning.specs.declared.message.Plane.TheVariants as planes
-use Rattle.meaning.specs.declared.message.Status.{Status}
 use Rattle.meaning.specs.declared.message.Window.{Window}
 use Rattle.meaning.specs.declared.message.Control.{Control}
-use Rattle.meaning.specs.Cells.{no_status, no_window}
 use Rattle.meaning.specs.Kinds.{length_listed, CHANNEL-STATUS, FLOW-WINDOW}
 use Rattle.read_option.specs.Stated.{Table, status_from, window_from, control_stated}
 use Rattle.read_control.specs.Message.{control_accepted}
 use Rattle.reader.specs.Header.{CURRENT-VERSION, version_of, flag_of}
 use Rattle.reader.specs.Readings.{plane_of}
-use Rattle.reader.specs.declared.answer.PlaneAnswer.{PlaneAnswer}
 use Rattle.acceptance.specs.Account.{table_of, Accepts, control_meaning}
 use Rattle.acceptance.proofs.Control.{control_account}
 use Rattle.flow.specs.declared.Flow.{Flow}
@@ -79,40 +76,40 @@ module _ (id : DatalinkId) (datagram : List ℕ) (f : Options) (a : Accepts plan
   module _ (n : ℕ) (below : n < CHANNEL-IDS) where
     status_in_lem : status_in meant n ≡ status_from (table 5 n)
     unfolding control_stated
-    status_in_lem = ap (λ cell. cell.status) (get_d_tabulate CHANNEL-IDS (λ k. record { status = status_from (table CHANNEL-STATUS k) }) n no_status below)
+    status_in_lem = ap (λ cell. cell) (get_d_tabulate CHANNEL-IDS (λ k. status_from (table CHANNEL-STATUS k)) n None below)
 
     window_in_lem : window_in meant n ≡ window_from (table 6 n)
     unfolding control_stated
-    window_in_lem = ap (λ cell. cell.window) (get_d_tabulate CHANNEL-IDS (λ k. record { window = window_from (table FLOW-WINDOW k) }) n no_window below)
+    window_in_lem = ap (λ cell. cell) (get_d_tabulate CHANNEL-IDS (λ k. window_from (table FLOW-WINDOW k)) n None below)
 
-    status_named : (byte : ℕ) → Holds 5 (n ∷ (byte ∷ [])) f → status_in meant n ≡ Status.Given (byte % 16)
+    status_named : (byte : ℕ) → Holds 5 (n ∷ (byte ∷ [])) f → status_in meant n ≡ Some (byte % 16)
     status_named byte h = status_in_lem ∙ rw (says 5 channel_status id datagram f a n (byte ∷ []) h)
 
-    status_unnamed : ((byte : ℕ) → Holds 5 (n ∷ (byte ∷ [])) f → ⊥) → status_in meant n ≡ Status.Absent
+    status_unnamed : ((byte : ℕ) → Holds 5 (n ∷ (byte ∷ [])) f → ⊥) → status_in meant n ≡ None
     status_unnamed never = status_in_lem ∙ go (table 5 n) refl
       where
-        go : (x : Option (List ℕ)) → table 5 n ≡ x → status_from x ≡ Status.Absent
-        go none e = refl
-        go (some content) e =
+        go : (x : Option (List ℕ)) → table 5 n ≡ x → status_from x ≡ None
+        go None e = refl
+        go (Some content) e =
             let h = said 5 channel_status id datagram f a n content e in
             let t = one_more n h.0 ((holds_listed f a.listed h.2).length_listed_lem refl) in
             absurd (never t.0 (rw t.1 at h.2))
 
-    window_given : (b c d e : ℕ) → Holds 6 (n ∷ (b ∷ (c ∷ (d ∷ (e ∷ []))))) f → window_in meant n ≡ Window.Given (record { 0 = b * 16777216 + (c * 65536 + (d * 256 + e)) })
+    window_given : (b c d e : ℕ) → Holds 6 (n ∷ (b ∷ (c ∷ (d ∷ (e ∷ []))))) f → window_in meant n ≡ Some (Window.Given (record { 0 = b * 16777216 + (c * 65536 + (d * 256 + e)) }))
     unfolding number_from
     window_given b c d e h =
         let number : number_from 0 (b ∷ (c ∷ (d ∷ (e ∷ [])))) ≡ b * 16777216 + (c * 65536 + (d * 256 + e)) = omega arith in
         window_in_lem ∙ rw (says 6 flow_window_lem id datagram f a n (b ∷ (c ∷ (d ∷ (e ∷ [])))) h, number)
 
-    window_empty : Holds 6 (n ∷ []) f → window_in meant n ≡ Window.Empty
+    window_empty : Holds 6 (n ∷ []) f → window_in meant n ≡ Some Window.Empty
     window_empty h = window_in_lem ∙ rw (says 6 flow_window_lem id datagram f a n [] h)
 
-    window_absent : ((content : List ℕ) → Holds 6 (n ∷ content) f → ⊥) → window_in meant n ≡ Window.Absent
+    window_absent : ((content : List ℕ) → Holds 6 (n ∷ content) f → ⊥) → window_in meant n ≡ None
     window_absent never = window_in_lem ∙ go (table 6 n) refl
       where
-        go : (x : Option (List ℕ)) → table 6 n ≡ x → window_from x ≡ Window.Absent
-        go none e = refl
-        go (some content) e = let h = said 6 flow_window_lem id datagram f a n content e in absurd (never h.0 h.2)
+        go : (x : Option (List ℕ)) → table 6 n ≡ x → window_from x ≡ None
+        go None e = refl
+        go (Some content) e = let h = said 6 flow_window_lem id datagram f a n content e in absurd (never h.0 h.2)
 
   -- ---- what a channel makes of it
   hears : (c : Channel) → c.setting.id < CHANNEL-IDS → flow_fits c.setting.controlled c.flow ≡ true → Hears f c (heard_from meant c)
@@ -131,7 +128,7 @@ module _ (id : DatalinkId) (datagram : List ℕ) (f : Options) (a : Accepts plan
   }
 
   -- ---- the message handed in
-  of_plane : plane_of datagram ≡ PlaneAnswer.Control
+  of_plane : plane_of datagram ≡ Ok planes.Control
   unfolding plane_of
   of_plane =
       let h : length (a.header ∷ bytes f) ≤ LONGEST-DATAGRAM = rw a.whole at a.short in

@@ -1,8 +1,7 @@
 -- Document 01, "A channel's life": what an accepted radio control message makes of a configured channel, by the options that stand in it: types, lengths and bytes
 -- as numbers.
-use Rattle.std.specs.Prelude.{ℕ, ◌+◌, ◌*◌, ◌%◌, ◌<◌, true, false, List, [], ◌∷◌, ◌≡◌, length, get_or}
+use Rattle.std.specs.Prelude.{ℕ, ◌+◌, ◌*◌, ◌%◌, ◌<◌, true, false, List, [], ◌∷◌, ◌≡◌, length, get_or, Some, None}
 use Rattle.wire.specs.Options.{Options, option}
-use Rattle.meaning.specs.declared.message.Status.{Status}
 use Rattle.flow.specs.declared.Flow.{Flow}
 use Rattle.ips_channel.specs.declared.state.Channel.{Channel}
 use Rattle.pacer.specs.declared.Pacer.{Pacer}
@@ -16,8 +15,8 @@ pub data Holds (kind : ℕ) (content : List ℕ) : Options → Type 0 where
 -- Channel Status is type 5: "Channel ID, 4 unused bits, 4-bit Status". Flow Window is type 6: "Channel ID, window or no window".
 pub record Hears (options : Options) (before after : Channel) : Type 0 where
   -- "a configured channel that it names takes its Status; one that it doesn't name is not reported."
-  pub named : (byte : ℕ) → Holds 5 (before.setting.id ∷ (byte ∷ [])) options → after.status ≡ Status.Given (byte % 16)
-  pub unnamed : ((byte : ℕ) → Holds 5 (before.setting.id ∷ (byte ∷ [])) options → ⊥) → after.status ≡ Status.Absent
+  pub named : (byte : ℕ) → Holds 5 (before.setting.id ∷ (byte ∷ [])) options → after.status ≡ Some (byte % 16)
+  pub unnamed : ((byte : ℕ) → Holds 5 (before.setting.id ∷ (byte ∷ [])) options → ⊥) → after.status ≡ None
   -- "For each flow-controlled channel: .. one with a window puts that in force, smaller than before or not", "one without a window leaves it with no window",
   -- "no Flow Window option makes it free"
   pub in_force : before.setting.controlled ≡ true → (a b c d : ℕ) → Holds 6 (before.setting.id ∷ (a ∷ (b ∷ (c ∷ (d ∷ []))))) options

@@ -1,4 +1,5 @@
 -- A control message as its reader reads it: the seats of what options state, the tests on the whole, and a turn of the loop. Assumes nothing.
+use Rattle.std.specs.Prelude.{Option, Some, None, Result, Ok, Err}
 use Prim.Native.Nat.{ℕ, ◌+◌, ◌-◌, ◌≤◌, ◌<◌}
 use mathlib.Core.Path.{◌≡◌, refl, sym, ◌∙◌}
 use mathlib.Core.List.{List}
@@ -10,24 +11,14 @@ use Rattle.quantity.specs.declared.count.LinkInstanceId.{LinkInstanceId}
 use Rattle.quantity.specs.declared.count.FlowSequence.{FlowSequence}
 use Rattle.meaning.specs.declared.message.ContextBytes.{ContextBytes}
 use Rattle.quantity.specs.Refusals.{REPEATED, MISSING, OTHER-DATALINK}
-use Rattle.wire.specs.declared.option.Frame.{Frame}
-use Rattle.wire.specs.declared.option.Frame.TheVariants.{Whole}
 use Rattle.wire.specs.Options.{frame_of, split}
 use Rattle.meaning.specs.declared.message.End.{End}
 use Rattle.meaning.specs.declared.message.Plane.{Plane}
-use Rattle.meaning.specs.declared.message.Datalink.{Datalink}
-use Rattle.meaning.specs.declared.message.Instance.{Instance}
-use Rattle.meaning.specs.declared.message.Context.{Context}
-use Rattle.meaning.specs.declared.message.Status.{Status}
-use Rattle.meaning.specs.declared.message.Sequence.{Sequence}
 use Rattle.meaning.specs.declared.message.Window.{Window}
 use Rattle.meaning.specs.declared.message.Control.{Control}
 use Rattle.meaning.specs.Kinds.{among, may_hold, must_hold, CHANNEL-STATUS}
-use Rattle.meaning.specs.Cells.{no_status, no_sequence, no_window}
 use Rattle.meaning.proofs.Amongst.{amongst}
 use Rattle.read_option.specs.declared.answer.Item.{Item}
-use Rattle.read_option.specs.declared.answer.OptionAnswer.{OptionAnswer}
-use Rattle.read_option.specs.declared.answer.OptionAnswer.TheVariants.{Took, Refused}
 use Rattle.read_option.specs.Items.{item_of, answer_of, InTable, Placed, number_of}
 use Rattle.read_rules.specs.Judging.{Step, next, stop, judge}
 use Rattle.read_rules.specs.Sorts.{finish_of, rules_of, unstated_datalink, is_ours}
@@ -41,9 +32,9 @@ seat_unstated Item.Skipped m = true
 seat_unstated (Item.Datalink d) m = unstated_datalink m.datalink
 seat_unstated (Item.Instance v n) m = unstated_instance m.instance
 seat_unstated (Item.Context b n) m = unstated_context m.context
-seat_unstated (Item.Status channel s) m = unstated_status (get_or m.statuses channel no_status).status
-seat_unstated (Item.Sequence channel s) m = unstated_sequence (get_or m.sequences channel no_sequence).sequence
-seat_unstated (Item.Window channel w) m = unstated_window (get_or m.windows channel no_window).window
+seat_unstated (Item.Status channel s) m = unstated_status (get_or m.statuses channel None)
+seat_unstated (Item.Sequence channel s) m = unstated_sequence (get_or m.sequences channel None)
+seat_unstated (Item.Window channel w) m = unstated_window (get_or m.windows channel None)
 seat_unstated (Item.Channel channel) m = true
 seat_unstated (Item.Expiration t) m = true
 seat_unstated Item.Packet m = true
@@ -51,12 +42,12 @@ seat_unstated Item.Packet m = true
 -- a message with an item in its seat; what only a data message states has none
 abbrev pub seated : Item → Control → Control
 seated Item.Skipped m = m
-seated (Item.Datalink d) m = record { datalink = Datalink.Given d; instance = m.instance; context = m.context; statuses = m.statuses; sequences = m.sequences; windows = m.windows }
-seated (Item.Instance v n) m = record { datalink = m.datalink; instance = Instance.Given v n; context = m.context; statuses = m.statuses; sequences = m.sequences; windows = m.windows }
-seated (Item.Context b n) m = record { datalink = m.datalink; instance = m.instance; context = Context.Given b n; statuses = m.statuses; sequences = m.sequences; windows = m.windows }
-seated (Item.Status channel s) m = record { datalink = m.datalink; instance = m.instance; context = m.context; statuses = set m.statuses channel (record { status = Status.Given s }); sequences = m.sequences; windows = m.windows }
-seated (Item.Sequence channel s) m = record { datalink = m.datalink; instance = m.instance; context = m.context; statuses = m.statuses; sequences = set m.sequences channel (record { sequence = Sequence.Given s }); windows = m.windows }
-seated (Item.Window channel w) m = record { datalink = m.datalink; instance = m.instance; context = m.context; statuses = m.statuses; sequences = m.sequences; windows = set m.windows channel (record { window = w }) }
+seated (Item.Datalink d) m = record { datalink = Some d; instance = m.instance; context = m.context; statuses = m.statuses; sequences = m.sequences; windows = m.windows }
+seated (Item.Instance v n) m = record { datalink = m.datalink; instance = Some (v, n); context = m.context; statuses = m.statuses; sequences = m.sequences; windows = m.windows }
+seated (Item.Context b n) m = record { datalink = m.datalink; instance = m.instance; context = Some (b, n); statuses = m.statuses; sequences = m.sequences; windows = m.windows }
+seated (Item.Status channel s) m = record { datalink = m.datalink; instance = m.instance; context = m.context; statuses = set m.statuses channel (Some s); sequences = m.sequences; windows = m.windows }
+seated (Item.Sequence channel s) m = record { datalink = m.datalink; instance = m.instance; context = m.context; statuses = m.statuses; sequences = set m.sequences channel (Some s); windows = m.windows }
+seated (Item.Window channel w) m = record { datalink = m.datalink; instance = m.instance; context = m.context; statuses = m.statuses; sequences = m.sequences; windows = set m.windows channel w }
 seated (Item.Channel channel) m = m
 seated (Item.Expiration t) m = m
 seated Item.Packet m = m
@@ -82,7 +73,7 @@ twice false false x y = refl
 
 -- 9 by the Channel Status of channel 0
 abbrev pub lacking : End → Control → Bool
-lacking end m = cond (among CHANNEL-STATUS (must_hold Plane.Control end)) (unstated_status (get_or m.statuses 0 no_status).status) false
+lacking end m = cond (among CHANNEL-STATUS (must_hold Plane.Control end)) (unstated_status (get_or m.statuses 0 None)) false
 
 -- the tests on the whole as the reader makes them: 9 by the Datalink Identifier, 9 by that status, then 11
 abbrev pub by_tests : {A : Type 0} → (missing lacks ours : Bool) → A → A → A → A
@@ -92,7 +83,7 @@ finish_is : (end : End) (id : DatalinkId) (place : ℕ) (m : Control) → finish
     ≡ by_tests (unstated_datalink m.datalink) (lacking end m) (is_ours id m.datalink) (control_refused MISSING place) (control_accepted m) (control_refused OTHER-DATALINK place)
 unfolding finish_of control_unstated
 finish_is End.Ips id place m = twice (unstated_datalink m.datalink) false _ _
-finish_is End.Radio id place m = twice (unstated_datalink m.datalink) (unstated_status (get_or m.statuses 0 no_status).status) _ _
+finish_is End.Radio id place m = twice (unstated_datalink m.datalink) (unstated_status (get_or m.statuses 0 None)) _ _
 
 -- the number of their refusal, or 0, tells the answer
 module _ (end : End) (id : DatalinkId) (place : ℕ) (m : Control) {number : ℕ}
@@ -136,18 +127,18 @@ pub record Stating (end : End) (id : DatalinkId) (s : List ℕ) (at n : ℕ) (m 
 
 -- how a turn comes to an item: at a place that is reached within the datagram, a whole option of a type and n bytes of content stands, and is answered
 module _ (end : End) (id : DatalinkId) (s : List ℕ) (at kind n : ℕ) (m : Control) (inv : Reached end id s at m) (inside : at < length s)
-    {frame : Frame} (first : frame ≡ frame_of (take (length s - at) (drop at s))) (there : frame ≡ Whole kind n) where
+    {frame : Option (ℕ × ℕ)} (first : frame ≡ frame_of (take (length s - at) (drop at s))) (there : frame ≡ Some (kind, n)) where
   framed : Framed (control_sort end id) (whole_of end id s) s at m kind n
   framed = record { inv = inv; frame = sym there ∙ first; inside = inside }
 
   pub room : at + 3 + n ≤ length s
   room = room_of framed
 
-  module _ {answer : OptionAnswer} (a : answer ≡ answer_of Plane.Control end kind (content_at s at n)) where
-    pub refusing : {number : ℕ} → answer ≡ Refused number → control_refused (number_of answer) at ≡ whole_of end id s
+  module _ {answer : Result Item ℕ} (a : answer ≡ answer_of Plane.Control end kind (content_at s at n)) where
+    pub refusing : {number : ℕ} → answer ≡ Err number → control_refused (number_of answer) at ≡ whole_of end id s
     refusing e = rw e (sym (faulty framed (adding end id) refl (sym e ∙ a)))
 
-    pub stating : Placed answer → (item : Item) → answer ≡ Took item → Stating end id s at n m item
+    pub stating : Placed answer → (item : Item) → answer ≡ Ok item → Stating end id s at n m item
     stating p item e =
         let parts = parting framed (adding end id) {item = item} refl (sym e ∙ a) in
         record {
@@ -161,7 +152,7 @@ module _ {end : End} {id : DatalinkId} {s : List ℕ} {at n : ℕ} {m : Control}
   -- the variants of `Item` that take no seat: an unknown option's, and those of a data message
   pub passing : (item : Item) → ((d : DatalinkId) → item ≡ Item.Datalink d → ⊥) → ((v : LinkInstanceId) (k : ℕ) → item ≡ Item.Instance v k → ⊥)
       → ((b : ContextBytes) (k : ℕ) → item ≡ Item.Context b k → ⊥) → ((channel v : ℕ) → item ≡ Item.Status channel v → ⊥)
-      → ((channel : ℕ) (v : FlowSequence) → item ≡ Item.Sequence channel v → ⊥) → ((channel : ℕ) (v : Window) → item ≡ Item.Window channel v → ⊥)
+      → ((channel : ℕ) (v : FlowSequence) → item ≡ Item.Sequence channel v → ⊥) → ((channel : ℕ) (v : Option Window) → item ≡ Item.Window channel v → ⊥)
       → Stating end id s at n m item → Reached end id s (at + 3 + n) m
   passing Item.Skipped d i b v q w x = x.taken refl
   passing (Item.Datalink a) d i b v q w x = absurd (d a refl)
@@ -175,11 +166,11 @@ module _ {end : End} {id : DatalinkId} {s : List ℕ} {at n : ℕ} {m : Control}
   passing Item.Packet d i b v q w x = x.taken refl
 
   -- a Flow Window where one stands, with the field or without
-  pub window_repeated : {channel : ℕ} {v : Window} → Stating end id s at n m (Item.Window channel v)
-      → ((get_or m.windows channel no_window).window ≡ Window.Absent → ⊥) → control_refused REPEATED at ≡ whole_of end id s
-  window_repeated {channel} x h = x.repeated (there (get_or m.windows channel no_window).window h)
+  pub window_repeated : {channel : ℕ} {v : Option Window} → Stating end id s at n m (Item.Window channel v)
+      → ((get_or m.windows channel None) ≡ None → ⊥) → control_refused REPEATED at ≡ whole_of end id s
+  window_repeated {channel} x h = x.repeated (there (get_or m.windows channel None) h)
     where
-      there : (w : Window) → (w ≡ Window.Absent → ⊥) → unstated_window w ≡ false
-      there Window.Absent k = absurd (k refl)
-      there Window.Empty k = refl
-      there (Window.Given v) k = refl
+      there : (w : Option Window) → (w ≡ None → ⊥) → unstated_window w ≡ false
+      there None k = absurd (k refl)
+      there (Some Window.Empty) k = refl
+      there (Some (Window.Given v)) k = refl

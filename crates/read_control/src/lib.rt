@@ -10,17 +10,14 @@ ghost use Rattle.read_rules.specs.Judging.{judge};
 ghost use Rattle.read_rules.specs.Sorts.{is_ours, rules_of, unstated_datalink};
 ghost use Rattle.read_control.specs.Message.{unstated_status, blank_control, control_refused, control_sort};
 
-use meaning::message::{
-    Context, Control, Datalink, End, Instance, Sequence, SequenceCell, Status, StatusCell, Window,
-    WindowCell,
-};
+use meaning::message::{Control, End, Window};
 use quantity::count::DatalinkId;
 use quantity::limit::CHANNEL_IDS;
 use quantity::refusal::{CUT, MISSING, OTHER_DATALINK, REPEATED, Refusal};
-use read_option::answer::{Item, OptionAnswer};
+use read_option::answer::Item;
 use read_option::option;
 use read_rules::answer::Verdict;
-use wire::option::{FRAME_SIZE, Frame, first};
+use wire::option::{FRAME_SIZE, first};
 
 // The meaning is that of a message that states nothing unless it is accepted.
 #[derive(Clone, Copy)]
@@ -34,18 +31,12 @@ pub fn blank() -> Control
     ensures { result ≡ blank_control }
 {
     Control {
-        datalink: Datalink::Absent,
-        instance: Instance::Absent,
-        context: Context::Absent,
-        statuses: [StatusCell {
-            status: Status::Absent,
-        }; CHANNEL_IDS],
-        sequences: [SequenceCell {
-            sequence: Sequence::Absent,
-        }; CHANNEL_IDS],
-        windows: [WindowCell {
-            window: Window::Absent,
-        }; CHANNEL_IDS],
+        datalink: None,
+        instance: None,
+        context: None,
+        statuses: [None; CHANNEL_IDS],
+        sequences: [None; CHANNEL_IDS],
+        windows: [None; CHANNEL_IDS],
     }
 }
 
@@ -60,23 +51,23 @@ pub fn refused(number: u8, place: usize) -> ControlReading
 }
 
 // Whether a message of this end must hold a Channel Status for channel 0, and doesn't.
-fn lacks_status(end: End, status: Status) -> bool
+fn lacks_status(end: End, status: Option<u8>) -> bool
     ensures { result ≡ cond (among CHANNEL-STATUS (must_hold Plane.Control end)) (unstated_status status) false }
 {
     match end {
         End::Ips => false,
         End::Radio => match status {
-            Status::Absent => true,
-            Status::Given(_) => false,
+            None => true,
+            Some(_) => false,
         },
     }
 }
 
 // The tests on the whole, 9, then 11: the number of the refusal, or 0.
-fn fault(end: End, id: DatalinkId, datalink: Datalink, status: Status) -> u8
+fn fault(end: End, id: DatalinkId, datalink: Option<DatalinkId>, status: Option<u8>) -> u8
     ensures { result ≡ cond (unstated_datalink datalink) MISSING (cond (cond (among CHANNEL-STATUS (must_hold Plane.Control end)) (unstated_status status) false) MISSING (cond (is_ours id datalink) 0 OTHER-DATALINK)) }
 {
-    let Datalink::Given(stated) = datalink else {
+    let Some(stated) = datalink else {
         return MISSING;
     };
     if lacks_status(end, status) {
@@ -89,19 +80,13 @@ fn fault(end: End, id: DatalinkId, datalink: Datalink, status: Status) -> u8
 }
 
 // A place of the table of windows, by cases: a copy of the whole would wait until its parts, just stored, have come to memory.
-fn window_cell(window: Window) -> WindowCell
-    ensures { result ≡ record { window = window } }
+fn window_cell(window: Option<Window>) -> Option<Window>
+    ensures { result ≡ window }
 {
     match window {
-        Window::Absent => WindowCell {
-            window: Window::Absent,
-        },
-        Window::Empty => WindowCell {
-            window: Window::Empty,
-        },
-        Window::Given(edge) => WindowCell {
-            window: Window::Given(edge),
-        },
+        None => None,
+        Some(Window::Empty) => Some(Window::Empty),
+        Some(Window::Given(edge)) => Some(Window::Given(edge)),
     }
 }
 
@@ -110,75 +95,66 @@ fn window_cell(window: Window) -> WindowCell
 pub fn options(datagram: &[u8], end: End, id: DatalinkId) -> ControlReading
     ensures { result ≡ judge (rules_of (control_sort end id)) (split (drop 1 datagram.now)) 1 blank_control }
 {
-    let mut datalink = Datalink::Absent;
-    let mut instance = Instance::Absent;
-    let mut context = Context::Absent;
-    let mut statuses = [StatusCell {
-        status: Status::Absent,
-    }; CHANNEL_IDS];
-    let mut sequences = [SequenceCell {
-        sequence: Sequence::Absent,
-    }; CHANNEL_IDS];
-    let mut windows = [WindowCell {
-        window: Window::Absent,
-    }; CHANNEL_IDS];
+    let mut datalink = None;
+    let mut instance = None;
+    let mut context = None;
+    let mut statuses = [None; CHANNEL_IDS];
+    let mut sequences = [None; CHANNEL_IDS];
+    let mut windows = [None; CHANNEL_IDS];
     let mut at: usize = 1;
+    // Each option says where the next begins: no `for` or iterator goes by such steps.
     while at < datagram.len() {
-        let Frame::Whole(kind, size) = first(&datagram[at..]) else {
+        let Some((kind, size)) = first(&datagram[at..]) else {
             return refused(CUT, at);
         };
         let from = at + FRAME_SIZE;
         let to = from + size;
         let answer = option::of_control(end, kind, &datagram[from..to]);
-        let OptionAnswer::Took(item) = answer else {
+        let Ok(item) = answer else {
             return refused(option::number_of(answer), at);
         };
         match item {
             Item::Datalink(stated) => {
-                let Datalink::Absent = datalink else {
+                let None = datalink else {
                     return refused(REPEATED, at);
                 };
-                datalink = Datalink::Given(stated);
+                datalink = Some(stated);
             }
             Item::Instance(number, length) => {
-                let Instance::Absent = instance else {
+                let None = instance else {
                     return refused(REPEATED, at);
                 };
-                instance = Instance::Given(number, length);
+                instance = Some((number, length));
             }
             Item::Context(bytes, length) => {
-                let Context::Absent = context else {
+                let None = context else {
                     return refused(REPEATED, at);
                 };
-                context = Context::Given(bytes, length);
+                context = Some((bytes, length));
             }
             Item::Status(channel, status) => {
                 let i = channel as usize;
                 let cell = statuses[i];
-                let there = cell.status;
-                let Status::Absent = there else {
+                let there = cell;
+                let None = there else {
                     return refused(REPEATED, at);
                 };
-                statuses[i] = StatusCell {
-                    status: Status::Given(status),
-                };
+                statuses[i] = Some(status);
             }
             Item::Sequence(channel, sequence) => {
                 let i = channel as usize;
                 let cell = sequences[i];
-                let there = cell.sequence;
-                let Sequence::Absent = there else {
+                let there = cell;
+                let None = there else {
                     return refused(REPEATED, at);
                 };
-                sequences[i] = SequenceCell {
-                    sequence: Sequence::Given(sequence),
-                };
+                sequences[i] = Some(sequence);
             }
             Item::Window(channel, window) => {
                 let i = channel as usize;
                 let cell = windows[i];
-                let there = cell.window;
-                let Window::Absent = there else {
+                let there = cell;
+                let None = there else {
                     return refused(REPEATED, at);
                 };
                 windows[i] = window_cell(window);
@@ -189,7 +165,7 @@ pub fn options(datagram: &[u8], end: End, id: DatalinkId) -> ControlReading
         at = to;
     }
     let cell = statuses[0];
-    let status = cell.status;
+    let status = cell;
     let number = fault(end, id, datalink, status);
     if number != 0 {
         return refused(number, at);

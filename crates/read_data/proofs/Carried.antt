@@ -1,4 +1,5 @@
 -- Where the carried packet stands, turn by turn of the search and of the reading, over plain values. Assumes nothing.
+use Rattle.std.specs.Prelude.{Option, Some, None}
 use Prim.Native.Nat.{ℕ, ◌+◌, ◌-◌, ◌≤◌, ◌<◌}
 use mathlib.Core.Path.{◌≡◌, refl, sym, ◌∙◌}
 use mathlib.Core.Bool.{Bool, true, false, cond}
@@ -12,11 +13,9 @@ use lib.Seq.{drop-drop, take_all}
 use Rattle.facts.proofs.Lists.{rest_part}
 use Rattle.facts.proofs.Tests.{clash}
 use Rattle.quantity.specs.declared.count.DatalinkId.{DatalinkId}
-use Rattle.wire.specs.declared.option.Frame.TheVariants.{Cut, Whole}
 use Rattle.wire.specs.Options.{frame_of, split}
 use Rattle.wire.proofs.Options.{split_end, split_cut, split_whole}
 use Rattle.meaning.specs.declared.message.End.{End}
-use Rattle.meaning.specs.declared.message.Datalink.{Datalink}
 use Rattle.meaning.specs.Kinds.{PACKET-DATA}
 use Rattle.read_rules.specs.declared.answer.Verdict.{Verdict}
 use Rattle.read_rules.specs.Sorts.{finish_of}
@@ -32,14 +31,14 @@ module _ {packet : List ℕ} (s : List ℕ) (at : ℕ) (inv : packet ≡ packet_
   unfolding packet_in
   none_left h = let e : length (drop at s) ≡ 0 = rw length-drop (omega arith) in sym (inv ∙ rw (split_end (drop at s) e))
 
-  pub cut_off_lem : at < length s → Cut ≡ frame_of (take (length s - at) (drop at s)) → [] ≡ packet
+  pub cut_off_lem : at < length s → None ≡ frame_of (take (length s - at) (drop at s)) → [] ≡ packet
   unfolding packet_in
   cut_off_lem h e = sym (inv ∙ rw (split_cut (drop at s) (rw length-drop (omega arith)) (rw rest_part at (sym e))))
 
 -- a turn of the search that finds a whole option, of a type and n bytes of content
 pub record Turned (packet s : List ℕ) (at kind n : ℕ) : Type 0 where
   pub so_far : packet ≡ packet_in (split (drop at s))
-  pub frame : Whole kind n ≡ frame_of (take (length s - at) (drop at s))
+  pub frame : Some (kind, n) ≡ frame_of (take (length s - at) (drop at s))
 
 module _ {packet s : List ℕ} {at kind n : ℕ} (t : Turned packet s at kind n) where
   pub inside : at + 3 + n ≤ length s
@@ -67,7 +66,7 @@ seen_first s = record { bytes = refl; within = omega arith }
 
 -- a turn of the reader in which the packet is still ahead, and a whole option stands
 module _ {s : List ℕ} {at start kind n : ℕ} {packet : Bool} (seen : Seen s at packet start) (ahead : packet ≡ false)
-    (frame : Whole kind n ≡ frame_of (take (length s - at) (drop at s))) where
+    (frame : Some (kind, n) ≡ frame_of (take (length s - at) (drop at s))) where
   turn : Turned (packet_of s) s at kind n
   turn = record { so_far = seen.bytes ∙ rw ahead refl; frame = frame }
 
@@ -123,10 +122,10 @@ has_packet : (end : End) (id : DatalinkId) (n : ℕ) (g : Gathered) → (finish_
 unfolding finish_of data_unstated data_refused
 has_packet end id n g e = go g.message.datalink refl g.packet refl
   where
-    go : (d : Datalink) → g.message.datalink ≡ d → (p : Bool) → g.packet ≡ p → p ≡ true
+    go : (d : Option DatalinkId) → g.message.datalink ≡ d → (p : Bool) → g.packet ≡ p → p ≡ true
     go d q true r = refl
-    go Datalink.Absent q false r = clash (cc)
-    go (Datalink.Given v) q false r = clash (cc)
+    go None q false r = clash (cc)
+    go (Some v) q false r = clash (cc)
 
 module _ {s : List ℕ} {at start : ℕ} {packet : Bool} (seen : Seen s at packet start) (all : length s ≤ at) where
   rest_is : packet ≡ true → packet_of s ≡ drop start s

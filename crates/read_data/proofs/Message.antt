@@ -1,4 +1,5 @@
 -- How an item is added to what a data message states. Assumes nothing.
+use Rattle.std.specs.Prelude.{Option, Some, Result, Ok, Err}
 use Prim.Native.Nat.{ℕ, ◌+◌, ◌-◌, ◌≤◌, ◌<◌}
 use mathlib.Core.Path.{◌≡◌, refl, sym, subst, ◌∙◌}
 use mathlib.Core.List.{List}
@@ -10,21 +11,13 @@ use Rattle.quantity.specs.declared.count.DatalinkId.{DatalinkId}
 use Rattle.quantity.specs.declared.count.FlowSequence.{FlowSequence}
 use Rattle.facts.proofs.Tests.{clash}
 use Rattle.quantity.specs.Refusals.{LENGTH, VALUE, UNLISTED, REPEATED, BEHIND-PACKET}
-use Rattle.wire.specs.declared.option.Frame.{Frame}
-use Rattle.wire.specs.declared.option.Frame.TheVariants.{Whole}
 use Rattle.wire.specs.Options.{frame_of, split}
 use Rattle.meaning.specs.declared.message.End.{End}
 use Rattle.meaning.specs.declared.message.End.TheVariants.{Ips, Radio}
 use Rattle.meaning.specs.declared.message.Plane.TheVariants.{Data}
-use Rattle.meaning.specs.declared.message.Datalink.{Datalink}
-use Rattle.meaning.specs.declared.message.Channel.{Channel}
-use Rattle.meaning.specs.declared.message.Expiration.{Expiration}
-use Rattle.meaning.specs.declared.message.Counted.{Counted}
 use Rattle.meaning.specs.Kinds.{among, known, length_listed, value_listed, may_hold, PACKET-DATA}
 use Rattle.meaning.proofs.Amongst.{amongst}
 use Rattle.read_option.specs.declared.answer.Item.{Item}
-use Rattle.read_option.specs.declared.answer.OptionAnswer.{OptionAnswer}
-use Rattle.read_option.specs.declared.answer.OptionAnswer.TheVariants.{Took, Refused}
 use Rattle.read_option.specs.Items.{item_of, stated_of, answer_of, number_of}
 use Rattle.read_rules.specs.Judging.{Step, next, stop, judge}
 use Rattle.read_rules.specs.Sorts.{unstated_datalink, rules_of}
@@ -33,7 +26,7 @@ use Rattle.read_data.specs.Message.{Gathered, unstated_counted, unstated_channel
 use Rattle.read_data.specs.declared.DataReading.{DataReading}
 
 -- what the code keeps of a message, each part in a variable of its own
-abbrev pub gathered : Datalink → Counted → Channel → Expiration → Bool → Gathered
+abbrev pub gathered : Option DatalinkId → Option (ℕ × FlowSequence) → Option ℕ → Option ℕ → Bool → Gathered
 gathered datalink sequence channel expiration packet =
     record { message = record { datalink = datalink; sequence = sequence; channel = channel; expiration = expiration }; packet = packet }
 
@@ -43,10 +36,10 @@ seat free g = cond free (next g) (stop REPEATED)
 
 -- the items of control messages add nothing: number 6 refuses them before
 abbrev pub add : Item → Gathered → Step Gathered
-add (Item.Datalink d) g = let m = g.message in seat (unstated_datalink m.datalink) (gathered (Datalink.Given d) m.sequence m.channel m.expiration g.packet)
-add (Item.Sequence n s) g = let m = g.message in seat (unstated_counted m.sequence) (gathered m.datalink (Counted.Given n s) m.channel m.expiration g.packet)
-add (Item.Channel n) g = let m = g.message in seat (unstated_channel m.channel) (gathered m.datalink m.sequence (Channel.Given n) m.expiration g.packet)
-add (Item.Expiration t) g = let m = g.message in seat (unstated_expiration m.expiration) (gathered m.datalink m.sequence m.channel (Expiration.Given t) g.packet)
+add (Item.Datalink d) g = let m = g.message in seat (unstated_datalink m.datalink) (gathered (Some d) m.sequence m.channel m.expiration g.packet)
+add (Item.Sequence n s) g = let m = g.message in seat (unstated_counted m.sequence) (gathered m.datalink (Some (n, s)) m.channel m.expiration g.packet)
+add (Item.Channel n) g = let m = g.message in seat (unstated_channel m.channel) (gathered m.datalink m.sequence (Some n) m.expiration g.packet)
+add (Item.Expiration t) g = let m = g.message in seat (unstated_expiration m.expiration) (gathered m.datalink m.sequence m.channel (Some t) g.packet)
 add Item.Packet g = seat (not g.packet) (record { message = g.message; packet = true })
 add Item.Skipped g = next g
 add (Item.Instance v n) g = next g
@@ -124,9 +117,9 @@ unknown_told kind e = go (eqb kind PACKET-DATA) refl
     go false p = refl
     go true p = let q : true ≡ false = rw (eqb-true kind PACKET-DATA p) at e in clash (sym q)
 
-abbrev Told : Bool → OptionAnswer → Type 0
-Told b (Took item) = is_packet item ≡ b
-Told b (Refused number) = Unit {0}
+abbrev Told : Bool → Result Item ℕ → Type 0
+Told b (Ok item) = is_packet item ≡ b
+Told b (Err number) = Unit {0}
 
 answer_told : (end : End) (kind : ℕ) (content : List ℕ) → Told (eqb kind PACKET-DATA) (answer_of Data end kind content)
 unfolding answer_of stated_of
@@ -134,14 +127,14 @@ answer_told end kind content =
     go (among kind known) refl (among kind (may_hold Data end)) refl (length_listed kind (length content)) (value_listed kind content)
   where
     go : (is_known : Bool) → among kind known ≡ is_known → (allowed : Bool) → among kind (may_hold Data end) ≡ allowed → (long meant : Bool)
-        → Told (eqb kind PACKET-DATA) (cond is_known (cond allowed (cond long (cond meant (Took (item_of kind content)) (Refused VALUE)) (Refused LENGTH)) (Refused UNLISTED)) (Took Item.Skipped))
+        → Told (eqb kind PACKET-DATA) (cond is_known (cond allowed (cond long (cond meant (Ok (item_of kind content)) (Err VALUE)) (Err LENGTH)) (Err UNLISTED)) (Ok Item.Skipped))
     go false e allowed a long meant = unknown_told kind e
     go true e false a long meant = tt
     go true e true a false meant = tt
     go true e true a true false = tt
     go true e true a true true = item_told end kind content a
 
-pub packet_told : (end : End) (kind : ℕ) (content : List ℕ) (item : Item) → Took item ≡ answer_of Data end kind content → is_packet item ≡ eqb kind PACKET-DATA
+pub packet_told : (end : End) (kind : ℕ) (content : List ℕ) (item : Item) → Ok item ≡ answer_of Data end kind content → is_packet item ≡ eqb kind PACKET-DATA
 packet_told end kind content item e = subst (Told (eqb kind PACKET-DATA)) (sym e) (answer_told end kind content)
 
 -- ---- a turn of the loop over the options
@@ -153,7 +146,7 @@ whole_of end id s = judge (rules_of (data_sort end id)) (split (drop 1 s)) 1 (da
 -- at a place that is reached within the datagram, a whole option of a type and n bytes of content stands
 module _ (end : End) (id : DatalinkId) (s : List ℕ) (at kind n : ℕ) (g : Gathered)
     (inv : whole_of end id s ≡ judge (rules_of (data_sort end id)) (split (drop at s)) at g) (inside : at < length s)
-    {frame : Frame} (first : frame ≡ frame_of (take (length s - at) (drop at s))) (there : frame ≡ Whole kind n) where
+    {frame : Option (ℕ × ℕ)} (first : frame ≡ frame_of (take (length s - at) (drop at s))) (there : frame ≡ Some (kind, n)) where
   framed : Framed (data_sort end id) (whole_of end id s) s at g kind n
   framed = record { inv = inv; frame = sym there ∙ first; inside = inside }
 
@@ -164,13 +157,13 @@ module _ (end : End) (id : DatalinkId) (s : List ℕ) (at kind n : ℕ) (g : Gat
   behind_packet shut = behind framed (adding end id) shut
 
   -- and is answered, with the packet still ahead
-  module _ (ahead : g.packet ≡ false) {answer : OptionAnswer} (a : answer ≡ answer_of Data end kind (content_at s at n)) where
-    pub refusing : {number : ℕ} → answer ≡ Refused number → whole_of end id s ≡ data_refused (number_of answer) at
+  module _ (ahead : g.packet ≡ false) {answer : Result Item ℕ} (a : answer ≡ answer_of Data end kind (content_at s at n)) where
+    pub refusing : {number : ℕ} → answer ≡ Err number → whole_of end id s ≡ data_refused (number_of answer) at
     refusing e = rw e (faulty framed (adding end id) ahead (sym e ∙ a))
 
-    pub parted : (item : Item) → answer ≡ Took item → Parting (data_sort end id) add (whole_of end id s) s at g n item
+    pub parted : (item : Item) → answer ≡ Ok item → Parting (data_sort end id) add (whole_of end id s) s at g n item
     parted item e = parting framed (adding end id) {item = item} ahead (sym e ∙ a)
 
     -- whether the option holds the packet
-    pub told_by : (item : Item) → answer ≡ Took item → eqb kind PACKET-DATA ≡ is_packet item
+    pub told_by : (item : Item) → answer ≡ Ok item → eqb kind PACKET-DATA ≡ is_packet item
     told_by item e = sym (packet_told end kind (content_at s at n) item (sym e ∙ a))

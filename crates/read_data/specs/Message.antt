@@ -1,12 +1,9 @@
 -- What a data message states so far, its seats and its answers: a sort of message.
-use Rattle.std.specs.Prelude.{ℕ, List, Bool, true, false, cond, not, eqb}
-use Rattle.std.proofs.Math.Option.{Option, none, some}
+use Rattle.quantity.specs.declared.count.FlowSequence.{FlowSequence}
+use Rattle.std.specs.Prelude.{ℕ, List, Bool, true, false, cond, not, eqb, Option, Some, None}
 use Rattle.quantity.specs.declared.count.DatalinkId.{DatalinkId}
 use Rattle.meaning.specs.declared.message.End.{End}
 use Rattle.meaning.specs.declared.message.Plane.TheVariants as planes
-use Rattle.meaning.specs.declared.message.Channel.{Channel}
-use Rattle.meaning.specs.declared.message.Expiration.{Expiration}
-use Rattle.meaning.specs.declared.message.Counted.{Counted}
 use Rattle.meaning.specs.declared.message.Data.{Data}
 use Rattle.meaning.specs.Kinds.{DATALINK-IDENTIFIER, PACKET-DATA, CHANNEL-IDENTIFIER, EXPIRATION-TIME}
 use Rattle.read_option.specs.Stated.{datalink_from, channel_from, expiration_from, counted_from, data_stated, nothing}
@@ -20,20 +17,20 @@ pub record Gathered : Type 0 where
   pub packet : Bool
 
 abbrev pub given : Option (List ℕ) → Bool
-given none = false
-given (some content) = true
+given None = false
+given (Some content) = true
 
-abbrev pub unstated_counted : Counted → Bool
-unstated_counted Counted.Absent = true
-unstated_counted (Counted.Given n s) = false
+abbrev pub unstated_counted : Option (ℕ × FlowSequence) → Bool
+unstated_counted None = true
+unstated_counted (Some (n, s)) = false
 
-abbrev pub unstated_channel : Channel → Bool
-unstated_channel Channel.Absent = true
-unstated_channel (Channel.Given n) = false
+abbrev pub unstated_channel : Option ℕ → Bool
+unstated_channel None = true
+unstated_channel (Some n) = false
 
-abbrev pub unstated_expiration : Expiration → Bool
-unstated_expiration Expiration.Absent = true
-unstated_expiration (Expiration.Given t) = false
+abbrev pub unstated_expiration : Option ℕ → Bool
+unstated_expiration None = true
+unstated_expiration (Some t) = false
 
 unfoldable pub data_unstated : ℕ → ℕ → Gathered → Bool
 data_unstated kind channel g =
@@ -46,17 +43,17 @@ data_unstated kind channel g =
 unfoldable pub data_state : ℕ → ℕ → List ℕ → Gathered → Gathered
 data_state kind channel content g =
     let m = g.message in
-    cond (eqb kind DATALINK-IDENTIFIER) (record { message = record { datalink = datalink_from (some content); sequence = m.sequence; channel = m.channel; expiration = m.expiration }; packet = g.packet })
+    cond (eqb kind DATALINK-IDENTIFIER) (record { message = record { datalink = datalink_from (Some content); sequence = m.sequence; channel = m.channel; expiration = m.expiration }; packet = g.packet })
     (cond (eqb kind PACKET-DATA) (record { message = m; packet = true })
-    (cond (eqb kind CHANNEL-IDENTIFIER) (record { message = record { datalink = m.datalink; sequence = m.sequence; channel = channel_from (some content); expiration = m.expiration }; packet = g.packet })
-    (cond (eqb kind EXPIRATION-TIME) (record { message = record { datalink = m.datalink; sequence = m.sequence; channel = m.channel; expiration = expiration_from (some content) }; packet = g.packet })
-    (record { message = record { datalink = m.datalink; sequence = counted_from (some content); channel = m.channel; expiration = m.expiration }; packet = g.packet }))))
+    (cond (eqb kind CHANNEL-IDENTIFIER) (record { message = record { datalink = m.datalink; sequence = m.sequence; channel = channel_from (Some content); expiration = m.expiration }; packet = g.packet })
+    (cond (eqb kind EXPIRATION-TIME) (record { message = record { datalink = m.datalink; sequence = m.sequence; channel = m.channel; expiration = expiration_from (Some content) }; packet = g.packet })
+    (record { message = record { datalink = m.datalink; sequence = counted_from (Some content); channel = m.channel; expiration = m.expiration }; packet = g.packet }))))
 
 -- number 10: "Flow Sequence in a data message without Channel Identifier, or of another channel"
-abbrev pub pairs : Counted → Channel → Bool
-pairs Counted.Absent channel = true
-pairs (Counted.Given n s) Channel.Absent = false
-pairs (Counted.Given n s) (Channel.Given k) = eqb n k
+abbrev pub pairs : Option (ℕ × FlowSequence) → Option ℕ → Bool
+pairs None channel = true
+pairs (Some (n, s)) None = false
+pairs (Some (n, s)) (Some k) = eqb n k
 
 unfoldable pub blank_data : Data
 blank_data = data_stated nothing

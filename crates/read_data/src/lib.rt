@@ -9,13 +9,13 @@ ghost use Rattle.read_rules.specs.Sorts.{finish_of, rules_of};
 ghost use Rattle.read_data.specs.Message.{pairs, blank_data, data_refused, data_other, data_sort};
 ghost use Rattle.read_data.specs.Packet.{start_with, uncarried_of, carried_reading, Carries};
 
-use meaning::message::{Channel, Counted, Data, Datalink, End, Expiration};
-use quantity::count::DatalinkId;
+use meaning::message::{Data, End};
+use quantity::count::{DatalinkId, FlowSequence};
 use quantity::refusal::{BEHIND_PACKET, CUT, MISSING, OTHER_DATALINK, REPEATED, Refusal, UNPAIRED};
-use read_option::answer::{Item, OptionAnswer};
+use read_option::answer::Item;
 use read_option::option;
 use read_rules::answer::Verdict;
-use wire::option::{FRAME_SIZE, Frame, first};
+use wire::option::{FRAME_SIZE, first};
 
 pub mod packet;
 
@@ -38,10 +38,10 @@ pub fn blank() -> Data
     ensures { result ≡ blank_data }
 {
     Data {
-        datalink: Datalink::Absent,
-        sequence: Counted::Absent,
-        channel: Channel::Absent,
-        expiration: Expiration::Absent,
+        datalink: None,
+        sequence: None,
+        channel: None,
+        expiration: None,
     }
 }
 
@@ -59,13 +59,13 @@ pub fn refused(number: u8, place: usize) -> DataReading
 }
 
 // Number 10: a Flow Sequence needs a Channel Identifier of the same channel.
-fn is_paired(sequence: Counted, channel: Channel) -> bool
+fn is_paired(sequence: Option<(u8, FlowSequence)>, channel: Option<u8>) -> bool
     ensures { result ≡ pairs sequence channel }
 {
-    let Counted::Given(counted, _) = sequence else {
+    let Some((counted, _)) = sequence else {
         return true;
     };
-    let Channel::Given(named) = channel else {
+    let Some(named) = channel else {
         return false;
     };
     counted == named
@@ -76,7 +76,7 @@ fn finished(n: usize, message: Data, packet: bool, id: DatalinkId) -> DataReadin
     ensures { (end : End) → result ≡ finish_of (data_sort end id) n (record { message = message; packet = packet }) }
 {
     let datalink = message.datalink;
-    let Datalink::Given(named) = datalink else {
+    let Some(named) = datalink else {
         return refused(MISSING, n);
     };
     if !packet {
@@ -135,15 +135,16 @@ pub fn with_packet(datagram: &[u8], end: End, id: DatalinkId) -> CarriedReading
     ensures packet { Carries result datagram.now }
 {
     let n = datagram.len();
-    let mut datalink = Datalink::Absent;
-    let mut sequence = Counted::Absent;
-    let mut channel = Channel::Absent;
-    let mut expiration = Expiration::Absent;
+    let mut datalink = None;
+    let mut sequence = None;
+    let mut channel = None;
+    let mut expiration = None;
     let mut packet = false;
     let mut start: usize = 0;
     let mut at: usize = 1;
+    // Each option says where the next begins: no `for` or iterator goes by such steps.
     while at < n {
-        let Frame::Whole(kind, size) = first(&datagram[at..]) else {
+        let Some((kind, size)) = first(&datagram[at..]) else {
             return uncarried(CUT, at, n);
         };
         if packet {
@@ -152,33 +153,33 @@ pub fn with_packet(datagram: &[u8], end: End, id: DatalinkId) -> CarriedReading
         let from = at + FRAME_SIZE;
         let to = from + size;
         let answer = option::of_data(end, kind, &datagram[from..to]);
-        let OptionAnswer::Took(item) = answer else {
+        let Ok(item) = answer else {
             return uncarried(option::number_of(answer), at, n);
         };
         match item {
             Item::Datalink(named) => {
-                let Datalink::Absent = datalink else {
+                let None = datalink else {
                     return uncarried(REPEATED, at, n);
                 };
-                datalink = Datalink::Given(named);
+                datalink = Some(named);
             }
             Item::Sequence(counted, value) => {
-                let Counted::Absent = sequence else {
+                let None = sequence else {
                     return uncarried(REPEATED, at, n);
                 };
-                sequence = Counted::Given(counted, value);
+                sequence = Some((counted, value));
             }
             Item::Channel(named) => {
-                let Channel::Absent = channel else {
+                let None = channel else {
                     return uncarried(REPEATED, at, n);
                 };
-                channel = Channel::Given(named);
+                channel = Some(named);
             }
             Item::Expiration(time) => {
-                let Expiration::Absent = expiration else {
+                let None = expiration else {
                     return uncarried(REPEATED, at, n);
                 };
-                expiration = Expiration::Given(time);
+                expiration = Some(time);
             }
             Item::Packet => {
                 packet = true;
@@ -204,14 +205,15 @@ pub fn options(datagram: &[u8], end: End, id: DatalinkId) -> DataReading
     ensures { result ≡ judge (rules_of (data_sort end id)) (split (drop 1 datagram.now)) 1 (data_sort end id).blank }
 {
     let n = datagram.len();
-    let mut datalink = Datalink::Absent;
-    let mut sequence = Counted::Absent;
-    let mut channel = Channel::Absent;
-    let mut expiration = Expiration::Absent;
+    let mut datalink = None;
+    let mut sequence = None;
+    let mut channel = None;
+    let mut expiration = None;
     let mut packet = false;
     let mut at: usize = 1;
+    // Each option says where the next begins: no `for` or iterator goes by such steps.
     while at < n {
-        let Frame::Whole(kind, size) = first(&datagram[at..]) else {
+        let Some((kind, size)) = first(&datagram[at..]) else {
             return refused(CUT, at);
         };
         if packet {
@@ -220,33 +222,33 @@ pub fn options(datagram: &[u8], end: End, id: DatalinkId) -> DataReading
         let from = at + FRAME_SIZE;
         let to = from + size;
         let answer = option::of_data_alone(end, kind, &datagram[from..to]);
-        let OptionAnswer::Took(item) = answer else {
+        let Ok(item) = answer else {
             return refused(option::number_of(answer), at);
         };
         match item {
             Item::Datalink(named) => {
-                let Datalink::Absent = datalink else {
+                let None = datalink else {
                     return refused(REPEATED, at);
                 };
-                datalink = Datalink::Given(named);
+                datalink = Some(named);
             }
             Item::Sequence(counted, value) => {
-                let Counted::Absent = sequence else {
+                let None = sequence else {
                     return refused(REPEATED, at);
                 };
-                sequence = Counted::Given(counted, value);
+                sequence = Some((counted, value));
             }
             Item::Channel(named) => {
-                let Channel::Absent = channel else {
+                let None = channel else {
                     return refused(REPEATED, at);
                 };
-                channel = Channel::Given(named);
+                channel = Some(named);
             }
             Item::Expiration(time) => {
-                let Expiration::Absent = expiration else {
+                let None = expiration else {
                     return refused(REPEATED, at);
                 };
-                expiration = Expiration::Given(time);
+                expiration = Some(time);
             }
             Item::Packet => {
                 packet = true;

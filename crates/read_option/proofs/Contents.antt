@@ -1,4 +1,5 @@
 -- What the tests of an option tell: of its length, and of the channel that it names. Assumes nothing.
+use Rattle.std.specs.Prelude.{Result, Ok, Err}
 use Prim.Native.Nat.{ℕ, ◌≤◌, ◌<◌}
 use mathlib.Core.Path.{◌≡◌, refl, sym}
 use mathlib.Core.List.{List, [], ◌∷◌}
@@ -15,8 +16,6 @@ use Rattle.meaning.specs.declared.message.Plane.{Plane}
 use Rattle.meaning.specs.Kinds.{among, known, may_hold, length_listed, value_listed, DATALINK-IDENTIFIER, LINK-INSTANCE, DATALINK-CONTEXT, CHANNEL-STATUS, FLOW-WINDOW, PACKET-DATA, CHANNEL-IDENTIFIER, EXPIRATION-TIME, FLOW-SEQUENCE}
 use Rattle.meaning.proofs.Amongst.{amongst}
 use Rattle.read_option.specs.declared.answer.Item.{Item}
-use Rattle.read_option.specs.declared.answer.OptionAnswer.{OptionAnswer}
-use Rattle.read_option.specs.declared.answer.OptionAnswer.TheVariants.{Took, Refused}
 use Rattle.read_option.specs.Items.{item_of, stated_of, answer_of, InTable, Placed}
 
 -- "1 to 8"
@@ -47,7 +46,7 @@ placed plane end kind content =
     go (among kind known) refl (among kind (may_hold plane end)) (length_listed kind (length content)) (value_listed kind content) refl
   where
     go : (b : Bool) → among kind known ≡ b → (d e f : Bool) → value_listed kind content ≡ f
-        → Placed (cond b (cond d (cond e (cond f (Took (item_of kind content)) (Refused VALUE)) (Refused LENGTH)) (Refused UNLISTED)) (Took Item.Skipped))
+        → Placed (cond b (cond d (cond e (cond f (Ok (item_of kind content)) (Err VALUE)) (Err LENGTH)) (Err UNLISTED)) (Ok Item.Skipped))
     go false p d e f q = tt
     go true p false e f q = tt
     go true p true false f q = tt
@@ -61,7 +60,7 @@ held_known Plane.Control End.Radio = amongst (λ k. among k known ≡ true) (may
 held_known Plane.Data End.Ips = amongst (λ k. among k known ≡ true) (may_hold Plane.Data End.Ips) (refl, (refl, (refl, (refl, (refl, tt)))))
 held_known Plane.Data End.Radio = amongst (λ k. among k known ≡ true) (may_hold Plane.Data End.Radio) (refl, (refl, (refl, tt)))
 
-module _ (plane : Plane) (end : End) (kind : ℕ) (content : List ℕ) {r : OptionAnswer} where
+module _ (plane : Plane) (end : End) (kind : ℕ) (content : List ℕ) {r : Result Item ℕ} where
   -- the answer to an option that the message may hold
   pub answer_listed : among kind (may_hold plane end) ≡ true → r ≡ stated_of kind content → (r ≡ answer_of plane end kind content) × Placed r
   unfolding answer_of
@@ -70,7 +69,7 @@ module _ (plane : Plane) (end : End) (kind : ℕ) (content : List ℕ) {r : Opti
       (value, rw value (placed plane end kind content))
 
   -- and to any other
-  pub answer_unlisted : among kind (may_hold plane end) ≡ false → r ≡ cond (among kind known) (Refused UNLISTED) (Took Item.Skipped)
+  pub answer_unlisted : among kind (may_hold plane end) ≡ false → r ≡ cond (among kind known) (Err UNLISTED) (Ok Item.Skipped)
       → (r ≡ answer_of plane end kind content) × Placed r
   unfolding answer_of
   answer_unlisted unheld e =

@@ -11,15 +11,8 @@ pub enum Item {
     Context(ContextBytes, usize),
     Status(u8, u8),
     Sequence(u8, FlowSequence),
-    Window(u8, Window),
+    Window(u8, Option<Window>),
     Channel(u8),
     Expiration(u32),
     Packet,
-}
-
-// An option's answer: what it states, or the number of the refusal.
-#[derive(Clone, Copy)]
-pub enum OptionAnswer {
-    Took(Item),
-    Refused(u8),
 }

@@ -1,10 +1,10 @@
 // What one option states, by its content: each kind tests the length (4), then the value (5).
-ghost use Rattle.std.specs.Prelude.{◌≡◌, cond};
+ghost use Rattle.std.specs.Prelude.{◌≡◌, cond, Ok, Err};
 ghost use Rattle.quantity.specs.Refusals.{UNLISTED};
 ghost use Rattle.meaning.specs.Kinds.{among, known, length_listed, DATALINK-IDENTIFIER, LINK-INSTANCE, DATALINK-CONTEXT, CHANNEL-STATUS, FLOW-WINDOW, CHANNEL-IDENTIFIER, EXPIRATION-TIME, FLOW-SEQUENCE};
 ghost use Rattle.read_option.specs.Items.{stated_of, answer_of, number_of, Placed};
 
-use crate::answer::{Item, OptionAnswer};
+use crate::answer::Item;
 use meaning::kind;
 use meaning::message::{ContextBytes, End, Plane, Window};
 use quantity::count::{DatalinkId, FlowSequence, FlowWindow, LinkInstanceId};
@@ -12,13 +12,13 @@ use quantity::limit::{LONGEST_NAME, RESERVED_CHANNEL, SHORTEST_NAME};
 use quantity::refusal::{LENGTH, UNLISTED, VALUE};
 use wire::number;
 
-fn datalink(content: &[u8]) -> OptionAnswer
+fn datalink(content: &[u8]) -> Result<Item, u8>
     ensures { result ≡ stated_of DATALINK-IDENTIFIER content.now }
 {
     if content.len() != 1 {
-        return OptionAnswer::Refused(LENGTH);
+        return Err(LENGTH);
     }
-    OptionAnswer::Took(Item::Datalink(DatalinkId(content[0])))
+    Ok(Item::Datalink(DatalinkId(content[0])))
 }
 
 // The lengths of a Link Instance; those of a Context are the same.
@@ -31,38 +31,38 @@ fn is_instance_length(n: usize) -> bool
     n <= LONGEST_NAME
 }
 
-fn instance(content: &[u8]) -> OptionAnswer
+fn instance(content: &[u8]) -> Result<Item, u8>
     ensures { result ≡ stated_of LINK-INSTANCE content.now }
 {
     let n = content.len();
     if !is_instance_length(n) {
-        return OptionAnswer::Refused(LENGTH);
+        return Err(LENGTH);
     }
-    OptionAnswer::Took(Item::Instance(LinkInstanceId(number::read(content)), n))
+    Ok(Item::Instance(LinkInstanceId(number::read(content)), n))
 }
 
-fn context(content: &[u8]) -> OptionAnswer
+fn context(content: &[u8]) -> Result<Item, u8>
     ensures { result ≡ stated_of DATALINK-CONTEXT content.now }
 {
     let n = content.len();
     if !is_instance_length(n) {
-        return OptionAnswer::Refused(LENGTH);
+        return Err(LENGTH);
     }
-    OptionAnswer::Took(Item::Context(ContextBytes(number::read(content)), n))
+    Ok(Item::Context(ContextBytes(number::read(content)), n))
 }
 
-fn status(content: &[u8]) -> OptionAnswer
+fn status(content: &[u8]) -> Result<Item, u8>
     ensures { result ≡ stated_of CHANNEL-STATUS content.now }
 {
     if content.len() != 2 {
-        return OptionAnswer::Refused(LENGTH);
+        return Err(LENGTH);
     }
     let channel = content[0];
     if RESERVED_CHANNEL <= channel {
-        return OptionAnswer::Refused(VALUE);
+        return Err(VALUE);
     }
     // the four higher bits are unused
-    OptionAnswer::Took(Item::Status(channel, content[1] % 16))
+    Ok(Item::Status(channel, content[1] % 16))
 }
 
 // A Flow Window's field may be left out.
@@ -76,78 +76,78 @@ fn is_window_length(n: usize) -> bool
     }
 }
 
-fn window(content: &[u8]) -> OptionAnswer
+fn window(content: &[u8]) -> Result<Item, u8>
     ensures { result ≡ stated_of FLOW-WINDOW content.now }
 {
     let n = content.len();
     if !is_window_length(n) {
-        return OptionAnswer::Refused(LENGTH);
+        return Err(LENGTH);
     }
     let channel = content[0];
     if RESERVED_CHANNEL <= channel {
-        return OptionAnswer::Refused(VALUE);
+        return Err(VALUE);
     }
     if n == 1 {
-        return OptionAnswer::Took(Item::Window(channel, Window::Empty));
+        return Ok(Item::Window(channel, Some(Window::Empty)));
     }
     let word = number::read(&content[1..]) as u32;
-    OptionAnswer::Took(Item::Window(channel, Window::Given(FlowWindow(word))))
+    Ok(Item::Window(channel, Some(Window::Given(FlowWindow(word)))))
 }
 
-fn channel(content: &[u8]) -> OptionAnswer
+fn channel(content: &[u8]) -> Result<Item, u8>
     ensures { result ≡ stated_of CHANNEL-IDENTIFIER content.now }
 {
     if content.len() != 1 {
-        return OptionAnswer::Refused(LENGTH);
+        return Err(LENGTH);
     }
     let id = content[0];
     if RESERVED_CHANNEL <= id {
-        return OptionAnswer::Refused(VALUE);
+        return Err(VALUE);
     }
-    OptionAnswer::Took(Item::Channel(id))
+    Ok(Item::Channel(id))
 }
 
-fn expiration(content: &[u8]) -> OptionAnswer
+fn expiration(content: &[u8]) -> Result<Item, u8>
     ensures { result ≡ stated_of EXPIRATION-TIME content.now }
 {
     if content.len() != 4 {
-        return OptionAnswer::Refused(LENGTH);
+        return Err(LENGTH);
     }
     let time = number::read(content);
     // section 3.3.9 reserves 0
     if time == 0 {
-        return OptionAnswer::Refused(VALUE);
+        return Err(VALUE);
     }
-    OptionAnswer::Took(Item::Expiration(time as u32))
+    Ok(Item::Expiration(time as u32))
 }
 
-fn sequence(content: &[u8]) -> OptionAnswer
+fn sequence(content: &[u8]) -> Result<Item, u8>
     ensures { result ≡ stated_of FLOW-SEQUENCE content.now }
 {
     if content.len() != 5 {
-        return OptionAnswer::Refused(LENGTH);
+        return Err(LENGTH);
     }
     let channel = content[0];
     if RESERVED_CHANNEL <= channel {
-        return OptionAnswer::Refused(VALUE);
+        return Err(VALUE);
     }
     let word = number::read(&content[1..]) as u32;
-    OptionAnswer::Took(Item::Sequence(channel, FlowSequence(word)))
+    Ok(Item::Sequence(channel, FlowSequence(word)))
 }
 
 // An option that a message doesn't list: 6; an unknown one is skipped.
-fn unlisted(kind: u8) -> OptionAnswer
-    ensures { result ≡ cond (among kind known) (OptionAnswer.Refused UNLISTED) (OptionAnswer.Took Item.Skipped) }
+fn unlisted(kind: u8) -> Result<Item, u8>
+    ensures { result ≡ cond (among kind known) (Err UNLISTED) (Ok Item.Skipped) }
 {
     if kind::is_known(kind) {
-        return OptionAnswer::Refused(UNLISTED);
+        return Err(UNLISTED);
     }
-    OptionAnswer::Took(Item::Skipped)
+    Ok(Item::Skipped)
 }
 
 // An option in a control message of an end: 6, 4, 5, or what it states. Each walk over options has its own such function, so that the compiler
 // moves it there: one that two walks call stays a call that hands its answer over in memory (docs/SPEED.md).
-pub fn of_control(end: End, kind: u8, content: &[u8]) -> OptionAnswer
+pub fn of_control(end: End, kind: u8, content: &[u8]) -> Result<Item, u8>
     ensures value { result ≡ answer_of Plane.Control end kind content.now }
     ensures placed { Placed result }
 {
@@ -166,7 +166,7 @@ pub fn of_control(end: End, kind: u8, content: &[u8]) -> OptionAnswer
 }
 
 // The same for the walk that notes a control message in tables.
-pub fn of_noted(end: End, kind: u8, content: &[u8]) -> OptionAnswer
+pub fn of_noted(end: End, kind: u8, content: &[u8]) -> Result<Item, u8>
     ensures value { result ≡ answer_of Plane.Control end kind content.now }
     ensures placed { Placed result }
 {
@@ -185,7 +185,7 @@ pub fn of_noted(end: End, kind: u8, content: &[u8]) -> OptionAnswer
 }
 
 // An option in a data message of an end. Packet Data may have any content.
-pub fn of_data(end: End, kind: u8, content: &[u8]) -> OptionAnswer
+pub fn of_data(end: End, kind: u8, content: &[u8]) -> Result<Item, u8>
     ensures value { result ≡ answer_of Plane.Data end kind content.now }
     ensures placed { Placed result }
 {
@@ -195,7 +195,7 @@ pub fn of_data(end: End, kind: u8, content: &[u8]) -> OptionAnswer
     // Flow Sequence is the one left at the end.
     match kind {
         kind::DATALINK_IDENTIFIER => datalink(content),
-        kind::PACKET_DATA => OptionAnswer::Took(Item::Packet),
+        kind::PACKET_DATA => Ok(Item::Packet),
         kind::CHANNEL_IDENTIFIER => channel(content),
         kind::EXPIRATION_TIME => expiration(content),
         _ => sequence(content),
@@ -203,7 +203,7 @@ pub fn of_data(end: End, kind: u8, content: &[u8]) -> OptionAnswer
 }
 
 // The same for the walk that finds no packet.
-pub fn of_data_alone(end: End, kind: u8, content: &[u8]) -> OptionAnswer
+pub fn of_data_alone(end: End, kind: u8, content: &[u8]) -> Result<Item, u8>
     ensures value { result ≡ answer_of Plane.Data end kind content.now }
     ensures placed { Placed result }
 {
@@ -213,7 +213,7 @@ pub fn of_data_alone(end: End, kind: u8, content: &[u8]) -> OptionAnswer
     // Flow Sequence is the one left at the end.
     match kind {
         kind::DATALINK_IDENTIFIER => datalink(content),
-        kind::PACKET_DATA => OptionAnswer::Took(Item::Packet),
+        kind::PACKET_DATA => Ok(Item::Packet),
         kind::CHANNEL_IDENTIFIER => channel(content),
         kind::EXPIRATION_TIME => expiration(content),
         _ => sequence(content),
@@ -221,11 +221,11 @@ pub fn of_data_alone(end: End, kind: u8, content: &[u8]) -> OptionAnswer
 }
 
 // The number that an option is refused by; 0 where it was taken.
-pub fn number_of(answer: OptionAnswer) -> u8
+pub fn number_of(answer: Result<Item, u8>) -> u8
     ensures { result ≡ number_of answer }
 {
     match answer {
-        OptionAnswer::Took(_) => 0,
-        OptionAnswer::Refused(number) => number,
+        Ok(_) => 0,
+        Err(number) => number,
     }
 }

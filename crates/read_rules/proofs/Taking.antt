@@ -1,4 +1,5 @@
 -- The uniform step of specs/Sorts as the code takes it: an option's answer first, then what its item adds, for any sort of message. Assumes nothing.
+use Rattle.std.specs.Prelude.{Some, Result, Ok, Err}
 use Prim.Native.Nat.{ℕ, ◌+◌, ◌-◌, ◌≤◌, ◌<◌}
 use mathlib.Core.Path.{◌≡◌, refl, sym, ◌∙◌}
 use mathlib.Core.List.{List}
@@ -7,12 +8,9 @@ use native.Mathlib.Omega.{arith}
 use lib.ListN.{length, take, drop}
 use lib.Dec.{eqb}
 use Rattle.quantity.specs.Refusals.{LENGTH, VALUE, UNLISTED, REPEATED, BEHIND-PACKET}
-use Rattle.wire.specs.declared.option.Frame.TheVariants.{Whole}
 use Rattle.wire.specs.Options.{frame_of, split}
 use Rattle.meaning.specs.Kinds.{among, known, length_listed, value_listed, may_hold}
 use Rattle.read_option.specs.declared.answer.Item.{Item}
-use Rattle.read_option.specs.declared.answer.OptionAnswer.{OptionAnswer}
-use Rattle.read_option.specs.declared.answer.OptionAnswer.TheVariants.{Took, Refused}
 use Rattle.read_option.specs.Items.{item_of, stated_of, answer_of}
 use Rattle.read_rules.specs.Judging.{Step, next, stop, judge}
 use Rattle.read_rules.specs.Sorts.{Sort, fault_of, channel_of, step_of, rules_of}
@@ -31,9 +29,9 @@ pub record Adding {A B : Type 0} (S : Sort A B) (add : Item → A → Step A) : 
   pub seats : (m : A) (kind : ℕ) → among kind (may_hold S.plane S.end) ≡ true → Seats S add m kind
 
 -- an option's answer taken in
-abbrev pub take_in : {A : Type 0} → (Item → A → Step A) → OptionAnswer → A → Step A
-take_in add (Took item) m = add item m
-take_in add (Refused number) m = stop number
+abbrev pub take_in : {A : Type 0} → (Item → A → Step A) → Result Item ℕ → A → Step A
+take_in add (Ok item) m = add item m
+take_in add (Err number) m = stop number
 
 module _ {A B : Type 0} {S : Sort A B} {add : Item → A → Step A} (adding : Adding S add) where
   -- the step is the answer taken in
@@ -47,7 +45,7 @@ module _ {A B : Type 0} {S : Sort A B} {add : Item → A → Step A} (adding : A
           → let fault = cond is_known (cond allowed (cond long (cond meant 0 VALUE) LENGTH) UNLISTED) 0 in
           cond closed (stop BEHIND-PACKET) (cond (eqb fault 0) (cond is_known seat (next m)) (stop fault))
           ≡ cond closed (stop BEHIND-PACKET)
-          (take_in add (cond is_known (cond allowed (cond long (cond meant (Took (item_of kind content)) (Refused VALUE)) (Refused LENGTH)) (Refused UNLISTED)) (Took Item.Skipped)) m)
+          (take_in add (cond is_known (cond allowed (cond long (cond meant (Ok (item_of kind content)) (Err VALUE)) (Err LENGTH)) (Err UNLISTED)) (Ok Item.Skipped)) m)
       go true is_known allowed long meant seated = refl
       go false false allowed long meant seated = sym (adding.skips m)
       go false true false long meant seated = refl
@@ -62,7 +60,7 @@ content_at s at n = take (at + 3 + n - (at + 3)) (drop (at + 3) s)
 -- whole: what reading the datagram gives; at: where an option stands whole, of a type and n bytes of content; m: what the ones before it state
 pub record Framed {A B : Type 0} (S : Sort A B) (whole : B) (s : List ℕ) (at : ℕ) (m : A) (kind n : ℕ) : Type 0 where
   pub inv : whole ≡ judge (rules_of S) (split (drop at s)) at m
-  pub frame : Whole kind n ≡ frame_of (take (length s - at) (drop at s))
+  pub frame : Some (kind, n) ≡ frame_of (take (length s - at) (drop at s))
   pub inside : at < length s
 
 -- where the arms of a reader's loop part: how the reading goes on, by what the option's item adds
@@ -82,10 +80,10 @@ module _ {A B : Type 0} {S : Sort A B} {whole : B} {s : List ℕ} {at : ℕ} {m 
     pub behind : S.closed m ≡ true → whole ≡ S.refuse BEHIND-PACKET at
     behind shut = stopped _ (step_is adding kind _ m ∙ rw shut)
 
-    pub faulty : {number : ℕ} → S.closed m ≡ false → Refused number ≡ answer_of S.plane S.end kind (content_at s at n) → whole ≡ S.refuse number at
+    pub faulty : {number : ℕ} → S.closed m ≡ false → Err number ≡ answer_of S.plane S.end kind (content_at s at n) → whole ≡ S.refuse number at
     faulty unshut e = stopped _ (step_is adding kind _ m ∙ rw (unshut, ← e))
 
-    pub parting : {item : Item} → S.closed m ≡ false → Took item ≡ answer_of S.plane S.end kind (content_at s at n) → Parting S add whole s at m n item
+    pub parting : {item : Item} → S.closed m ≡ false → Ok item ≡ answer_of S.plane S.end kind (content_at s at n) → Parting S add whole s at m n item
     parting {item} unshut e =
         let step : step_of S kind (content_at s at n) m ≡ add item m = step_is adding kind _ m ∙ rw (unshut, ← e) in
         record {

@@ -1,8 +1,7 @@
 -- One step and one finish for every sort of message: "each tested in the order 3, 8, 6, 4, 5, 7; then 9, 10, 11".
-use Rattle.std.specs.Prelude.{ℕ, List, [], ◌∷◌, Bool, true, false, cond, length, get_or, eqb}
+use Rattle.std.specs.Prelude.{ℕ, List, [], ◌∷◌, Bool, true, false, cond, length, get_or, eqb, Option, Some, None}
 use Rattle.quantity.specs.declared.count.DatalinkId.{DatalinkId}
 use Rattle.quantity.specs.Refusals.{LENGTH, VALUE, UNLISTED, REPEATED, BEHIND-PACKET, MISSING, UNPAIRED, OTHER-DATALINK}
-use Rattle.meaning.specs.declared.message.Datalink.{Datalink}
 use Rattle.meaning.specs.declared.message.End.{End}
 use Rattle.meaning.specs.declared.message.Plane.{Plane}
 use Rattle.meaning.specs.Kinds.{among, known, length_listed, value_listed, may_hold, one_for_each, must_hold}
@@ -60,10 +59,10 @@ rules_of S = record { plane = S.plane; blank = S.blank; step = step_of S; finish
 -- ---- the Datalink ID, which every sort of message must hold
 
 -- number 11: the Datalink ID is the configured one
-abbrev pub is_ours : DatalinkId → Datalink → Bool
-is_ours id Datalink.Absent = false
-is_ours id (Datalink.Given d) = eqb d.0 id.0
+abbrev pub is_ours : DatalinkId → Option DatalinkId → Bool
+is_ours id None = false
+is_ours id (Some d) = eqb d.0 id.0
 
-abbrev pub unstated_datalink : Datalink → Bool
-unstated_datalink Datalink.Absent = true
-unstated_datalink (Datalink.Given d) = false
+abbrev pub unstated_datalink : Option DatalinkId → Bool
+unstated_datalink None = true
+unstated_datalink (Some d) = false

@@ -3,11 +3,3 @@ use quantity::refusal::Refusal;
 pub use read_control::ControlReading;
 pub use read_data::{CarriedReading, DataReading};
 pub use read_rules::answer::Verdict;
-
-// A datagram's plane, by its header.
-#[derive(Clone, Copy)]
-pub enum PlaneAnswer {
-    Control,
-    Data,
-    Refused(Refusal),
-}

@@ -2,9 +2,9 @@
 ghost use Rattle.std.specs.Prelude.{◌≡◌};
 ghost use Rattle.reader.specs.Readings.{read_control};
 
-use crate::answer::{ControlReading, PlaneAnswer, Verdict};
+use crate::answer::{ControlReading, Verdict};
 use crate::header;
-use meaning::message::End;
+use meaning::message::{End, Plane};
 use quantity::count::DatalinkId;
 
 // A control message, read whole, or the first refusal; or the answer that it is of the other plane.
@@ -12,11 +12,11 @@ pub fn read(datagram: &[u8], end: End, id: DatalinkId) -> ControlReading
     ensures { result ≡ read_control end id datagram.now }
 {
     match header::plane(datagram) {
-        PlaneAnswer::Control => read_control::options(datagram, end, id),
-        PlaneAnswer::Data => ControlReading {
+        Ok(Plane::Control) => read_control::options(datagram, end, id),
+        Ok(Plane::Data) => ControlReading {
             verdict: Verdict::OtherPlane,
             message: read_control::blank(),
         },
-        PlaneAnswer::Refused(refusal) => read_control::refused(refusal.number, refusal.place),
+        Err(refusal) => read_control::refused(refusal.number, refusal.place),
     }
 }

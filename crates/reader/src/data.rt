@@ -2,9 +2,9 @@
 ghost use Rattle.std.specs.Prelude.{◌≡◌};
 ghost use Rattle.reader.specs.Readings.{read_data, read_carried, Carries};
 
-use crate::answer::{CarriedReading, DataReading, PlaneAnswer, Verdict};
+use crate::answer::{CarriedReading, DataReading, Verdict};
 use crate::header;
-use meaning::message::End;
+use meaning::message::{End, Plane};
 use quantity::count::DatalinkId;
 
 // A data message, read whole, or the first refusal; or the answer that it is of the other plane.
@@ -12,12 +12,12 @@ pub fn read(datagram: &[u8], end: End, id: DatalinkId) -> DataReading
     ensures { result ≡ read_data end id datagram.now }
 {
     match header::plane(datagram) {
-        PlaneAnswer::Refused(refusal) => read_data::refused(refusal.number, refusal.place),
-        PlaneAnswer::Control => DataReading {
+        Err(refusal) => read_data::refused(refusal.number, refusal.place),
+        Ok(Plane::Control) => DataReading {
             verdict: Verdict::OtherPlane,
             message: read_data::blank(),
         },
-        PlaneAnswer::Data => read_data::options(datagram, end, id),
+        Ok(Plane::Data) => read_data::options(datagram, end, id),
     }
 }
 
@@ -27,10 +27,8 @@ pub fn read_with_packet(datagram: &[u8], end: End, id: DatalinkId) -> CarriedRea
     ensures packet { Carries result datagram.now }
 {
     match header::plane(datagram) {
-        PlaneAnswer::Refused(refusal) => {
-            read_data::uncarried(refusal.number, refusal.place, datagram.len())
-        }
-        PlaneAnswer::Control => read_data::other_plane(datagram.len()),
-        PlaneAnswer::Data => read_data::with_packet(datagram, end, id),
+        Err(refusal) => { read_data::uncarried(refusal.number, refusal.place, datagram.len()) }
+        Ok(Plane::Control) => read_data::other_plane(datagram.len()),
+        Ok(Plane::Data) => read_data::with_packet(datagram, end, id),
     }
 }

@@ -4,7 +4,7 @@ use mathlib.Core.Bool.{Bool, true, false, true≢false}
 use mathlib.Core.List.{List, [], ◌∷◌, ◌++◌, append_assoc, append-nil}
 use mathlib.Core.Logic.{◌⊎◌, inl, inr}
 use Prim.Native.Nat.{ℕ, suc, ◌+◌, ◌≤◌}
-use native.Mathlib.Omega.{arith}
+use native.Mathlib.Numerals.{add-one}
 use lib.ListN.{length}
 use Rattle.facts.proofs.Tests.{clash}
 use Rattle.octets.specs.Bytes.{slice}
@@ -19,31 +19,25 @@ use Rattle.records.specs.Reading.{Passed, here, opened, filled, MOST-TURNS, Come
 use Rattle.records.proofs.Ways as next
 use Rattle.records.proofs.Ways.{Next, next_cases, next_inside}
 
--- ---- a reader's loop: the turns made so far, and how many are left
+-- ---- a reader's loop: the turns made so far
 
-pub record Passing (lent : List ℕ) (start : Input) (buffer : List ℕ) (input : Input) (turns : ℕ) : Type 0 where
-  pub made : ℕ
+pub record Passing (lent : List ℕ) (start : Input) (buffer : List ℕ) (input : Input) (made : ℕ) : Type 0 where
   pub passed : Passed lent start made buffer input
-  pub sum : made + turns ≡ MOST-TURNS
   pub size : length buffer ≡ length lent
 
-pub passing_start : (lent : List ℕ) (start : Input) → Passing lent start lent start MOST-TURNS
-passing_start lent start = record { made = 0; passed = here; sum = refl; size = refl }
+pub passing_start : (lent : List ℕ) (start : Input) → Passing lent start lent start 0
+passing_start lent start = record { passed = here; size = refl }
 
-module _ {lent buffer : List ℕ} {start input : Input} {turns : ℕ} (k : Passing lent start buffer input turns) where
-  pub passing_tired : turns ≡ 0 → Comes lent start (Came.Refused RECORD) buffer
-  passing_tired e =
-      let all : k.made ≡ MOST-TURNS = omega (arith, k.sum) in
-      let passed : Passed lent start MOST-TURNS buffer input = rw (← all) k.passed in
-      tiring passed
+module _ {lent buffer : List ℕ} {start input : Input} {made : ℕ} (k : Passing lent start buffer input made) where
+  pub passing_tired : made ≡ MOST-TURNS → Comes lent start (Came.Refused RECORD) buffer
+  passing_tired all = let passed : Passed lent start MOST-TURNS buffer input = rw (← all) k.passed in tiring passed
 
-  module _ {turns' : ℕ} (fewer : suc turns' ≡ turns) where
-    pub passing_head : {rest : Input} → next_of buffer input ≡ found.Head rest → Passing lent start buffer rest turns'
-    passing_head e = record { made = suc k.made; passed = opened k.passed e; sum = omega (arith, k.sum, fewer); size = k.size }
+  pub passing_head : {rest : Input} → next_of buffer input ≡ found.Head rest → Passing lent start buffer rest (made + 1)
+  passing_head e = rw (add-one made) (record { passed = opened k.passed e; size = k.size })
 
-    pub passing_fill : {buffer' : List ℕ} {r : Input} → next_of buffer input ≡ found.More → Refilled buffer input r buffer' → length buffer' ≡ length buffer
-        → Passing lent start buffer' r turns'
-    passing_fill e f s = record { made = suc k.made; passed = filled k.passed e f s; sum = omega (arith, k.sum, fewer); size = s ∙ k.size }
+  pub passing_fill : {buffer' : List ℕ} {r : Input} → next_of buffer input ≡ found.More → Refilled buffer input r buffer' → length buffer' ≡ length buffer
+      → Passing lent start buffer' r (made + 1)
+  passing_fill e f s = rw (add-one made) (record { passed = filled k.passed e f s; size = s ∙ k.size })
 
 -- a record that comes lies within the buffer
 comes_inside : {lent buffer : List ℕ} {start rest : Input} {from to original : ℕ} → Comes lent start (Came.Record from to original rest) buffer

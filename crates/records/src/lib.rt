@@ -3,7 +3,6 @@
 #![tactic(auto)]
 
 ghost use Rattle.std.specs.Prelude.{◌≡◌, ◌+◌, ◌≤◌, ◌<◌, length, get_or};
-ghost use Rattle.lines.specs.Unread.{tidy_of};
 ghost use Rattle.records.specs.Heads.{number_at, pair_at, is_right, order_of};
 ghost use Rattle.records.specs.Unread.{start_of, held_of, behind_of, short_of, between_of, head_found, record_found, next_of, Refilled};
 ghost use Rattle.records.specs.Reading.{came_by, record_in, Comes};
@@ -110,26 +109,17 @@ pub fn held(n: usize) -> Input
     }
 }
 
-fn byte(bytes: &[u8], at: usize) -> usize
-    requires { at < length bytes.now }
-    ensures value { result ≡ get_or bytes.now at 0 }
-    ensures below { result < 256 }
-{
-    bytes[at] as usize
-}
-
 // A number of two bytes, the higher first or last.
-fn pair(bytes: &[u8], at: usize, big: bool) -> usize
+fn pair(bytes: &[u8], at: usize, big: bool) -> u16
     requires { at + 2 ≤ length bytes.now }
-    ensures value { result ≡ pair_at big at bytes.now }
-    ensures below { result < 65536 }
+    ensures { result ≡ pair_at big at bytes.now }
 {
-    let a = byte(bytes, at);
-    let b = byte(bytes, at + 1);
+    let pair = [bytes[at], bytes[at + 1]];
     if big {
-        return a * 256 + b;
+        u16::from_be_bytes(pair)
+    } else {
+        u16::from_le_bytes(pair)
     }
-    b * 256 + a
 }
 
 // A number of four bytes.
@@ -137,12 +127,12 @@ fn number(bytes: &[u8], at: usize, big: bool) -> usize
     requires { at + 4 ≤ length bytes.now }
     ensures { result ≡ number_at big at bytes.now }
 {
-    let a = pair(bytes, at, big);
-    let b = pair(bytes, at + 2, big);
+    let number = [bytes[at], bytes[at + 1], bytes[at + 2], bytes[at + 3]];
     if big {
-        return a * 65536 + b;
+        u32::from_be_bytes(number) as usize
+    } else {
+        u32::from_le_bytes(number) as usize
     }
-    b * 65536 + a
 }
 
 // Whether a head is of version 2.4 and of Ethernet.
@@ -177,16 +167,6 @@ fn order_of(head: &[u8]) -> Order
         }
     }
     Order::Bad
-}
-
-// Whether what is unread lies within a buffer.
-fn tidy(unread: lines::Input, size: usize) -> bool
-    ensures { result ≡ tidy_of size unread }
-{
-    if unread.at > unread.have {
-        return false;
-    }
-    unread.have <= size
 }
 
 // The input of an opened file behind n bytes.
@@ -280,7 +260,7 @@ pub fn next(buffer: &[u8], input: Input) -> Found
     ensures { result ≡ next_of buffer.now input }
 {
     let unread = input.unread;
-    if !tidy(unread, buffer.len()) {
+    if !lines::tidy(unread, buffer.len()) {
         return Found::End;
     }
     let at = unread.at;
@@ -318,13 +298,9 @@ fn handed(found: Found) -> Came
 pub fn record_in(capture: &[u8], input: Input) -> Came
     ensures { result ≡ record_in capture.now input }
 {
-    let found = next(capture, input);
-    match found {
-        Found::More => handed(found),
-        Found::End => handed(found),
+    match next(capture, input) {
         Found::Head(rest) => handed(next(capture, rest)),
-        Found::Record { .. } => handed(found),
-        Found::Refused(_) => handed(found),
+        found => handed(found),
     }
 }
 
@@ -347,9 +323,7 @@ pub fn read_record<R: Read>(reader: &mut R, buffer: &mut [u8], input: Input) -> 
     ensures { Comes buffer.old input result buffer.new }
 {
     let mut at = input;
-    let mut turns = u64::MAX;
-    while turns > 0 {
-        turns -= 1;
+    for _turn in 0..u64::MAX {
         match next(buffer, at) {
             Found::More => at = fill(reader, buffer, at),
             Found::End => return Came::End,

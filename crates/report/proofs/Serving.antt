@@ -1,19 +1,18 @@
 -- A turn by what came, and what holds between two turns. Assumes nothing.
 use mathlib.Core.Path.{◌≡◌, refl, ap, ◌∙◌}
 use mathlib.Core.List.{List}
-use Prim.Native.Nat.{ℕ, suc, ◌-◌, ◌≤◌, ◌<◌}
-use native.Mathlib.Omega.{arith}
+use Prim.Native.Nat.{ℕ, suc, ◌+◌, ◌-◌}
+use native.Mathlib.Numerals.{add-one}
 use lib.ListN.{length, take, drop}
 use Rattle.octets.specs.Bytes.{slice}
 use Rattle.quantity.specs.declared.count.DatalinkId.{DatalinkId}
 use Rattle.lines.proofs.Laws.{slice_is}
 use Rattle.records.specs.declared.Input.{Input}
 use Rattle.records.specs.declared.Came.{Came}
-use Rattle.records.specs.Unread.{start_of}
 use Rattle.records.specs.Files.{Report}
 use Rattle.records.specs.Endings.{refusal_in}
 use Rattle.records.specs.Reading.{MOST-TURNS, Comes}
-use Rattle.records.proofs.Pieces.{came_inside, Going, Gone, going_start, going_on, going_end, going_refused, going_tired}
+use Rattle.records.proofs.Pieces.{came_inside, Going, Gone, going_on, going_end, going_refused, going_tired}
 use Rattle.ethernet.specs.declared.Ports.{Ports}
 use Rattle.census.specs.Adding.{add_all}
 use Rattle.census.specs.Places.{adds_of}
@@ -44,15 +43,11 @@ module _ (ports : Ports) (id : DatalinkId) where
   abbrev pub counting : List ℕ → List Report → List ℕ × ℕ
   counting counts reports = (count_all (outcomes_of ports id reports) counts, refusal_in reports)
 
-  pub record Serving (lent counts₀ buffer counts : List ℕ) (input : Input) (number : ℕ) : Type 0 where
-    pub going : Going counting lent counts₀ number buffer input counts
-    pub counts_size : length counts ≡ length counts₀
-    pub most : number ≤ MOST-TURNS
+  -- what holds between two turns, after so many of them
+  abbrev pub Serving : (lent counts₀ buffer counts : List ℕ) → Input → (number : ℕ) → Type 0
+  Serving lent counts₀ buffer counts input number = Going counting lent counts₀ number buffer input counts
 
 module _ {ports : Ports} {id : DatalinkId} where
-  pub serving_start : (lent counts : List ℕ) → Serving ports id lent counts lent counts start_of 0
-  serving_start lent counts = record { going = going_start (counting ports id) lent counts; counts_size = refl; most = omega arith }
-
   served : {lent counts₀ counts : List ℕ} {r : ℕ} → Gone (counting ports id) lent counts₀ (counts, r) → Served ports id lent counts₀ r counts
   served gone =
       record {
@@ -63,9 +58,9 @@ module _ {ports : Ports} {id : DatalinkId} where
       }
 
   module _ {lent counts₀ buffer counts : List ℕ} {input : Input} {number : ℕ} (k : Serving ports id lent counts₀ buffer counts input number) where
-    pub serving_tired : MOST-TURNS ≤ number → Served ports id lent counts₀ 0 counts
+    pub serving_tired : number ≡ MOST-TURNS → Served ports id lent counts₀ 0 counts
     unfolding outcomes_of count_all
-    serving_tired e = served (going_tired (counting ports id) k.going (omega (arith, e, k.most)))
+    serving_tired e = served (going_tired (counting ports id) k e)
 
     module _ {came : Came} {buffer' counts' : List ℕ} (t : TurnedTo ports id buffer input counts came buffer' counts') where
       pub serving_end : came ≡ Came.End → Served ports id lent counts₀ 0 counts'
@@ -73,20 +68,20 @@ module _ {ports : Ports} {id : DatalinkId} where
       serving_end e =
           let comes : Comes buffer input Came.End buffer' = rw (← e) t.comes in
           let w : counts' ≡ counts = t.counts_are ∙ rw e in
-          rw w (served (going_end (counting ports id) k.going comes))
+          rw w (served (going_end (counting ports id) k comes))
 
       pub serving_refused : {refusal : ℕ} → came ≡ Came.Refused refusal → Served ports id lent counts₀ refusal counts'
       unfolding outcomes_of count_all
       serving_refused {refusal} e =
           let comes : Comes buffer input (Came.Refused refusal) buffer' = rw (← e) t.comes in
           let w : counts' ≡ counts = t.counts_are ∙ rw e in
-          rw w (served (going_refused (counting ports id) k.going comes))
+          rw w (served (going_refused (counting ports id) k comes))
 
-      pub serving_on : {number' from to original : ℕ} {rest : Input} → number < MOST-TURNS → number' ≡ suc number → came ≡ Came.Record from to original rest → length buffer' ≡ length buffer
-          → length counts' ≡ length counts → Serving ports id lent counts₀ buffer' counts' rest number'
+      pub serving_on : {from to original : ℕ} {rest : Input} → came ≡ Came.Record from to original rest → length buffer' ≡ length buffer
+          → Serving ports id lent counts₀ buffer' counts' rest (number + 1)
       unfolding outcomes_of count_all
-      serving_on {number'} {from} {to} {original} {rest} m n e b s =
+      serving_on {from} {to} {original} {rest} e b =
           let comes : Comes buffer input (Came.Record from to original rest) buffer' = rw (← e) t.comes in
           let w : counts' ≡ add_all (adds_of (outcome_of ports id original (slice from to buffer'))) counts = t.counts_are ∙ rw e in
-          let on : Going (counting ports id) lent counts₀ (suc number) buffer' rest counts' = going_on (counting ports id) k.going comes b (λ more. rw w refl) in
-          record { going = rw n on; counts_size = s ∙ k.counts_size; most = omega (arith, n, m) }
+          let on : Going (counting ports id) lent counts₀ (suc number) buffer' rest counts' = going_on (counting ports id) k comes b (λ more. rw w refl) in
+          rw (add-one number) on

@@ -56,6 +56,7 @@ fn put_name(out: &mut [u8], place: usize) -> usize {
 }
 
 // Says something on standard error, where nothing is left to say of what can't be written there.
+// Each program has its own `complain` and `print`: `Print` promises nothing of what it writes, and a public function promises its whole outcome.
 fn complain(complaints: &impl Print, text: &[u8]) {
     let _said = complaints.write_all(text).is_ok();
 }
@@ -101,12 +102,10 @@ fn say_counts(
     out: &mut [u8],
     counts: &[u64],
 ) -> bool {
-    let mut place = 0;
-    while place < counts.len() {
-        if !say_count(printer, complaints, out, place, counts[place]) {
+    for (place, count) in counts.iter().enumerate() {
+        if !say_count(printer, complaints, out, place, *count) {
             return false;
         }
-        place += 1;
     }
     true
 }
@@ -120,7 +119,8 @@ fn say_refusal(printer: &impl Print, complaints: &impl Print, out: &mut [u8], nu
     say_number(printer, complaints, out, at, number as u64)
 }
 
-// One turn: the next record is counted.
+// One turn: the next record is counted. Not one with `judge`'s turn: over a closure its outcome would be a relation of calls, here it is one equation.
+#[tactic(auto, using(records::proofs::Pieces::came_inside))]
 fn turn<R: Read>(
     reader: &mut R,
     buffer: &mut [u8],
@@ -159,9 +159,7 @@ fn serve<R: Read>(
     ensures { Served ports id buffer.old counts.old result counts.new }
 {
     let mut input = records::start();
-    let mut number: u64 = 0;
-    while number < u64::MAX {
-        number += 1;
+    for _number in 0..u64::MAX {
         match turn(reader, buffer, counts, input, ports, id) {
             Came::End => return 0,
             Came::Record { rest, .. } => input = rest,
@@ -192,20 +190,6 @@ fn report(
     }
 }
 
-// An array that is lent as an array asks no proof of its length.
-fn hold(
-    reader: &mut impl Read,
-    printer: &impl Print,
-    complaints: &impl Print,
-    buffer: &mut [u8; ROOM],
-    counts: &mut [u64; PLACES],
-    out: &mut [u8; LINE],
-    ports: Ports,
-    id: DatalinkId,
-) {
-    report(reader, printer, complaints, buffer, counts, out, ports, id);
-}
-
 fn main(rt: HostRuntime) {
     let mut reader = rt.stdin();
     let printer = rt.stdout();
@@ -224,7 +208,7 @@ fn main(rt: HostRuntime) {
     let mut buffer = [0u8; ROOM];
     let mut counts = [0u64; PLACES];
     let mut out = [0u8; LINE];
-    hold(
+    report(
         &mut reader,
         &printer,
         &complaints,

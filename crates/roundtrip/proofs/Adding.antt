@@ -1,8 +1,9 @@
 -- Options that are put before others, and what a reader of any sort of message makes of them, wherever they stand. Assumes nothing.
+use Rattle.std.specs.Prelude.{Option, Some, None}
+use Rattle.quantity.specs.declared.count.DatalinkId.{DatalinkId}
 use Prim.Native.Nat.{ℕ, suc, ◌+◌, ◌*◌, ◌≤◌}
 use mathlib.Core.Path.{◌≡◌, refl, ◌∙◌}
 use mathlib.Core.List.{List, [], ◌∷◌}
-use mathlib.Core.Option.{some}
 use mathlib.Core.Bool.{true, false}
 use native.Mathlib.Omega.{arith}
 use borrow.Author.Tests.{le-ltb, ne_eqb, eq-eqb}
@@ -13,7 +14,6 @@ use Rattle.wire.specs.Options.{Options, option, bytes, split, WholeOptions}
 use Rattle.wire.proofs.Options.{split_bytes, option_length}
 use Rattle.meaning.specs.declared.message.End.{End}
 use Rattle.meaning.specs.declared.message.Plane.{Plane}
-use Rattle.meaning.specs.declared.message.Datalink.{Datalink}
 use Rattle.meaning.specs.Kinds.{among, known, length_listed, value_listed, may_hold, DATALINK-IDENTIFIER, PACKET-DATA}
 use Rattle.read_option.specs.Stated.{datalink_from}
 use Rattle.read_rules.specs.Judging.{next, judge}
@@ -86,13 +86,13 @@ module _ {A B : Type 0} (S : Sort A B) where
   }
 
   -- a Datalink Identifier: `holds` is what is stated with it
-  pub adds_datalink : (holds : Datalink → A) → S.closed (holds Datalink.Absent) ≡ false
-      → ((content : List ℕ) → S.unstated DATALINK-IDENTIFIER (channel_of S.plane DATALINK-IDENTIFIER content) (holds Datalink.Absent) ≡ true)
-      → ((content : List ℕ) → S.state DATALINK-IDENTIFIER (channel_of S.plane DATALINK-IDENTIFIER content) content (holds Datalink.Absent) ≡ holds (datalink_from (some content)))
-      → (d : Datalink) → Adds 1 (datalink_then d) (holds Datalink.Absent) (holds d)
+  pub adds_datalink : (holds : Option DatalinkId → A) → S.closed (holds None) ≡ false
+      → ((content : List ℕ) → S.unstated DATALINK-IDENTIFIER (channel_of S.plane DATALINK-IDENTIFIER content) (holds None) ≡ true)
+      → ((content : List ℕ) → S.state DATALINK-IDENTIFIER (channel_of S.plane DATALINK-IDENTIFIER content) content (holds None) ≡ holds (datalink_from (Some content)))
+      → (d : Option DatalinkId) → Adds 1 (datalink_then d) (holds None) (holds d)
   unfolding length_listed value_listed
-  adds_datalink holds o f s Datalink.Absent = adds_none 1 (holds Datalink.Absent)
-  adds_datalink holds o f s (Datalink.Given d) =
+  adds_datalink holds o f s None = adds_none 1 (holds None)
+  adds_datalink holds o f s (Some d) =
       adds_option
       (record {
         opened = o;

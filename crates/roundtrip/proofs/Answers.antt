@@ -1,4 +1,5 @@
 -- A writer's outcome is exact: each answer is given where it is due, and nowhere else. Assumes nothing.
+use Rattle.std.specs.Prelude.{Result, Ok, Err}
 use Prim.Native.Nat.{ℕ}
 use mathlib.Core.Path.{◌≡◌, refl, sym, ap, ◌∙◌}
 use mathlib.Core.List.{List}
@@ -13,17 +14,16 @@ use Rattle.quantity.specs.declared.refusal.Refusal.{Refusal}
 use Rattle.quantity.specs.Limits.{LONGEST-DATAGRAM}
 use Rattle.quantity.specs.Refusals.{NO-ROOM, NOT-WRITABLE}
 use Rattle.wire.specs.Options.{over}
-use Rattle.writer.specs.declared.answer.WriteAnswer.{WriteAnswer}
 use Rattle.writer.specs.Written.{Outcome}
 use Rattle.roundtrip.specs.Answers.{Room, refused_by, Exact}
 
 -- any two outcomes of a writer coincide
-pub outcome_one : {allowed : Bool} {message out : List ℕ} {answer answer' : WriteAnswer} {out' out'' : List ℕ} → Outcome allowed message out answer out' → Outcome allowed message out answer' out''
+pub outcome_one : {allowed : Bool} {message out : List ℕ} {answer answer' : Result ByteCount Refusal} {out' out'' : List ℕ} → Outcome allowed message out answer out' → Outcome allowed message out answer' out''
     → (answer ≡ answer') × (out' ≡ out'')
 outcome_one o p = (o.answers ∙ sym p.answers, o.bytes_are ∙ sym p.bytes_are)
 
 -- no answer is two
-apart : {count : ByteCount} {refusal : Refusal} → WriteAnswer.Wrote count ≡ WriteAnswer.Refused refusal → ⊥
+apart : {count : ByteCount} {refusal : Refusal} → Ok count ≡ Err refusal → ⊥
 apart e = clash (cc)
 
 two_numbers_lem : refused_by NO-ROOM ≡ refused_by NOT-WRITABLE → ⊥
@@ -32,8 +32,8 @@ two_numbers_lem e =
     omega (arith, ap (λ (r : Refusal). r.number) same)
 
 -- the three ways out
-module _ (message out : List ℕ) (answer : WriteAnswer) (out' : List ℕ) where
-  wrote : Room message out → answer ≡ WriteAnswer.Wrote (record { 0 = length message }) → out' ≡ over message out → Exact true message out answer out'
+module _ (message out : List ℕ) (answer : Result ByteCount Refusal) (out' : List ℕ) where
+  wrote : Room message out → answer ≡ Ok (record { 0 = length message }) → out' ≡ over message out → Exact true message out answer out'
   wrote r a b = record {
     written = λ p q. (a, b);
     sent = λ count e. record { is_allowed = refl; room = r; count_is = cc; bytes_are = b };

@@ -1,4 +1,10 @@
 -- What is written lies in the order that document 01 gives, unused bits being 0. Assumes nothing.
+use Rattle.std.specs.Prelude.{Option, Some, None, Result, Ok}
+use Rattle.quantity.specs.declared.count.DatalinkId.{DatalinkId}
+use Rattle.quantity.specs.declared.count.LinkInstanceId.{LinkInstanceId}
+use Rattle.quantity.specs.declared.count.FlowSequence.{FlowSequence}
+use Rattle.quantity.specs.declared.refusal.Refusal.{Refusal}
+use Rattle.meaning.specs.declared.message.ContextBytes.{ContextBytes}
 use Prim.Native.Nat.{ℕ, suc, ◌≤◌, ◌<◌}
 use mathlib.Core.Path.{◌≡◌, refl, sym, subst}
 use mathlib.Core.List.{List, [], ◌∷◌}
@@ -11,21 +17,11 @@ use Rattle.quantity.specs.declared.count.ByteCount.{ByteCount}
 use Rattle.wire.specs.Options.{Options}
 use Rattle.meaning.specs.declared.message.End.{End}
 use Rattle.meaning.specs.declared.message.Plane.TheVariants as planes
-use Rattle.meaning.specs.declared.message.Datalink.{Datalink}
-use Rattle.meaning.specs.declared.message.Instance.{Instance}
-use Rattle.meaning.specs.declared.message.Context.{Context}
-use Rattle.meaning.specs.declared.message.Status.{Status}
-use Rattle.meaning.specs.declared.message.Sequence.{Sequence}
 use Rattle.meaning.specs.declared.message.Window.{Window}
-use Rattle.meaning.specs.declared.message.Channel.{Channel}
-use Rattle.meaning.specs.declared.message.Expiration.{Expiration}
-use Rattle.meaning.specs.declared.message.Counted.{Counted}
-use Rattle.meaning.specs.declared.message.StatusCell.{StatusCell}
 use Rattle.meaning.specs.declared.message.Control.{Control}
 use Rattle.meaning.specs.declared.message.Data.{Data}
 use Rattle.meaning.specs.Kinds.{CHANNEL-STATUS}
 use Rattle.writable.specs.Allowed.{may, datalink_allowed, instance_allowed, context_allowed, status_allowed, statuses_allowed, control_allowed, data_allowed}
-use Rattle.writer.specs.declared.answer.WriteAnswer.{WriteAnswer}
 use Rattle.writer.specs.Written.{datalink_then, instance_then, context_then, status_then, sequence_then, window_then, counted_then, channel_then, expiration_then, table_then, control_options, data_options, control_written, data_written, Outcome}
 use Rattle.roundtrip.specs.Values.{ControlValue, DataValue}
 use Rattle.roundtrip.specs.Canonical.{status, sequence, window, InOrder, ended, no_more, alone, for_channel, writers_order, Canonical}
@@ -52,58 +48,58 @@ in_table put kind order step [] channel more h = no_more h
 in_table put kind order step (cell ∷ cells) channel more h = step channel cell _ (in_table put kind order step cells (suc channel) more h)
 
 module _ {order : List ℕ} {more : Options} (h : InOrder order 0 more) where
-  datalink_first : (x : Datalink) → InOrder (1 ∷ order) 0 (datalink_then x more)
-  datalink_first Datalink.Absent = no_more h
-  datalink_first (Datalink.Given d) = alone refl h
+  datalink_first : (x : Option DatalinkId) → InOrder (1 ∷ order) 0 (datalink_then x more)
+  datalink_first None = no_more h
+  datalink_first (Some d) = alone refl h
 
-  instance_first : (x : Instance) → InOrder (3 ∷ order) 0 (instance_then x more)
-  instance_first Instance.Absent = no_more h
-  instance_first (Instance.Given v n) = alone refl h
+  instance_first : (x : Option (LinkInstanceId × ℕ)) → InOrder (3 ∷ order) 0 (instance_then x more)
+  instance_first None = no_more h
+  instance_first (Some (v, n)) = alone refl h
 
-  context_first : (x : Context) → InOrder (4 ∷ order) 0 (context_then x more)
-  context_first Context.Absent = no_more h
-  context_first (Context.Given b n) = alone refl h
+  context_first : (x : Option (ContextBytes × ℕ)) → InOrder (4 ∷ order) 0 (context_then x more)
+  context_first None = no_more h
+  context_first (Some (b, n)) = alone refl h
 
-  counted_first : (x : Counted) → InOrder (134 ∷ order) 0 (counted_then x more)
-  counted_first Counted.Absent = no_more h
-  counted_first (Counted.Given n s) = let low : 0 ≤ n = omega arith in for_channel sequence low (no_more h)
+  counted_first : (x : Option (ℕ × FlowSequence)) → InOrder (134 ∷ order) 0 (counted_then x more)
+  counted_first None = no_more h
+  counted_first (Some (n, s)) = let low : 0 ≤ n = omega arith in for_channel sequence low (no_more h)
 
-  channel_first : (x : Channel) → InOrder (129 ∷ order) 0 (channel_then x more)
-  channel_first Channel.Absent = no_more h
-  channel_first (Channel.Given k) = alone refl h
+  channel_first : (x : Option ℕ) → InOrder (129 ∷ order) 0 (channel_then x more)
+  channel_first None = no_more h
+  channel_first (Some k) = alone refl h
 
-  expiration_first : (x : Expiration) → InOrder (130 ∷ order) 0 (expiration_then x more)
-  expiration_first Expiration.Absent = no_more h
-  expiration_first (Expiration.Given t) = alone refl h
+  expiration_first : (x : Option ℕ) → InOrder (130 ∷ order) 0 (expiration_then x more)
+  expiration_first None = no_more h
+  expiration_first (Some t) = alone refl h
 
 module _ (order : List ℕ) (channel : ℕ) where
   here : channel ≤ channel
   here = omega arith
 
   -- "4-bit Status"
-  status_next : (end : End) (x : Status) → status_allowed end x ≡ true → (more : Options) → InOrder (5 ∷ order) (suc channel) more → InOrder (5 ∷ order) channel (status_then channel x more)
-  status_next end Status.Absent a more h = lower h
-  status_next end (Status.Given s) a more h =
+  status_next : (end : End) (x : Option ℕ) → status_allowed end x ≡ true → (more : Options) → InOrder (5 ∷ order) (suc channel) more → InOrder (5 ∷ order) channel (status_then channel x more)
+  status_next end None a more h = lower h
+  status_next end (Some s) a more h =
       let most = leb-true s 15 ((and-eq-true_iff (may planes.Control end CHANNEL-STATUS) (leb s 15)).0 a).1 in
       let low : s < 16 = omega arith in
       for_channel (status low) here h
 
-  sequence_next : (x : Sequence) (more : Options) → InOrder (134 ∷ order) (suc channel) more → InOrder (134 ∷ order) channel (sequence_then channel x more)
-  sequence_next Sequence.Absent more h = lower h
-  sequence_next (Sequence.Given s) more h = for_channel sequence here h
+  sequence_next : (x : Option FlowSequence) (more : Options) → InOrder (134 ∷ order) (suc channel) more → InOrder (134 ∷ order) channel (sequence_then channel x more)
+  sequence_next None more h = lower h
+  sequence_next (Some s) more h = for_channel sequence here h
 
-  window_next : (x : Window) (more : Options) → InOrder (6 ∷ order) (suc channel) more → InOrder (6 ∷ order) channel (window_then channel x more)
-  window_next Window.Absent more h = lower h
-  window_next Window.Empty more h = for_channel window here h
-  window_next (Window.Given w) more h = for_channel window here h
+  window_next : (x : Option Window) (more : Options) → InOrder (6 ∷ order) (suc channel) more → InOrder (6 ∷ order) channel (window_then channel x more)
+  window_next None more h = lower h
+  window_next (Some Window.Empty) more h = for_channel window here h
+  window_next (Some (Window.Given w)) more h = for_channel window here h
 
-statuses_in_order : (end : End) (order : List ℕ) (cells : List StatusCell) (channel : ℕ) (more : Options) → statuses_allowed end cells ≡ true → InOrder order 0 more
-    → InOrder (5 ∷ order) channel (table_then (λ n cell. status_then n cell.status) channel cells more)
+statuses_in_order : (end : End) (order : List ℕ) (cells : List (Option ℕ)) (channel : ℕ) (more : Options) → statuses_allowed end cells ≡ true → InOrder order 0 more
+    → InOrder (5 ∷ order) channel (table_then (λ n cell. status_then n cell) channel cells more)
 unfolding table_then statuses_allowed
 statuses_in_order end order [] channel more a h = no_more h
 statuses_in_order end order (cell ∷ cells) channel more a h =
-    let both = (and-eq-true_iff (status_allowed end cell.status) (statuses_allowed end cells)).0 a in
-    status_next order channel end cell.status both.0 _ (statuses_in_order end order cells (suc channel) more both.1 h)
+    let both = (and-eq-true_iff (status_allowed end cell) (statuses_allowed end cells)).0 a in
+    status_next order channel end cell both.0 _ (statuses_in_order end order cells (suc channel) more both.1 h)
 
 control_in_order : (end : End) (m : Control) → control_allowed end m ≡ true → InOrder writers_order 0 (control_options m)
 unfolding control_options control_allowed
@@ -116,8 +112,8 @@ control_in_order end m e =
     (instance_first
     (context_first
     (statuses_in_order end _ m.statuses 0 _ d
-    (in_table (λ n cell. sequence_then n cell.sequence) 134 _ (λ n cell. sequence_next _ n cell.sequence) m.sequences 0 _
-    (in_table (λ n cell. window_then n cell.window) 6 _ (λ n cell. window_next _ n cell.window) m.windows 0 _ ended)))
+    (in_table (λ n cell. sequence_then n cell) 134 _ (λ n cell. sequence_next _ n cell) m.sequences 0 _
+    (in_table (λ n cell. window_then n cell) 6 _ (λ n cell. window_next _ n cell) m.windows 0 _ ended)))
     m.context)
     m.instance)
     m.datalink
@@ -156,14 +152,14 @@ data_canonical end m packet value e = record {
 }
 
 -- The bytes that a writer's answer counts, whatever was to be written.
-pub control_wrote : (end : End) (m : Control) → ControlValue m → (out : List ℕ) (answer : WriteAnswer) (out' : List ℕ)
-    → Outcome (control_allowed end m) (control_written m) out answer out' → (count : ByteCount) → answer ≡ WriteAnswer.Wrote count → Canonical 16 (take count.0 out')
+pub control_wrote : (end : End) (m : Control) → ControlValue m → (out : List ℕ) (answer : Result ByteCount Refusal) (out' : List ℕ)
+    → Outcome (control_allowed end m) (control_written m) out answer out' → (count : ByteCount) → answer ≡ Ok count → Canonical 16 (take count.0 out')
 control_wrote end m value out answer out' o count e =
     let s = (exact (control_written m) out answer out' (control_allowed end m) o).sent count e in
     subst (Canonical 16) (sym (counted s)) (control_canonical end m value s.is_allowed)
 
-pub data_wrote : (end : End) (m : Data) (packet : List ℕ) → DataValue m → (out : List ℕ) (answer : WriteAnswer) (out' : List ℕ)
-    → Outcome (data_allowed end m (length packet)) (data_written m packet) out answer out' → (count : ByteCount) → answer ≡ WriteAnswer.Wrote count
+pub data_wrote : (end : End) (m : Data) (packet : List ℕ) → DataValue m → (out : List ℕ) (answer : Result ByteCount Refusal) (out' : List ℕ)
+    → Outcome (data_allowed end m (length packet)) (data_written m packet) out answer out' → (count : ByteCount) → answer ≡ Ok count
     → Canonical 24 (take count.0 out')
 data_wrote end m packet value out answer out' o count e =
     let s = (exact (data_written m packet) out answer out' (data_allowed end m (length packet)) o).sent count e in

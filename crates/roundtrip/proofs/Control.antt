@@ -1,8 +1,11 @@
 -- A control message that may be written, once written, is read back as itself, and fits every datagram. Assumes nothing.
+use Rattle.std.specs.Prelude.{Option, Some, None}
+use Rattle.quantity.specs.declared.count.LinkInstanceId.{LinkInstanceId}
+use Rattle.quantity.specs.declared.count.FlowSequence.{FlowSequence}
+use Rattle.meaning.specs.declared.message.ContextBytes.{ContextBytes}
 use Prim.Native.Nat.{ℕ, ◌+◌, ◌≤◌, ◌<◌, ◌^◌}
 use mathlib.Core.Path.{◌≡◌, refl, sym, subst, ◌∙◌}
 use mathlib.Core.List.{List, [], ◌∷◌}
-use mathlib.Core.Option.{some}
 use mathlib.Core.Bool.{true, false, ◌&&◌, and-eq-true_iff}
 use native.Mathlib.Omega.{arith}
 use native.Mathlib.Nat.{mod-eq_of_lt}
@@ -17,18 +20,9 @@ use Rattle.wire.specs.Options.{Options, done, option, bytes, WholeOptions}
 use Rattle.wire.proofs.Numbers.{length_bytes, there_and_back}
 use Rattle.meaning.specs.declared.message.End.{End}
 use Rattle.meaning.specs.declared.message.Plane.TheVariants as planes
-use Rattle.meaning.specs.declared.message.Datalink.{Datalink}
-use Rattle.meaning.specs.declared.message.Instance.{Instance}
-use Rattle.meaning.specs.declared.message.Context.{Context}
-use Rattle.meaning.specs.declared.message.Status.{Status}
-use Rattle.meaning.specs.declared.message.Sequence.{Sequence}
 use Rattle.meaning.specs.declared.message.Window.{Window}
-use Rattle.meaning.specs.declared.message.StatusCell.{StatusCell}
-use Rattle.meaning.specs.declared.message.SequenceCell.{SequenceCell}
-use Rattle.meaning.specs.declared.message.WindowCell.{WindowCell}
 use Rattle.meaning.specs.declared.message.Control.{Control}
 use Rattle.meaning.specs.Kinds.{among, known, length_listed, value_listed, LINK-INSTANCE, DATALINK-CONTEXT, CHANNEL-STATUS, FLOW-WINDOW, FLOW-SEQUENCE, PACKET-DATA}
-use Rattle.meaning.specs.Cells.{no_status, no_sequence, no_window}
 use Rattle.read_option.specs.Stated.{status_from, sequence_from, window_from, control_stated}
 use Rattle.read_rules.specs.Judging.{judge}
 use Rattle.read_rules.specs.Sorts.{channel_of, finish_of}
@@ -42,22 +36,22 @@ use Rattle.roundtrip.proofs.Adding.{Adds, adds_none, adds_option, adds_both, add
 use Rattle.roundtrip.proofs.Tables.{Cell, nothing, stated, Column, adds_column}
 
 -- a message with another part of one kind
-abbrev with_datalink : Control → Datalink → Control
+abbrev with_datalink : Control → Option DatalinkId → Control
 with_datalink m d = record { datalink = d; instance = m.instance; context = m.context; statuses = m.statuses; sequences = m.sequences; windows = m.windows }
 
-abbrev with_instance : Control → Instance → Control
+abbrev with_instance : Control → Option (LinkInstanceId × ℕ) → Control
 with_instance m x = record { datalink = m.datalink; instance = x; context = m.context; statuses = m.statuses; sequences = m.sequences; windows = m.windows }
 
-abbrev with_context : Control → Context → Control
+abbrev with_context : Control → Option (ContextBytes × ℕ) → Control
 with_context m c = record { datalink = m.datalink; instance = m.instance; context = c; statuses = m.statuses; sequences = m.sequences; windows = m.windows }
 
-abbrev with_statuses : Control → List StatusCell → Control
+abbrev with_statuses : Control → List (Option ℕ) → Control
 with_statuses m cells = record { datalink = m.datalink; instance = m.instance; context = m.context; statuses = cells; sequences = m.sequences; windows = m.windows }
 
-abbrev with_sequences : Control → List SequenceCell → Control
+abbrev with_sequences : Control → List (Option FlowSequence) → Control
 with_sequences m cells = record { datalink = m.datalink; instance = m.instance; context = m.context; statuses = m.statuses; sequences = cells; windows = m.windows }
 
-abbrev with_windows : Control → List WindowCell → Control
+abbrev with_windows : Control → List (Option Window) → Control
 with_windows m cells = record { datalink = m.datalink; instance = m.instance; context = m.context; statuses = m.statuses; sequences = m.sequences; windows = cells }
 
 -- ---- Link Instance and Context: a number of n bytes
@@ -85,59 +79,59 @@ module _ (end : End) (id : DatalinkId) where
       })
       (rw length_bytes (leb-true n LONGEST-NAME bounds.1)) p
 
-  adds_instance : (m : Control) (x : Instance) → instance_allowed end x ≡ true → Adds (control_sort end id) 1 (instance_then x) (with_instance m Instance.Absent) (with_instance m x)
+  adds_instance : (m : Control) (x : Option (LinkInstanceId × ℕ)) → instance_allowed end x ≡ true → Adds (control_sort end id) 1 (instance_then x) (with_instance m None) (with_instance m x)
   unfolding length_listed value_listed control_unstated control_state
-  adds_instance m Instance.Absent e = adds_none (control_sort end id) 1 (with_instance m Instance.Absent)
-  adds_instance m (Instance.Given v n) e =
-      adds_spelled LINK-INSTANCE v.0 n (with_instance m Instance.Absent) (with_instance m (Instance.Given v n)) refl refl refl (λ content. refl) (λ content. refl)
+  adds_instance m None e = adds_none (control_sort end id) 1 (with_instance m None)
+  adds_instance m (Some (v, n)) e =
+      adds_spelled LINK-INSTANCE v.0 n (with_instance m None) (with_instance m (Some (v, n))) refl refl refl (λ content. refl) (λ content. refl)
       (λ content b l. rw (b, l)) e
 
-  adds_context : (m : Control) (x : Context) → context_allowed end x ≡ true → Adds (control_sort end id) 1 (context_then x) (with_context m Context.Absent) (with_context m x)
+  adds_context : (m : Control) (x : Option (ContextBytes × ℕ)) → context_allowed end x ≡ true → Adds (control_sort end id) 1 (context_then x) (with_context m None) (with_context m x)
   unfolding length_listed value_listed control_unstated control_state
-  adds_context m Context.Absent e = adds_none (control_sort end id) 1 (with_context m Context.Absent)
-  adds_context m (Context.Given v n) e =
-      adds_spelled DATALINK-CONTEXT v.0 n (with_context m Context.Absent) (with_context m (Context.Given v n)) refl refl refl (λ content. refl) (λ content. refl)
+  adds_context m None e = adds_none (control_sort end id) 1 (with_context m None)
+  adds_context m (Some (v, n)) e =
+      adds_spelled DATALINK-CONTEXT v.0 n (with_context m None) (with_context m (Some (v, n))) refl refl refl (λ content. refl) (λ content. refl)
       (λ content b l. rw (b, l)) e
 
 -- ---- the three tables, each with what a content makes of a place
 
-abbrev status_made : List ℕ → StatusCell
-status_made content = record { status = status_from (some content) }
+abbrev status_made : List ℕ → Option ℕ
+status_made content = status_from (Some content)
 
-abbrev sequence_made : List ℕ → SequenceCell
-sequence_made content = record { sequence = sequence_from (some content) }
+abbrev sequence_made : List ℕ → Option FlowSequence
+sequence_made content = sequence_from (Some content)
 
-abbrev window_made : List ℕ → WindowCell
-window_made content = record { window = window_from (some content) }
+abbrev window_made : List ℕ → Option Window
+window_made content = window_from (Some content)
 
 module _ (end : End) where
-  status_cell : (channel : ℕ) (x : Status) → status_allowed end x ≡ true → Cell end CHANNEL-STATUS no_status status_made channel (status_then channel x) (record { status = x })
+  status_cell : (channel : ℕ) (x : Option ℕ) → status_allowed end x ≡ true → Cell end CHANNEL-STATUS None status_made channel (status_then channel x) x
   unfolding length_listed
-  status_cell channel Status.Absent e = nothing
-  status_cell channel (Status.Given s) e =
+  status_cell channel None e = nothing
+  status_cell channel (Some s) e =
       let parts = (and-eq-true_iff (may planes.Control end CHANNEL-STATUS) (leb s HIGHEST-STATUS)).0 e in
       let small : s < 16 = omega (arith, leb-true s HIGHEST-STATUS parts.1) in
-      stated (record { status = Status.Given s }) (s ∷ []) parts.0 refl (lit≤ tt) (rw (mod-eq_of_lt small))
+      stated (Some s) (s ∷ []) parts.0 refl (lit≤ tt) (rw (mod-eq_of_lt small))
 
-  sequence_cell : (channel : ℕ) (x : Sequence) → sequence_allowed end x ≡ true → SequenceWord x
-      → Cell end FLOW-SEQUENCE no_sequence sequence_made channel (sequence_then channel x) (record { sequence = x })
+  sequence_cell : (channel : ℕ) (x : Option FlowSequence) → sequence_allowed end x ≡ true → SequenceWord x
+      → Cell end FLOW-SEQUENCE None sequence_made channel (sequence_then channel x) x
   unfolding length_listed
-  sequence_cell channel Sequence.Absent e w = nothing
-  sequence_cell channel (Sequence.Given s) e w =
+  sequence_cell channel None e w = nothing
+  sequence_cell channel (Some s) e w =
       let l = length_bytes 4 s.0 in
-      stated (record { sequence = Sequence.Given s }) (bytes_of 4 s.0) e (rw l) (omega arith) (rw (there_and_back 4 s.0 w))
+      stated (Some s) (bytes_of 4 s.0) e (rw l) (omega arith) (rw (there_and_back 4 s.0 w))
 
-  window_cell : (channel : ℕ) (x : Window) → window_allowed end x ≡ true → WindowWord x
-      → Cell end FLOW-WINDOW no_window window_made channel (window_then channel x) (record { window = x })
+  window_cell : (channel : ℕ) (x : Option Window) → window_allowed end x ≡ true → WindowWord x
+      → Cell end FLOW-WINDOW None window_made channel (window_then channel x) x
   unfolding length_listed
-  window_cell channel Window.Absent e w = nothing
-  window_cell channel Window.Empty e w = stated (record { window = Window.Empty }) [] e refl (lit≤ tt) refl
-  window_cell channel (Window.Given x) e w =
+  window_cell channel None e w = nothing
+  window_cell channel (Some Window.Empty) e w = stated (Some Window.Empty) [] e refl (lit≤ tt) refl
+  window_cell channel (Some (Window.Given x)) e w =
       let l = length_bytes 4 x.0 in
-      stated (record { window = Window.Given x }) (bytes_of 4 x.0) e (rw l) (omega arith) (rw (l, there_and_back 4 x.0 w))
+      stated (Some (Window.Given x)) (bytes_of 4 x.0) e (rw l) (omega arith) (rw (l, there_and_back 4 x.0 w))
 
   module _ (m : Control) where
-    status_column : Column end CHANNEL-STATUS (λ n cell. status_then n cell.status) no_status (with_statuses m) status_made (λ cell. status_allowed end cell.status ≡ true)
+    status_column : Column end CHANNEL-STATUS (λ n cell. status_then n cell) None (with_statuses m) status_made (λ cell. status_allowed end cell ≡ true)
     unfolding control_unstated control_state
     status_column = record {
       is_known = refl;
@@ -146,11 +140,11 @@ module _ (end : End) where
       no_packet = refl;
       frees = λ cells channel e. rw e;
       states = λ cells channel content. refl;
-      puts = λ channel cell e. status_cell channel cell.status e;
+      puts = λ channel cell e. status_cell channel cell e;
     }
 
-    sequence_column : Column end FLOW-SEQUENCE (λ n cell. sequence_then n cell.sequence) no_sequence (with_sequences m) sequence_made
-        (λ cell. (sequence_allowed end cell.sequence ≡ true) × SequenceWord cell.sequence)
+    sequence_column : Column end FLOW-SEQUENCE (λ n cell. sequence_then n cell) None (with_sequences m) sequence_made
+        (λ cell. (sequence_allowed end cell ≡ true) × SequenceWord cell)
     unfolding control_unstated control_state
     sequence_column = record {
       is_known = refl;
@@ -159,11 +153,11 @@ module _ (end : End) where
       no_packet = refl;
       frees = λ cells channel e. rw e;
       states = λ cells channel content. refl;
-      puts = λ channel cell e. sequence_cell channel cell.sequence e.0 e.1;
+      puts = λ channel cell e. sequence_cell channel cell e.0 e.1;
     }
 
-    window_column : Column end FLOW-WINDOW (λ n cell. window_then n cell.window) no_window (with_windows m) window_made
-        (λ cell. (window_allowed end cell.window ≡ true) × WindowWord cell.window)
+    window_column : Column end FLOW-WINDOW (λ n cell. window_then n cell) None (with_windows m) window_made
+        (λ cell. (window_allowed end cell ≡ true) × WindowWord cell)
     unfolding control_unstated control_state
     window_column = record {
       is_known = refl;
@@ -172,17 +166,17 @@ module _ (end : End) where
       no_packet = refl;
       frees = λ cells channel e. rw e;
       states = λ cells channel content. refl;
-      puts = λ channel cell e. window_cell channel cell.window e.0 e.1;
+      puts = λ channel cell e. window_cell channel cell e.0 e.1;
     }
 
 -- what a test on the whole message says of its parts
 record Parts (end : End) (m : Control) : Type 0 where
   instance : instance_allowed end m.instance ≡ true
   context : context_allowed end m.context ≡ true
-  statuses : (n : ℕ) → status_allowed end (get_or m.statuses n no_status).status ≡ true
+  statuses : (n : ℕ) → status_allowed end (get_or m.statuses n None) ≡ true
   primary : primary_allowed end m.statuses ≡ true
-  sequences : (n : ℕ) → sequence_allowed end (get_or m.sequences n no_sequence).sequence ≡ true
-  windows : (n : ℕ) → window_allowed end (get_or m.windows n no_window).window ≡ true
+  sequences : (n : ℕ) → sequence_allowed end (get_or m.sequences n None) ≡ true
+  windows : (n : ℕ) → window_allowed end (get_or m.windows n None) ≡ true
 
 parts_allowed : (end : End) (m : Control) → control_allowed end m ≡ true → Parts end m
 unfolding control_allowed statuses_allowed sequences_allowed windows_allowed
@@ -196,10 +190,10 @@ parts_allowed end m e =
     record {
       instance = b.0;
       context = c.0;
-      statuses = each_place (statuses_allowed end) (λ cell. status_allowed end cell.status) no_status (λ cell cells. refl) refl m.statuses d.0;
+      statuses = each_place (statuses_allowed end) (λ cell. status_allowed end cell) None (λ cell cells. refl) refl m.statuses d.0;
       primary = f.0;
-      sequences = each_place (sequences_allowed end) (λ cell. sequence_allowed end cell.sequence) no_sequence (λ cell cells. refl) refl m.sequences g.0;
-      windows = each_place (windows_allowed end) (λ cell. window_allowed end cell.window) no_window (λ cell cells. refl) refl m.windows g.1;
+      sequences = each_place (sequences_allowed end) (λ cell. sequence_allowed end cell) None (λ cell cells. refl) refl m.sequences g.0;
+      windows = each_place (windows_allowed end) (λ cell. window_allowed end cell) None (λ cell cells. refl) refl m.windows g.1;
     }
 
 -- the options of a message, before others
@@ -215,31 +209,31 @@ most m = 1 + (1 + (1 + (length m.statuses + (length m.sequences + length m.windo
 
 -- nothing stated, and then part after part, in tables as long as the message's own
 abbrev no_windows : Control → Control
-no_windows m = with_windows m (replicate (length m.windows) no_window)
+no_windows m = with_windows m (replicate (length m.windows) None)
 
 abbrev no_sequences : Control → Control
-no_sequences m = with_sequences (no_windows m) (replicate (length m.sequences) no_sequence)
+no_sequences m = with_sequences (no_windows m) (replicate (length m.sequences) None)
 
 abbrev no_statuses : Control → Control
-no_statuses m = with_statuses (no_sequences m) (replicate (length m.statuses) no_status)
+no_statuses m = with_statuses (no_sequences m) (replicate (length m.statuses) None)
 
 abbrev no_context : Control → Control
-no_context m = with_context (no_statuses m) Context.Absent
+no_context m = with_context (no_statuses m) None
 
 abbrev no_instance : Control → Control
-no_instance m = with_instance (no_context m) Instance.Absent
+no_instance m = with_instance (no_context m) None
 
 abbrev no_datalink : Control → Control
-no_datalink m = with_datalink (no_instance m) Datalink.Absent
+no_datalink m = with_datalink (no_instance m) None
 
 blank_is : (m : Control) → ControlValue m → no_datalink m ≡ blank_control
 unfolding blank_control control_stated
 blank_is m value =
-    rw (tabulate_same no_status value.statuses_long, tabulate_same no_sequence value.sequences_long, tabulate_same no_window value.windows_long)
+    rw (tabulate_same {A = Option ℕ} None value.statuses_long, tabulate_same {A = Option FlowSequence} None value.sequences_long, tabulate_same {A = Option Window} None value.windows_long)
 
-standing : (x : Status) → stands x ≡ true → unstated_status x ≡ false
-standing Status.Absent e = sym e
-standing (Status.Given s) e = refl
+standing : (x : Option ℕ) → stands x ≡ true → unstated_status x ≡ false
+standing None e = sym e
+standing (Some s) e = refl
 
 module _ (end : End) (id : DatalinkId) (m : Control) (value : ControlValue m) (allowed : control_allowed end m ≡ true) where
   adds_control : Adds (control_sort end id) (most m) (control_then m) blank_control m
@@ -257,13 +251,13 @@ module _ (end : End) (id : DatalinkId) (m : Control) (value : ControlValue m) (a
       (adds_column id (window_column end m) m.windows value.windows_long (λ n. (parts.windows n, value.window_words n))))))))
 
   -- 9, 10 and 11 find nothing
-  finishes : m.datalink ≡ Datalink.Given id → (place : ℕ) → finish_of (control_sort end id) place m ≡ control_accepted m
+  finishes : m.datalink ≡ Some id → (place : ℕ) → finish_of (control_sort end id) place m ≡ control_accepted m
   unfolding finish_of control_unstated
   finishes d place = go end (parts_allowed end m allowed).primary
     where
       go : (e : End) → primary_allowed e m.statuses ≡ true → finish_of (control_sort e id) place m ≡ control_accepted m
       go End.Ips p = rw (d, eq-eqb id.0 id.0 refl)
-      go End.Radio p = rw (d, standing (get_or m.statuses 0 no_status).status p, eq-eqb id.0 id.0 refl)
+      go End.Radio p = rw (d, standing (get_or m.statuses 0 None) p, eq-eqb id.0 id.0 refl)
 
 -- every option that is written is whole
 pub control_whole : (end : End) (m : Control) → ControlValue m → control_allowed end m ≡ true → WholeOptions (control_options m)
@@ -276,7 +270,7 @@ unfolding control_written control_options bytes
 control_short end m value allowed =
     omega (arith, (adds_control end (record { 0 = 0 }) m value allowed).short done, value.statuses_long, value.sequences_long, value.windows_long)
 
-pub control_round : (end : End) (id : DatalinkId) (m : Control) → ControlValue m → control_allowed end m ≡ true → m.datalink ≡ Datalink.Given id
+pub control_round : (end : End) (id : DatalinkId) (m : Control) → ControlValue m → control_allowed end m ≡ true → m.datalink ≡ Some id
     → read_control end id (control_written m) ≡ control_accepted m
 unfolding read_control control_written control_options judge WholeOptions
 control_round end id m value allowed d =

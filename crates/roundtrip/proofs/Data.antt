@@ -1,4 +1,6 @@
 -- A data message that may be written, once written, is read back as itself, with its packet. Assumes nothing.
+use Rattle.std.specs.Prelude.{Option, Some, None}
+use Rattle.quantity.specs.declared.count.FlowSequence.{FlowSequence}
 use Prim.Native.Nat.{ℕ, ◌≤◌, ◌<◌, ◌^◌}
 use mathlib.Core.Path.{◌≡◌, refl, ap, ◌∙◌}
 use mathlib.Core.List.{List}
@@ -13,10 +15,6 @@ use Rattle.wire.specs.Options.{Options, done, option, WholeOptions}
 use Rattle.wire.proofs.Numbers.{length_bytes, there_and_back}
 use Rattle.meaning.specs.declared.message.End.{End}
 use Rattle.meaning.specs.declared.message.Plane.TheVariants as planes
-use Rattle.meaning.specs.declared.message.Datalink.{Datalink}
-use Rattle.meaning.specs.declared.message.Counted.{Counted}
-use Rattle.meaning.specs.declared.message.Channel.{Channel}
-use Rattle.meaning.specs.declared.message.Expiration.{Expiration}
 use Rattle.meaning.specs.declared.message.Data.{Data}
 use Rattle.meaning.specs.Kinds.{among, length_listed, value_listed, may_hold, CHANNEL-IDENTIFIER, EXPIRATION-TIME, FLOW-SEQUENCE, PACKET-DATA}
 use Rattle.read_option.specs.Stated.{data_stated}
@@ -45,25 +43,25 @@ abbrev whole : Data → Gathered
 whole m = record { message = m; packet = true }
 
 -- a message with another part of one kind
-abbrev with_datalink : Data → Datalink → Data
+abbrev with_datalink : Data → Option DatalinkId → Data
 with_datalink m d = record { datalink = d; sequence = m.sequence; channel = m.channel; expiration = m.expiration }
 
-abbrev with_counted : Data → Counted → Data
+abbrev with_counted : Data → Option (ℕ × FlowSequence) → Data
 with_counted m q = record { datalink = m.datalink; sequence = q; channel = m.channel; expiration = m.expiration }
 
-abbrev with_channel : Data → Channel → Data
+abbrev with_channel : Data → Option ℕ → Data
 with_channel m c = record { datalink = m.datalink; sequence = m.sequence; channel = c; expiration = m.expiration }
 
-abbrev with_expiration : Data → Expiration → Data
+abbrev with_expiration : Data → Option ℕ → Data
 with_expiration m t = record { datalink = m.datalink; sequence = m.sequence; channel = m.channel; expiration = t }
 
 module _ (end : End) (id : DatalinkId) (m : Data) where
-  adds_counted : (q : Counted) (c : Channel) → counted_allowed end q c ≡ true → channel_allowed end c ≡ true → CountedWord q
-      → Adds (data_sort end id) 1 (counted_then q) (reading (with_counted m Counted.Absent)) (reading (with_counted m q))
+  adds_counted : (q : Option (ℕ × FlowSequence)) (c : Option ℕ) → counted_allowed end q c ≡ true → channel_allowed end c ≡ true → CountedWord q
+      → Adds (data_sort end id) 1 (counted_then q) (reading (with_counted m None)) (reading (with_counted m q))
   unfolding length_listed value_listed data_unstated data_state
-  adds_counted Counted.Absent c e f w = adds_none (data_sort end id) 1 (reading (with_counted m Counted.Absent))
-  adds_counted (Counted.Given n s) Channel.Absent e f w = absurd (false≢true e)
-  adds_counted (Counted.Given n s) (Channel.Given k) e f w =
+  adds_counted None c e f w = adds_none (data_sort end id) 1 (reading (with_counted m None))
+  adds_counted (Some (n, s)) None e f w = absurd (false≢true e)
+  adds_counted (Some (n, s)) (Some k) e f w =
       let sequence = (and-eq-true_iff (may planes.Data end FLOW-SEQUENCE) (eqb n k)).0 e in
       let channel = (and-eq-true_iff (may planes.Data end CHANNEL-IDENTIFIER) (ltb k RESERVED-CHANNEL)).0 f in
       let l = length_bytes 4 s.0 in
@@ -79,20 +77,20 @@ module _ (end : End) (id : DatalinkId) (m : Data) where
       })
       (omega arith) refl
 
-  adds_channel : (c : Channel) → channel_allowed end c ≡ true → Adds (data_sort end id) 1 (channel_then c) (reading (with_channel m Channel.Absent)) (reading (with_channel m c))
+  adds_channel : (c : Option ℕ) → channel_allowed end c ≡ true → Adds (data_sort end id) 1 (channel_then c) (reading (with_channel m None)) (reading (with_channel m c))
   unfolding length_listed value_listed data_unstated data_state
-  adds_channel Channel.Absent e = adds_none (data_sort end id) 1 (reading (with_channel m Channel.Absent))
-  adds_channel (Channel.Given k) e =
+  adds_channel None e = adds_none (data_sort end id) 1 (reading (with_channel m None))
+  adds_channel (Some k) e =
       let parts = (and-eq-true_iff (may planes.Data end CHANNEL-IDENTIFIER) (ltb k RESERVED-CHANNEL)).0 e in
       adds_option (data_sort end id)
       (record { opened = refl; is_known = refl; may_stand = parts.0; length_listed_lem = refl; value_listed_lem = parts.1; is_free = refl; states = refl })
       (lit≤ tt) refl
 
-  adds_expiration : (t : Expiration) → expiration_allowed end t ≡ true → ExpirationWord t
-      → Adds (data_sort end id) 1 (expiration_then t) (reading (with_expiration m Expiration.Absent)) (reading (with_expiration m t))
+  adds_expiration : (t : Option ℕ) → expiration_allowed end t ≡ true → ExpirationWord t
+      → Adds (data_sort end id) 1 (expiration_then t) (reading (with_expiration m None)) (reading (with_expiration m t))
   unfolding length_listed value_listed data_unstated data_state
-  adds_expiration Expiration.Absent e w = adds_none (data_sort end id) 1 (reading (with_expiration m Expiration.Absent))
-  adds_expiration (Expiration.Given t) e w =
+  adds_expiration None e w = adds_none (data_sort end id) 1 (reading (with_expiration m None))
+  adds_expiration (Some t) e w =
       let parts = (and-eq-true_iff (may planes.Data end EXPIRATION-TIME) (not (eqb t 0))).0 e in
       let l = length_bytes 4 t in
       let b = there_and_back 4 t w in
@@ -108,10 +106,10 @@ module _ (end : End) (id : DatalinkId) (m : Data) where
       (record { opened = refl; is_known = refl; may_stand = packet_may_stand end; length_listed_lem = refl; value_listed_lem = refl; is_free = refl; states = refl })
       done answer k
 
-pairs_allowed : (end : End) (q : Counted) (c : Channel) → counted_allowed end q c ≡ true → pairs q c ≡ true
-pairs_allowed end Counted.Absent c e = refl
-pairs_allowed end (Counted.Given n s) Channel.Absent e = e
-pairs_allowed end (Counted.Given n s) (Channel.Given k) e = ((and-eq-true_iff (may planes.Data end FLOW-SEQUENCE) (eqb n k)).0 e).1
+pairs_allowed : (end : End) (q : Option (ℕ × FlowSequence)) (c : Option ℕ) → counted_allowed end q c ≡ true → pairs q c ≡ true
+pairs_allowed end None c e = refl
+pairs_allowed end (Some (n, s)) None e = e
+pairs_allowed end (Some (n, s)) (Some k) e = ((and-eq-true_iff (may planes.Data end FLOW-SEQUENCE) (eqb n k)).0 e).1
 
 -- what a test on the whole message says of its parts
 record Parts (end : End) (m : Data) (n : ℕ) : Type 0 where
@@ -135,13 +133,13 @@ data_then m more = datalink_then m.datalink (counted_then m.sequence (channel_th
 
 -- nothing stated, and then part after part
 abbrev no_expiration : Data → Data
-no_expiration m = with_expiration m Expiration.Absent
+no_expiration m = with_expiration m None
 
 abbrev no_channel : Data → Data
-no_channel m = with_channel (no_expiration m) Channel.Absent
+no_channel m = with_channel (no_expiration m) None
 
 abbrev no_counted : Data → Data
-no_counted m = with_counted (no_channel m) Counted.Absent
+no_counted m = with_counted (no_channel m) None
 
 module _ (end : End) (id : DatalinkId) (m : Data) (packet : List ℕ) (value : DataValue m) (allowed : data_allowed end m (length packet) ≡ true) where
   adds_data : Adds (data_sort end id) 4 (data_then m) (data_sort end id).blank (reading m)
@@ -155,7 +153,7 @@ module _ (end : End) (id : DatalinkId) (m : Data) (packet : List ℕ) (value : D
       (adds_expiration end id m m.expiration parts.expiration value.expiration_word)))
 
   -- 9, 10 and 11 find nothing
-  finishes : m.datalink ≡ Datalink.Given id → (place : ℕ) → finish_of (data_sort end id) place (whole m) ≡ data_accepted (whole m)
+  finishes : m.datalink ≡ Some id → (place : ℕ) → finish_of (data_sort end id) place (whole m) ≡ data_accepted (whole m)
   unfolding finish_of data_unstated
   finishes d place =
       rw (d, pairs_allowed end m.sequence m.channel (parts_allowed end m (length packet) allowed).counted, eq-eqb id.0 id.0 refl)
@@ -169,7 +167,7 @@ pub data_whole : (end : End) (m : Data) (packet : List ℕ) → DataValue m → 
 unfolding data_options
 data_whole end m packet value allowed = (adds_data end (record { 0 = 0 }) m packet value allowed).whole (option PACKET-DATA packet done) (packet_whole end m packet allowed)
 
-pub data_round : (end : End) (id : DatalinkId) (m : Data) (packet : List ℕ) → DataValue m → data_allowed end m (length packet) ≡ true → m.datalink ≡ Datalink.Given id
+pub data_round : (end : End) (id : DatalinkId) (m : Data) (packet : List ℕ) → DataValue m → data_allowed end m (length packet) ≡ true → m.datalink ≡ Some id
     → length (data_written m packet) ≤ LONGEST-DATAGRAM → read_data end id (data_written m packet) ≡ record { verdict = Verdict.Accepted; message = m }
 unfolding read_data data_written data_options data_accepted
 data_round end id m packet value allowed d short =

@@ -1,8 +1,8 @@
 -- What is known of each option that an accepted message is said to hold. Assumes nothing.
+use Rattle.std.specs.Prelude.{Option, Some, None}
 use Prim.Native.Nat.{ℕ}
 use mathlib.Core.Path.{◌≡◌, refl}
 use mathlib.Core.List.{List, [], ◌∷◌, ◌++◌}
-use mathlib.Core.Option.{Option, none, some}
 use mathlib.Core.Bool.{Bool, true, false, cond}
 use native.Mathlib.Omega.{arith}
 use borrow.Author.Tests.{eqb-true}
@@ -27,8 +27,8 @@ pub record Held (plane : Plane) (end : End) (kind : ℕ) (content : List ℕ) : 
 
 -- what a place of a table holds
 abbrev pub Holds : Plane → End → ℕ → Option (List ℕ) → Type 0
-Holds plane end kind none = Unit {0}
-Holds plane end kind (some content) = Held plane end kind content
+Holds plane end kind None = Unit {0}
+Holds plane end kind (Some content) = Held plane end kind content
 
 octets_front : (xs ys : List ℕ) → Octets (xs ++ ys) → Octets xs
 octets_front [] ys o = tt
@@ -53,7 +53,7 @@ module _ (plane : Plane) (end : End) (k n : ℕ) (is_Known : among k known ≡ t
       go (speaks plane end k n kind content) refl octets (holds f l.1 (octets_behind (option_bytes kind content) (bytes f) o))
     where
       go : (b : Bool) → speaks plane end k n kind content ≡ b → Octets content → Holds plane end k (the plane end k n f)
-          → Holds plane end k (cond b (some content) (the plane end k n f))
+          → Holds plane end k (cond b (Some content) (the plane end k n f))
       go false e octets later = later
       go true e octets later =
           let same : k ≡ kind = eqb-true k kind (of_type (eqb k kind) _ e) in

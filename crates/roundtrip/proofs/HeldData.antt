@@ -1,8 +1,8 @@
 -- A data message that is accepted: what its options state may be written, and is a value. Assumes nothing.
+use Rattle.std.specs.Prelude.{Option, Some, None}
 use Prim.Native.Nat.{ℕ, ◌^◌}
 use mathlib.Core.Path.{◌≡◌, refl}
 use mathlib.Core.List.{List}
-use mathlib.Core.Option.{Option, none, some}
 use mathlib.Core.Bool.{true}
 use native.Mathlib.Omega.{arith}
 use borrow.Author.Tests.{eq-eqb, eqb-true, lt-ltb}
@@ -26,29 +26,29 @@ use Rattle.roundtrip.proofs.Held.{Holds, word_behind, table_holds}
 
 module _ (end : End) where
   counted_allowed_lem : (x y : Option (List ℕ)) → Holds planes.Data end FLOW-SEQUENCE x → SameChannel x y → counted_allowed end (counted_from x) (channel_from y) ≡ true
-  counted_allowed_lem none y h p = refl
-  counted_allowed_lem (some sequence) none h p = absurd p
-  counted_allowed_lem (some sequence) (some identifier) h p = rw h.may_stand (eq-eqb (get_or sequence 0 0) (get_or identifier 0 0) p)
+  counted_allowed_lem None y h p = refl
+  counted_allowed_lem (Some sequence) None h p = absurd p
+  counted_allowed_lem (Some sequence) (Some identifier) h p = rw h.may_stand (eq-eqb (get_or sequence 0 0) (get_or identifier 0 0) p)
 
   counted_word : (x : Option (List ℕ)) → Holds planes.Data end FLOW-SEQUENCE x → CountedWord (counted_from x)
   unfolding length_listed
-  counted_word none h = tt
-  counted_word (some content) h = word_behind content (eqb-true (length content) 5 h.length_listed_lem) h.octets
+  counted_word None h = tt
+  counted_word (Some content) h = word_behind content (eqb-true (length content) 5 h.length_listed_lem) h.octets
 
   channel_allowed_lem : (x : Option (List ℕ)) → Holds planes.Data end CHANNEL-IDENTIFIER x → channel_allowed end (channel_from x) ≡ true
   unfolding value_listed
-  channel_allowed_lem none h = refl
-  channel_allowed_lem (some content) h = rw h.may_stand h.value_listed_lem
+  channel_allowed_lem None h = refl
+  channel_allowed_lem (Some content) h = rw h.may_stand h.value_listed_lem
 
   expiration_allowed_lem : (x : Option (List ℕ)) → Holds planes.Data end EXPIRATION-TIME x → expiration_allowed end (expiration_from x) ≡ true
   unfolding value_listed
-  expiration_allowed_lem none h = refl
-  expiration_allowed_lem (some content) h = rw h.may_stand h.value_listed_lem
+  expiration_allowed_lem None h = refl
+  expiration_allowed_lem (Some content) h = rw h.may_stand h.value_listed_lem
 
   expiration_word : (x : Option (List ℕ)) → Holds planes.Data end EXPIRATION-TIME x → ExpirationWord (expiration_from x)
   unfolding length_listed
-  expiration_word none h = tt
-  expiration_word (some content) h = rw (eqb-true (length content) 4 h.length_listed_lem) at (big_endian_below content h.octets)
+  expiration_word None h = tt
+  expiration_word (Some content) h = rw (eqb-true (length content) 4 h.length_listed_lem) at (big_endian_below content h.octets)
 
 -- ---- a data message
 

@@ -1,8 +1,8 @@
 -- A data message that is written from what was read is no longer than what was read. Assumes nothing.
+use Rattle.std.specs.Prelude.{Option, Some, None}
 use Prim.Native.Nat.{ℕ, ◌+◌, ◌≤◌, ◌<◌}
 use mathlib.Core.Path.{◌≡◌, refl, ap}
 use mathlib.Core.List.{List, [], ◌∷◌}
-use mathlib.Core.Option.{Option, none, some}
 use mathlib.Core.Bool.{Bool, true, false, cond}
 use native.Mathlib.Omega.{arith}
 use borrow.Author.Tests.{eqb-true}
@@ -30,8 +30,8 @@ use Rattle.roundtrip.proofs.Held.{Holds, table_holds}
 
 -- the bytes of an option that may stand
 abbrev size_of : Option (List ℕ) → ℕ
-size_of none = 0
-size_of (some content) = 3 + length content
+size_of None = 0
+size_of (Some content) = 3 + length content
 
 abbrev total : List ℕ → (ℕ → Option (List ℕ)) → ℕ
 total [] τ = 0
@@ -41,11 +41,11 @@ abbrev Distinct : List ℕ → Type 0
 Distinct [] = Unit {0}
 Distinct (kind ∷ kinds) = Each (λ other. eqb other kind ≡ false) kinds × Distinct kinds
 
-total_none : (kinds : List ℕ) → total kinds (λ kind. none) ≡ 0
+total_none : (kinds : List ℕ) → total kinds (λ kind. None) ≡ 0
 total_none [] = refl
 total_none (kind ∷ kinds) = omega (arith, total_none kinds)
 
-size_set : (b : Bool) (content : List ℕ) (x : Option (List ℕ)) → size_of (cond b (some content) x) ≤ (3 + length content) + size_of x
+size_set : (b : Bool) (content : List ℕ) (x : Option (List ℕ)) → size_of (cond b (Some content) x) ≤ (3 + length content) + size_of x
 size_set true content x = omega arith
 size_set false content x = omega arith
 
@@ -65,7 +65,7 @@ module _ (plane : Plane) (end : End) (n : ℕ) where
     total_option (first ∷ kinds) d = go (eqb first kind) refl (total_option kinds d.1)
       where
         go : (b : Bool) → eqb first kind ≡ b → total kinds (row (option kind content f)) ≤ (3 + length content) + total kinds (row f)
-            → size_of (cond (cond b (is_at n (speaks_for plane end kind content)) false) (some content) (row f first)) + total kinds (row (option kind content f))
+            → size_of (cond (cond b (is_at n (speaks_for plane end kind content)) false) (Some content) (row f first)) + total kinds (row (option kind content f))
             ≤ (3 + length content) + (size_of (row f first) + total kinds (row f))
         go false e later = omega arith
         go true e later =
@@ -93,28 +93,28 @@ before kind size content more e = rw (length-append, option_length, e)
 
 module _ (end : End) (more : Options) where
   -- where the content that is written has the length of the one that was read
-  as_long : (kind : ℕ) (content read : List ℕ) → length content ≡ length read → length (bytes (option kind content more)) ≤ size_of (some read) + length (bytes more)
+  as_long : (kind : ℕ) (content read : List ℕ) → length content ≡ length read → length (bytes (option kind content more)) ≤ size_of (Some read) + length (bytes more)
   as_long kind content read e = omega (arith, before kind (length read) content more e)
 
   datalink_short : (x : Option (List ℕ)) → Holds planes.Data end DATALINK-IDENTIFIER x → length (bytes (datalink_then (datalink_from x) more)) ≤ size_of x + length (bytes more)
   unfolding length_listed
-  datalink_short none h = omega arith
-  datalink_short (some read) h = as_long DATALINK-IDENTIFIER _ read (rw (eqb-true (length read) 1 h.length_listed_lem))
+  datalink_short None h = omega arith
+  datalink_short (Some read) h = as_long DATALINK-IDENTIFIER _ read (rw (eqb-true (length read) 1 h.length_listed_lem))
 
   counted_short : (x : Option (List ℕ)) → Holds planes.Data end FLOW-SEQUENCE x → length (bytes (counted_then (counted_from x) more)) ≤ size_of x + length (bytes more)
   unfolding length_listed
-  counted_short none h = omega arith
-  counted_short (some read) h = as_long FLOW-SEQUENCE _ read (rw (length_bytes, eqb-true (length read) 5 h.length_listed_lem))
+  counted_short None h = omega arith
+  counted_short (Some read) h = as_long FLOW-SEQUENCE _ read (rw (length_bytes, eqb-true (length read) 5 h.length_listed_lem))
 
   channel_short : (x : Option (List ℕ)) → Holds planes.Data end CHANNEL-IDENTIFIER x → length (bytes (channel_then (channel_from x) more)) ≤ size_of x + length (bytes more)
   unfolding length_listed
-  channel_short none h = omega arith
-  channel_short (some read) h = as_long CHANNEL-IDENTIFIER _ read (rw (eqb-true (length read) 1 h.length_listed_lem))
+  channel_short None h = omega arith
+  channel_short (Some read) h = as_long CHANNEL-IDENTIFIER _ read (rw (eqb-true (length read) 1 h.length_listed_lem))
 
   expiration_short : (x : Option (List ℕ)) → Holds planes.Data end EXPIRATION-TIME x → length (bytes (expiration_then (expiration_from x) more)) ≤ size_of x + length (bytes more)
   unfolding length_listed
-  expiration_short none h = omega arith
-  expiration_short (some read) h = as_long EXPIRATION-TIME _ read (rw (length_bytes, eqb-true (length read) 4 h.length_listed_lem))
+  expiration_short None h = omega arith
+  expiration_short (Some read) h = as_long EXPIRATION-TIME _ read (rw (length_bytes, eqb-true (length read) 4 h.length_listed_lem))
 
 abbrev kinds : List ℕ
 kinds = DATALINK-IDENTIFIER ∷ FLOW-SEQUENCE ∷ CHANNEL-IDENTIFIER ∷ EXPIRATION-TIME ∷ PACKET-DATA ∷ []

@@ -4,8 +4,7 @@
 ghost use Rattle.std.specs.Prelude.{◌≡◌, ◌≤◌, length, take};
 ghost use Rattle.session.specs.Answers.{Answers};
 
-use endpoint::{Channel, KeptAnswer, MOST_WORDS, PacerAnswer, Place, Refusal, StartAnswer};
-use handful::HandfulAnswer;
+use endpoint::{Channel, MOST_WORDS, Refusal};
 use lines::Found;
 use message_words::whole::refused;
 use quantity::limit::{LARGEST_STORE, LONGEST_DATAGRAM, MOST_CHANNELS};
@@ -27,46 +26,22 @@ const BYTES: usize = 70000;
 // All stores that the endpoint takes.
 const MEMORY: usize = MOST_CHANNELS * LARGEST_STORE;
 
-// Whether a state was started, and how much of the words and of the memory is lent with it.
+// How much of the words and of the memory is lent with a state.
 #[derive(Clone, Copy)]
 struct Held {
-    started: bool,
     words: usize,
     memory: usize,
 }
 
-// What is held behind a line, and how long its answer is.
+// The state that is held behind a line, once one was started, and how long the line's answer is.
 #[derive(Clone, Copy)]
 struct Turn {
-    held: Held,
+    held: Option<Held>,
     count: usize,
 }
 
-// What is held behind a line, and whether its answer was written.
-#[derive(Clone, Copy)]
-struct Said {
-    held: Held,
-    written: bool,
-}
-
-// The smaller of two lengths.
-fn least(a: usize, b: usize) -> usize
-    ensures upper_bound { result ≤ a }
-    ensures upper_bound_2 { result ≤ b }
-{
-    if a < b { a } else { b }
-}
-
-fn nothing() -> Held {
-    Held {
-        started: false,
-        words: 0,
-        memory: 0,
-    }
-}
-
 // What was held stays, and the answer is so long.
-fn still_held(held: Held, count: usize) -> Turn
+fn still_held(held: Option<Held>, count: usize) -> Turn
     ensures { result.count ≡ count }
 {
     Turn { held, count }
@@ -74,21 +49,21 @@ fn still_held(held: Held, count: usize) -> Turn
 
 // The words of a configuration, which stand at the start of those that were lent for it.
 fn configured(configuration: &[u64], words: usize) -> &[u64] {
-    let count = least(words, configuration.len());
+    let count = words.min(configuration.len());
     &configuration[0..count]
 }
 
 // `start ..`: a refused one leaves words and memory as they were, so the state before it goes on.
 fn start_line(
-    held: Held,
+    held: Option<Held>,
     words: &mut [u64],
     memory: &mut [u8],
     said: StartWords,
     configuration: &[u64; CONFIGURATION_WORDS],
     out: &mut [u8],
 ) -> Turn {
-    let words_lent = least(endpoint::words_for(said.channels), words.len());
-    let memory_lent = least(said.memory, memory.len());
+    let words_lent = endpoint::words_for(said.channels).min(words.len());
+    let memory_lent = said.memory.min(memory.len());
     let answer = endpoint::start(
         &mut words[0..words_lent],
         &mut memory[0..memory_lent],
@@ -96,15 +71,14 @@ fn start_line(
     );
     let count = session_print::started(out, 0, answer);
     match answer {
-        StartAnswer::Started => Turn {
-            held: Held {
-                started: true,
+        Ok(()) => Turn {
+            held: Some(Held {
                 words: words_lent,
                 memory: memory_lent,
-            },
+            }),
             count,
         },
-        StartAnswer::Refused(_) => still_held(held, count),
+        Err(_) => still_held(held, count),
     }
 }
 
@@ -124,24 +98,22 @@ fn offer_line(
 
 // So many of the words from a place on.
 fn listed(words: &[u64], from: usize, count: usize) -> &[u64] {
-    let start = least(from, words.len());
-    let size = least(count, words.len() - start);
+    let start = from.min(words.len());
+    let size = count.min(words.len() - start);
     &words[start..start + size]
 }
 
 // Channels as bytes: a line says none above 255.
 fn lay_bytes(words: &[u64], bytes: &mut [u8; MOST_LISTED]) {
-    let mut index = 0;
-    while index < words.len() && index < MOST_LISTED {
-        bytes[index] = (words[index] % 256) as u8;
-        index += 1;
+    for (byte, word) in bytes.iter_mut().zip(words) {
+        *byte = (*word % 256) as u8;
     }
 }
 
 // The first bytes of a list.
 fn first_listed(bytes: &[u8; MOST_LISTED], count: usize) -> &[u8] {
     let all = &bytes[..];
-    let size = least(count, all.len());
+    let size = count.min(all.len());
     &all[0..size]
 }
 
@@ -157,9 +129,9 @@ fn offers_line(
 ) -> usize {
     let mut channels = [0u8; MOST_LISTED];
     let mut answers = [0u8; MOST_LISTED];
-    let answer_count = least(counts.answers, MOST_LISTED);
-    let channel_count = least(counts.channels, MOST_LISTED);
-    let behind = channel_count + least(counts.expiries, MOST_LISTED);
+    let answer_count = counts.answers.min(MOST_LISTED);
+    let channel_count = counts.channels.min(MOST_LISTED);
+    let behind = channel_count + counts.expiries.min(MOST_LISTED);
     lay_bytes(listed(lists, 0, counts.channels), &mut channels);
     let answer = handful::offers(
         words,
@@ -172,12 +144,8 @@ fn offers_line(
         &mut answers[0..answer_count],
     );
     match answer {
-        HandfulAnswer::Offered => session_print::handed(
-            out,
-            0,
-            first_listed(&answers, counts.answers),
-        ),
-        HandfulAnswer::Refused(refusal) => refused(out, 0, refusal),
+        Ok(()) => session_print::handed(out, 0, first_listed(&answers, counts.answers)),
+        Err(refusal) => refused(out, 0, refusal),
     }
 }
 
@@ -191,7 +159,7 @@ fn next_line(
     output: &mut [u8],
     out: &mut [u8],
 ) -> usize {
-    let size = least(room, output.len());
+    let size = room.min(output.len());
     let answer = endpoint::next(words, memory, id, time, &mut output[0..size]);
     session_print::asked(out, 0, answer, output)
 }
@@ -216,7 +184,7 @@ fn pace_line(words: &mut [u64], time: u64, out: &mut [u8]) -> usize {
 
 // `query ROOM`
 fn query_line(words: &[u64], room: usize, output: &mut [u8], out: &mut [u8]) -> usize {
-    let size = least(room, output.len());
+    let size = room.min(output.len());
     let answer = endpoint::query(words, &mut output[0..size]);
     session_print::queried(out, 0, answer, output)
 }
@@ -226,16 +194,16 @@ fn show_line(words: &[u64], id: u8, out: &mut [u8]) -> usize {
     let shown = endpoint::find_channel(words, id);
     let place = shown.place;
     match place {
-        Place::At(_) => session_print::channel(out, 0, shown.channel),
-        Place::Refused(number) => refused(out, 0, Refusal { number, place: 0 }),
+        Ok(_) => session_print::channel(out, 0, shown.channel),
+        Err(number) => refused(out, 0, Refusal { number, place: 0 }),
     }
 }
 
 // Every byte of a channel's store, which starts there in the memory.
 fn stored(channel: Channel, memory: &[u8], start: usize, out: &mut [u8]) -> usize {
     let size = channel.setting.size;
-    let from = least(start, memory.len());
-    let long = least(size.0, memory.len() - from);
+    let from = start.min(memory.len());
+    let long = size.0.min(memory.len() - from);
     session_print::held(out, 0, &memory[from..from + long])
 }
 
@@ -244,24 +212,24 @@ fn store_line(words: &[u64], memory: &[u8], id: u8, out: &mut [u8]) -> usize {
     let shown = endpoint::find_channel(words, id);
     let place = shown.place;
     match place {
-        Place::At(found) => stored(shown.channel, memory, found.start, out),
-        Place::Refused(number) => refused(out, 0, Refusal { number, place: 0 }),
+        Ok(found) => stored(shown.channel, memory, found.start, out),
+        Err(number) => refused(out, 0, Refusal { number, place: 0 }),
     }
 }
 
 // `kept`
 fn kept_line(words: &[u64], out: &mut [u8]) -> usize {
     match endpoint::kept(words) {
-        KeptAnswer::Kept(instance, context) => session_print::kept(out, 0, instance, context),
-        KeptAnswer::Refused(refusal) => refused(out, 0, refusal),
+        Ok(shown) => session_print::kept(out, 0, shown.instance, shown.context),
+        Err(refusal) => refused(out, 0, refusal),
     }
 }
 
 // `pacer`
 fn pacer_line(words: &[u64], out: &mut [u8]) -> usize {
     match endpoint::pacer(words) {
-        PacerAnswer::Shown(pacer) => session_print::pacer(out, 0, pacer),
-        PacerAnswer::Refused(refusal) => refused(out, 0, refusal),
+        Ok(pacer) => session_print::pacer(out, 0, pacer),
+        Err(refusal) => refused(out, 0, refusal),
     }
 }
 
@@ -294,7 +262,7 @@ fn command_line(
 
 // A start, or a line about the state that is held.
 fn state_line(
-    held: Held,
+    held: Option<Held>,
     words: &mut [u64],
     memory: &mut [u8],
     said: Line,
@@ -303,15 +271,14 @@ fn state_line(
     output: &mut [u8],
     out: &mut [u8],
 ) -> Turn {
-    let asked = said.asked;
-    let Asked::State(command) = asked else {
+    let Asked::State(command) = said.asked else {
         return start_line(held, words, memory, said.start, configuration, out);
     };
-    if !held.started {
+    let Some(lent) = held else {
         return still_held(held, session_print::bad_line(out));
-    }
-    let words_lent = least(held.words, words.len());
-    let memory_lent = least(held.memory, memory.len());
+    };
+    let words_lent = lent.words.min(words.len());
+    let memory_lent = lent.memory.min(memory.len());
     let count = command_line(
         &mut words[0..words_lent],
         &mut memory[0..memory_lent],
@@ -324,17 +291,10 @@ fn state_line(
     still_held(held, count)
 }
 
-// The first of some bytes.
-fn first(bytes: &[u8], count: usize) -> &[u8]
-    requires { count ≤ length bytes.now }
-    ensures { result.now ≡ take count bytes.now }
-{
-    &bytes[0..count]
-}
-
 // Any line. One that isn't about a state is answered as its definition says.
+#[tactic(auto, using(session_print::proofs::Lines::bytes_within))]
 fn answer_line(
-    held: Held,
+    held: Option<Held>,
     words: &mut [u64],
     memory: &mut [u8],
     line: &[u8],
@@ -354,18 +314,19 @@ fn answer_line(
             memory,
             said,
             &configuration,
-            first(bytes, said.bytes),
+            &bytes[..said.bytes],
             output,
             out,
         );
     }
     still_held(
         held,
-        session_print::message(asked, first(bytes, said.bytes), output, out),
+        session_print::message(asked, &bytes[..said.bytes], output, out),
     )
 }
 
 // Says something on standard error, where nothing is left to say of what can't be written there.
+// Each program has its own `complain` and `print`: `Print` promises nothing of what it writes, and a public function promises its whole outcome.
 fn complain(complaints: &impl Print, text: &[u8]) {
     let _said = complaints.write_all(text).is_ok();
 }
@@ -381,28 +342,27 @@ fn print(printer: &impl Print, complaints: &impl Print, out: &[u8], count: usize
     false
 }
 
-// Prints the answer to a line.
+// Prints the answer to a line. Whether it was written.
 fn say(
     printer: &impl Print,
     complaints: &impl Print,
-    held: Held,
+    held: &mut Option<Held>,
     words: &mut [u64],
     memory: &mut [u8],
     line: &[u8],
     bytes: &mut [u8],
     output: &mut [u8],
     out: &mut [u8],
-) -> Said {
-    let turn = answer_line(held, words, memory, line, bytes, output, out);
+) -> bool {
+    let turn = answer_line(*held, words, memory, line, bytes, output, out);
+    *held = turn.held;
     let end = text::put(out, turn.count, b"\n");
-    let left = turn.held;
-    Said {
-        held: left,
-        written: print(printer, complaints, out, end),
-    }
+    print(printer, complaints, out, end)
 }
 
+// Not one loop with the other script's: a shared loop would be public, and would have to say by a relation of its closure's calls what each line was.
 // Answers line after line, up to the end or to what can't be read or written. Nothing says that an input ends, so the turns are counted.
+#[tactic(auto, using(lines::proofs::Laws::next_inside))]
 fn serve(
     reader: &mut impl Read,
     printer: &impl Print,
@@ -414,51 +374,34 @@ fn serve(
     output: &mut [u8],
     out: &mut [u8],
 ) {
-    let mut held = nothing();
+    let mut held = None;
     let mut input = lines::start();
-    let mut turns = u64::MAX;
-    while turns > 0 {
-        turns -= 1;
-        match lines::next(buffer, input) {
-            Found::More => input = lines::fill(reader, buffer, input),
+    for _turn in 0..u64::MAX {
+        // A line that was dropped is answered as an empty one.
+        let (from, to, rest) = match lines::next(buffer, input) {
+            Found::More => {
+                input = lines::fill(reader, buffer, input);
+                continue;
+            }
             Found::End => return,
-            Found::Line { from, to, rest } => {
-                let said = say(
-                    printer,
-                    complaints,
-                    held,
-                    words,
-                    memory,
-                    &buffer[from..to],
-                    bytes,
-                    output,
-                    out,
-                );
-                if !said.written {
-                    return;
-                }
-                held = said.held;
-                input = rest;
-            }
-            Found::Over(rest) => {
-                let said = say(
-                    printer, complaints, held, words, memory, b"", bytes, output, out,
-                );
-                if !said.written {
-                    return;
-                }
-                held = said.held;
-                input = rest;
-            }
+            Found::Line { from, to, rest } => (from, to, rest),
+            Found::Over(rest) => (0, 0, rest),
             Found::Failed => {
                 complain(complaints, &lines::UNREAD);
                 return;
             }
+        };
+        let line = &buffer[from..to];
+        if !say(
+            printer, complaints, &mut held, words, memory, line, bytes, output, out,
+        ) {
+            return;
         }
+        input = rest;
     }
 }
 
-// An array that is lent as an array asks no proof of its length.
+// An array that is lent as an array asks no proof of its length. Lent as slices by `main`, the check runs out of stack at the longest of them.
 fn hold(
     reader: &mut impl Read,
     printer: &impl Print,

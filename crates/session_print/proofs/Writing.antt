@@ -1,4 +1,7 @@
 -- A writer's outcome, said. Assumes nothing.
+use Rattle.std.specs.Prelude.{Result, Ok, Err}
+use Rattle.quantity.specs.declared.count.ByteCount.{ByteCount}
+use Rattle.quantity.specs.declared.refusal.Refusal.{Refusal}
 use mathlib.Core.Bool.{Bool, true, false, cond}
 use mathlib.Core.Path.{◌≡◌, refl}
 use mathlib.Core.List.{List, [], ◌∷◌}
@@ -8,7 +11,6 @@ use lib.ListN.{length, take, drop, length-append}
 use lib.Seq.{take_at}
 use Rattle.quantity.specs.Refusals.{NO-ROOM, NOT-WRITABLE}
 use Rattle.wire.specs.Options.{over}
-use Rattle.writer.specs.declared.answer.WriteAnswer.{WriteAnswer}
 use Rattle.writer.specs.Written.{no_room_of, Outcome}
 use Rattle.text.specs.Laying.{Lays}
 use Rattle.text.specs.Strings.{bytes_text}
@@ -23,8 +25,8 @@ says_written lent n k l = let z : n - 0 ≡ n = omega arith in says_then (says_o
 
 module _ (message lent : List ℕ) where
   -- the answer and the output, by the two tests: allowed, and no room
-  abbrev pub judged : Bool → Bool → WriteAnswer
-  judged a t = cond a (cond t (WriteAnswer.Refused (record { number = NO-ROOM; place = 0 })) (WriteAnswer.Wrote (record { 0 = length message }))) (WriteAnswer.Refused (record { number = NOT-WRITABLE; place = 0 }))
+  abbrev pub judged : Bool → Bool → Result ByteCount Refusal
+  judged a t = cond a (cond t (Err (record { number = NO-ROOM; place = 0 })) (Ok (record { 0 = length message }))) (Err (record { number = NOT-WRITABLE; place = 0 }))
 
   abbrev pub filled : Bool → Bool → List ℕ
   filled a t = cond a (cond t lent (over message lent)) lent
@@ -39,7 +41,7 @@ module _ (message lent : List ℕ) where
   there true false = rw (take_at message (drop (length message) lent) (length message) refl)
   there false t = refl
 
-module _ {allowed : Bool} {message lent : List ℕ} {answer : WriteAnswer} {lent' : List ℕ} (k : Outcome allowed message lent answer lent') where
+module _ {allowed : Bool} {message lent : List ℕ} {answer : Result ByteCount Refusal} {lent' : List ℕ} (k : Outcome allowed message lent answer lent') where
   -- what was written is within the output
   pub count_within : count_of answer ≤ length lent'
   count_within = rw (k.answers, k.bytes_are) (fewer message lent allowed (no_room_of (length message) (length lent)))

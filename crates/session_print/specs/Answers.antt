@@ -1,12 +1,10 @@
 -- docs/SESSION.md, "About a state": the answers.
-use Rattle.std.specs.Prelude.{ℕ, List, [], ◌∷◌, ◌++◌, take}
+use Rattle.quantity.specs.declared.count.ByteCount.{ByteCount}
+use Rattle.quantity.specs.declared.refusal.Refusal.{Refusal}
+use Rattle.std.specs.Prelude.{ℕ, List, [], ◌∷◌, ◌++◌, take, Result, Ok, Err}
 use Rattle.text.specs.Strings.{bytes_text}
-use Rattle.writer.specs.declared.answer.WriteAnswer.{WriteAnswer}
-use Rattle.ips_channel_calls.specs.declared.offering.OfferAnswer.{OfferAnswer}
 use Rattle.ips_channel_calls.specs.declared.asking.NextAnswer.{NextAnswer}
 use Rattle.ips_channel_calls.specs.Calls.{answer_of}
-use Rattle.ips_state.specs.declared.StartAnswer.{StartAnswer}
-use Rattle.ips_channel_calls.specs.declared.offering.WithdrawAnswer.{WithdrawAnswer}
 use Rattle.ips_radio.specs.declared.RadioAnswer.{RadioAnswer}
 use Rattle.pacer.specs.declared.PaceAnswer.{PaceAnswer}
 use Rattle.message_words.specs.Phrases.{SPACE, refused_texts}
@@ -71,13 +69,13 @@ DUE-SILENT = 100 ∷ 117 ∷ 101 ∷ 32 ∷ 115 ∷ 105 ∷ 108 ∷ 101 ∷ 110 
 abbrev pub QUERY : List ℕ
 QUERY = 113 ∷ 117 ∷ 101 ∷ 114 ∷ 121 ∷ 32 ∷ []
 
-abbrev pub start_texts : StartAnswer → List (List ℕ)
-start_texts StartAnswer.Started = STARTED ∷ []
-start_texts (StartAnswer.Refused refusal) = refused_texts refusal
+abbrev pub start_texts : Result (Unit {0}) Refusal → List (List ℕ)
+start_texts (Ok tt) = STARTED ∷ []
+start_texts (Err refusal) = refused_texts refusal
 
-abbrev pub offer_texts : OfferAnswer → List (List ℕ)
-offer_texts OfferAnswer.Taken = TAKEN ∷ []
-offer_texts (OfferAnswer.Refused refusal) = refused_texts refusal
+abbrev pub offer_texts : Result (Unit {0}) Refusal → List (List ℕ)
+offer_texts (Ok tt) = TAKEN ∷ []
+offer_texts (Err refusal) = refused_texts refusal
 
 -- "`offered`, and then for each packet, in their order, `taken` or `refused NUMBER 0`, as `offer` would answer it": an answer is a byte, 0 where the packet is taken,
 -- else its number of refusal
@@ -92,31 +90,31 @@ abbrev pub offers_texts : List ℕ → List (List ℕ)
 offers_texts answers = OFFERED ∷ answers_texts answers
 
 -- `sent HEX`, `nothing waiting`, `not operational` or `window shut`; the message stands at the start of the output
-abbrev pub next_texts : NextAnswer → List ℕ → List (List ℕ)
-next_texts (NextAnswer.Sent count) out = SENT ∷ (bytes_text (take count.0 out) ∷ [])
-next_texts NextAnswer.NothingWaiting out = NOTHING-WAITING ∷ []
-next_texts NextAnswer.NotOperational out = NOT-OPERATIONAL ∷ []
-next_texts NextAnswer.WindowShut out = WINDOW-SHUT ∷ []
-next_texts (NextAnswer.Refused refusal) out = refused_texts refusal
+abbrev pub next_texts : Result NextAnswer Refusal → List ℕ → List (List ℕ)
+next_texts (Ok (NextAnswer.Sent count)) out = SENT ∷ (bytes_text (take count.0 out) ∷ [])
+next_texts (Ok NextAnswer.NothingWaiting) out = NOTHING-WAITING ∷ []
+next_texts (Ok NextAnswer.NotOperational) out = NOT-OPERATIONAL ∷ []
+next_texts (Ok NextAnswer.WindowShut) out = WINDOW-SHUT ∷ []
+next_texts (Err refusal) out = refused_texts refusal
 
-abbrev pub withdraw_texts : WithdrawAnswer → List (List ℕ)
-withdraw_texts WithdrawAnswer.Withdrawn = WITHDRAWN ∷ []
-withdraw_texts (WithdrawAnswer.Refused refusal) = refused_texts refusal
+abbrev pub withdraw_texts : Result (Unit {0}) Refusal → List (List ℕ)
+withdraw_texts (Ok tt) = WITHDRAWN ∷ []
+withdraw_texts (Err refusal) = refused_texts refusal
 
 -- `accepted`, or `accepted due` where a mobility message is due
-abbrev pub radio_texts : RadioAnswer → List (List ℕ)
-radio_texts RadioAnswer.Accepted = ACCEPTED ∷ []
-radio_texts RadioAnswer.Due = ACCEPTED-DUE ∷ []
-radio_texts (RadioAnswer.Refused refusal) = refused_texts refusal
+abbrev pub radio_texts : Result RadioAnswer Refusal → List (List ℕ)
+radio_texts (Ok RadioAnswer.Accepted) = ACCEPTED ∷ []
+radio_texts (Ok RadioAnswer.Due) = ACCEPTED-DUE ∷ []
+radio_texts (Err refusal) = refused_texts refusal
 
 -- "`quiet`, `due` (a query is), `silent` (the radio is), `due silent`"
-abbrev pub pace_texts : PaceAnswer → List (List ℕ)
-pace_texts PaceAnswer.Quiet = QUIET ∷ []
-pace_texts PaceAnswer.Due = DUE ∷ []
-pace_texts PaceAnswer.Silent = SILENT ∷ []
-pace_texts PaceAnswer.DueSilent = DUE-SILENT ∷ []
-pace_texts (PaceAnswer.Refused refusal) = refused_texts refusal
+abbrev pub pace_texts : Result PaceAnswer Refusal → List (List ℕ)
+pace_texts (Ok PaceAnswer.Quiet) = QUIET ∷ []
+pace_texts (Ok PaceAnswer.Due) = DUE ∷ []
+pace_texts (Ok PaceAnswer.Silent) = SILENT ∷ []
+pace_texts (Ok PaceAnswer.DueSilent) = DUE-SILENT ∷ []
+pace_texts (Err refusal) = refused_texts refusal
 
-abbrev pub query_texts : WriteAnswer → List ℕ → List (List ℕ)
-query_texts (WriteAnswer.Wrote count) out = QUERY ∷ (bytes_text (take count.0 out) ∷ [])
-query_texts (WriteAnswer.Refused refusal) out = refused_texts refusal
+abbrev pub query_texts : Result ByteCount Refusal → List ℕ → List (List ℕ)
+query_texts (Ok count) out = QUERY ∷ (bytes_text (take count.0 out) ∷ [])
+query_texts (Err refusal) out = refused_texts refusal

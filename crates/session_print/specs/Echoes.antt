@@ -1,11 +1,12 @@
 -- docs/SESSION.md, `echo`: "reads as above; then writes that meaning as a message of `END2` into an output of `ROOM` bytes: `written HEX`".
-use Rattle.std.specs.Prelude.{ℕ, List, [], ◌∷◌, Bool, length}
+use Rattle.quantity.specs.declared.count.ByteCount.{ByteCount}
+use Rattle.quantity.specs.declared.refusal.Refusal.{Refusal}
+use Rattle.std.specs.Prelude.{ℕ, List, [], ◌∷◌, Bool, length, Result, Ok, Err}
 use Rattle.quantity.specs.declared.count.DatalinkId.{DatalinkId}
 use Rattle.meaning.specs.declared.message.End.{End}
 use Rattle.text.specs.Strings.{bytes_text}
 use Rattle.reader.specs.Readings.{ControlReading, DataReading}
 use Rattle.writable.specs.Allowed.{control_allowed, data_allowed}
-use Rattle.writer.specs.declared.answer.WriteAnswer.{WriteAnswer}
 use Rattle.writer.specs.Written.{control_written, data_written, answer_to}
 use Rattle.message_words.specs.Phrases.{refused_texts}
 use Rattle.session_print.specs.Readings.{verdict_texts, by_plane}
@@ -15,14 +16,14 @@ abbrev pub WRITTEN : List ℕ
 WRITTEN = 119 ∷ 114 ∷ 105 ∷ 116 ∷ 116 ∷ 101 ∷ 110 ∷ 32 ∷ []
 
 -- how many bytes were written
-abbrev pub count_of : WriteAnswer → ℕ
-count_of (WriteAnswer.Wrote count) = count.0
-count_of (WriteAnswer.Refused refusal) = 0
+abbrev pub count_of : Result ByteCount Refusal → ℕ
+count_of (Ok count) = count.0
+count_of (Err refusal) = 0
 
 -- a writer's answer, with the message
-abbrev pub written_texts : WriteAnswer → List ℕ → List (List ℕ)
-written_texts (WriteAnswer.Wrote count) message = WRITTEN ∷ (bytes_text message ∷ [])
-written_texts (WriteAnswer.Refused refusal) message = refused_texts refusal
+abbrev pub written_texts : Result ByteCount Refusal → List ℕ → List (List ℕ)
+written_texts (Ok count) message = WRITTEN ∷ (bytes_text message ∷ [])
+written_texts (Err refusal) message = refused_texts refusal
 
 -- a message that is allowed or not, written into an output of n bytes
 abbrev pub outcome_texts : Bool → List ℕ → ℕ → List (List ℕ)

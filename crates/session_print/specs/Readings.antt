@@ -1,9 +1,10 @@
 -- docs/SESSION.md, `read`: "the meaning, as below, read by a reader configured with Datalink ID `ID`".
-use Rattle.std.specs.Prelude.{ℕ, List, []}
+use Rattle.quantity.specs.declared.refusal.Refusal.{Refusal}
+use Rattle.meaning.specs.declared.message.Plane.{Plane}
+use Rattle.std.specs.Prelude.{ℕ, List, [], Result, Ok, Err}
 use Rattle.quantity.specs.declared.count.DatalinkId.{DatalinkId}
 use Rattle.meaning.specs.declared.message.End.{End}
 use Rattle.reader.specs.Readings.{Verdict, ControlReading, DataReading, read_control, read_data, packet_of, plane_of}
-use Rattle.reader.specs.declared.answer.PlaneAnswer.{PlaneAnswer}
 use Rattle.message_words.specs.Phrases.{control_texts, data_texts, refused_texts}
 
 -- what an accepted message is answered, or the refusal; a reader is asked for a message of its plane only
@@ -12,10 +13,10 @@ verdict_texts accepted Verdict.Accepted = accepted
 verdict_texts accepted Verdict.OtherPlane = []
 verdict_texts accepted (Verdict.Refused refusal) = refused_texts refusal
 
-abbrev pub plane_texts : List (List ℕ) → List (List ℕ) → PlaneAnswer → List (List ℕ)
-plane_texts on_control on_data PlaneAnswer.Control = on_control
-plane_texts on_control on_data PlaneAnswer.Data = on_data
-plane_texts on_control on_data (PlaneAnswer.Refused refusal) = refused_texts refusal
+abbrev pub plane_texts : List (List ℕ) → List (List ℕ) → Result Plane Refusal → List (List ℕ)
+plane_texts on_control on_data (Ok Plane.Control) = on_control
+plane_texts on_control on_data (Ok Plane.Data) = on_data
+plane_texts on_control on_data (Err refusal) = refused_texts refusal
 
 abbrev pub control_read_texts : ControlReading → List (List ℕ)
 control_read_texts reading = verdict_texts (control_texts reading.message) reading.verdict

@@ -1,11 +1,10 @@
 -- docs/SESSION.md: "`show CHANNEL`: `channel CHANNEL STATUS FLOW SEQUENCE LATEST WAITING` and then `LEN EXPIRY` for each waiting packet. `STATUS` is `-` while not
 -- reported; `FLOW` is `free`, `none` or the window's number." "`store CHANNEL`: `store HEX`, every byte of that channel's store".
 -- "`kept`: `kept`, and `link LEN VALUE` and `context HEX`, each where there is one". "`pacer`: `pacer CLOCK DUE HEARD`".
-use Rattle.std.specs.Prelude.{ℕ, List, [], ◌∷◌, ◌++◌}
+use Rattle.quantity.specs.declared.count.LinkInstanceId.{LinkInstanceId}
+use Rattle.meaning.specs.declared.message.ContextBytes.{ContextBytes}
+use Rattle.std.specs.Prelude.{ℕ, List, [], ◌∷◌, ◌++◌, Option, Some, None}
 use Rattle.text.specs.Strings.{bytes_text}
-use Rattle.meaning.specs.declared.message.Instance.{Instance}
-use Rattle.meaning.specs.declared.message.Context.{Context}
-use Rattle.meaning.specs.declared.message.Status.{Status}
 use Rattle.store.specs.declared.queue.Entry.{Entry}
 use Rattle.store.specs.declared.queue.Queue.{Queue}
 use Rattle.store.specs.Waiting.{waiting}
@@ -42,9 +41,9 @@ KEPT = 107 ∷ 101 ∷ 112 ∷ 116 ∷ []
 abbrev pub PACER : List ℕ
 PACER = 112 ∷ 97 ∷ 99 ∷ 101 ∷ 114 ∷ 32 ∷ []
 
-abbrev pub status_texts : Status → List (List ℕ)
-status_texts Status.Absent = NOT-REPORTED ∷ []
-status_texts (Status.Given status) = one_number SPACE status
+abbrev pub status_texts : Option ℕ → List (List ℕ)
+status_texts None = NOT-REPORTED ∷ []
+status_texts (Some status) = one_number SPACE status
 
 abbrev pub flow_texts : Flow → List (List ℕ)
 flow_texts Flow.Free = FREE ∷ []
@@ -66,7 +65,7 @@ abbrev pub store_texts : List ℕ → List (List ℕ)
 store_texts store = STORE ∷ (bytes_text store ∷ [])
 
 -- the Link Instance and the Context of a state, as `read` says those of a message
-unfoldable pub kept_texts : Instance → Context → List (List ℕ)
+unfoldable pub kept_texts : Option (LinkInstanceId × ℕ) → Option (ContextBytes × ℕ) → List (List ℕ)
 kept_texts link context = KEPT ∷ (instance_texts link ++ context_texts context)
 
 -- "shows the pacer's clock, the time of the last query that was due, and that of the last accepted control message"

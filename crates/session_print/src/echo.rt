@@ -5,26 +5,26 @@ ghost use Rattle.writable.specs.Allowed.{control_allowed, data_allowed};
 ghost use Rattle.writer.specs.Written.{control_written, data_written};
 ghost use Rattle.session_print.specs.Echoes.{count_of, written_texts, outcome_texts, control_echo_texts, data_echo_texts, echoing_texts};
 
-use meaning::message::{Control, Data, End};
+use meaning::message::{Control, Data, End, Plane};
 use message_words::whole;
-use quantity::count::DatalinkId;
-use reader::answer::{ControlReading, DataReading, PlaneAnswer, Verdict};
+use quantity::count::{ByteCount, DatalinkId};
+use quantity::refusal::Refusal;
+use reader::answer::{ControlReading, DataReading, Verdict};
 use reader::{header, packet};
 use text::{put, put_bytes};
-use writer::answer::WriteAnswer;
 
 // The answer of a writer; the message stands at the start of the lent output.
-fn outcome(answer: WriteAnswer, lent: &[u8], out: &mut [u8], at: usize) -> usize
+fn outcome(answer: Result<ByteCount, Refusal>, lent: &[u8], out: &mut [u8], at: usize) -> usize
     requires { count_of answer ≤ length lent.now }
     ensures { Says out.old at (written_texts answer (take (count_of answer) lent.now)) result out.new }
 {
     match answer {
-        WriteAnswer::Wrote(count) => {
+        Ok(count) => {
             let n = count.0;
             let behind = put(out, at, b"written ");
             put_bytes(out, behind, &lent[0..n])
         }
-        WriteAnswer::Refused(refusal) => whole::refused(out, at, refusal),
+        Err(refusal) => whole::refused(out, at, refusal),
     }
 }
 
@@ -98,14 +98,14 @@ pub(crate) fn echoing(
     ensures { Says out.old at (echoing_texts end id datagram.now other (length lent.old)) result out.new }
 {
     match header::plane(datagram) {
-        PlaneAnswer::Control => control_echoed(
+        Ok(Plane::Control) => control_echoed(
             reader::control::read(datagram, end, id),
             other,
             lent,
             out,
             at,
         ),
-        PlaneAnswer::Data => data_echoed(
+        Ok(Plane::Data) => data_echoed(
             reader::data::read(datagram, end, id),
             packet::packet(datagram),
             other,
@@ -113,6 +113,6 @@ pub(crate) fn echoing(
             out,
             at,
         ),
-        PlaneAnswer::Refused(refusal) => whole::refused(out, at, refusal),
+        Err(refusal) => whole::refused(out, at, refusal),
     }
 }

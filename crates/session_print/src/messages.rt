@@ -31,12 +31,6 @@ pub fn bad_line(out: &mut [u8]) -> usize
     put(out, 0, b"bad line")
 }
 
-fn least(a: usize, b: usize) -> usize
-    ensures { result ≡ min a b }
-{
-    if a < b { a } else { b }
-}
-
 // Written into the first bytes of a lent output, at most `room`.
 fn echoed(
     end: End,
@@ -49,7 +43,7 @@ fn echoed(
 ) -> usize
     ensures { Says out.old 0 (echoing_texts end (record { 0 = id }) datagram.now other (min room (length output.old))) result out.new }
 {
-    let size = least(room, output.len());
+    let size = room.min(output.len());
     echoing(
         end,
         DatalinkId(id),

@@ -5,18 +5,17 @@ ghost use Rattle.ips_channel_calls.specs.Calls.{answer_of};
 ghost use Rattle.session_print.specs.Answers.{another_texts, offers_texts};
 
 use crate::answers::offered;
-use ips_channel_calls::offering::OfferAnswer;
 use quantity::refusal::Refusal;
 use text::put;
 
 // The answer that a byte says.
-fn answer_of(number: u8) -> OfferAnswer
+fn answer_of(number: u8) -> Result<(), Refusal>
     ensures { result ≡ answer_of number }
 {
     if number == 0 {
-        return OfferAnswer::Taken;
+        return Ok(());
     }
-    OfferAnswer::Refused(Refusal { number, place: 0 })
+    Err(Refusal { number, place: 0 })
 }
 
 fn another(out: &mut [u8], at: usize, number: u8) -> usize
@@ -31,10 +30,8 @@ pub fn handed(out: &mut [u8], at: usize, answers: &[u8]) -> usize
     ensures { Says out.old at (offers_texts answers.now) result out.new }
 {
     let mut behind = put(out, at, b"offered");
-    let mut index = 0;
-    while index < answers.len() {
-        behind = another(out, behind, answers[index]);
-        index += 1;
+    for number in answers {
+        behind = another(out, behind, *number);
     }
     behind
 }

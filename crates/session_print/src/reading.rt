@@ -2,10 +2,10 @@
 ghost use Rattle.message_words.specs.Saying.{Says};
 ghost use Rattle.session_print.specs.Readings.{control_read_texts, data_read_texts, reading_texts};
 
-use meaning::message::End;
+use meaning::message::{End, Plane};
 use message_words::whole;
 use quantity::count::DatalinkId;
-use reader::answer::{ControlReading, DataReading, PlaneAnswer, Verdict};
+use reader::answer::{ControlReading, DataReading, Verdict};
 use reader::{control, data, header, packet};
 
 fn control_said(reading: ControlReading, out: &mut [u8], at: usize) -> usize
@@ -35,13 +35,13 @@ pub(crate) fn reading(end: End, id: DatalinkId, datagram: &[u8], out: &mut [u8],
     ensures { Says out.old at (reading_texts end id datagram.now) result out.new }
 {
     match header::plane(datagram) {
-        PlaneAnswer::Control => control_said(control::read(datagram, end, id), out, at),
-        PlaneAnswer::Data => data_said(
+        Ok(Plane::Control) => control_said(control::read(datagram, end, id), out, at),
+        Ok(Plane::Data) => data_said(
             data::read(datagram, end, id),
             packet::packet(datagram),
             out,
             at,
         ),
-        PlaneAnswer::Refused(refusal) => whole::refused(out, at, refusal),
+        Err(refusal) => whole::refused(out, at, refusal),
     }
 }

@@ -4,19 +4,20 @@ ghost use Rattle.session_print.specs.Shown.{status_texts, flow_texts, waiting_te
 
 use flow::Flow;
 use ips_channel::state::Channel;
-use meaning::message::{Context, Instance, Status};
+use meaning::message::ContextBytes;
 use message_words::part::{context, instance, labelled, paired};
 use pacer::Pacer;
+use quantity::count::LinkInstanceId;
 use quantity::limit::MOST_WAITING;
 use store::queue::Queue;
 use text::{put, put_bytes};
 
-fn status(out: &mut [u8], at: usize, status: Status) -> usize
+fn status(out: &mut [u8], at: usize, status: Option<u8>) -> usize
     ensures { Says out.old at (status_texts status) result out.new }
 {
     match status {
-        Status::Absent => put(out, at, b" -"),
-        Status::Given(code) => labelled(out, at, b" ", code as u64),
+        None => put(out, at, b" -"),
+        Some(code) => labelled(out, at, b" ", code as u64),
     }
 }
 
@@ -36,12 +37,8 @@ fn waiting(out: &mut [u8], at: usize, queue: Queue) -> usize
 {
     let count = queue.count;
     let mut behind = labelled(out, at, b" ", count as u64);
-    let mut index = 0;
-    while index < count && index < MOST_WAITING {
-        let entry = queue.entries[index];
-        let length = entry.length;
-        index += 1;
-        behind = paired(out, behind, b" ", length.0 as u64, entry.expiry);
+    for entry in &queue.entries[..count.min(MOST_WAITING)] {
+        behind = paired(out, behind, b" ", entry.length.0 as u64, entry.expiry);
     }
     behind
 }
@@ -71,7 +68,12 @@ pub fn held(out: &mut [u8], at: usize, store: &[u8]) -> usize
 }
 
 // The Link Instance and the Context, each where there is one.
-pub fn kept(out: &mut [u8], at: usize, link: Instance, place: Context) -> usize
+pub fn kept(
+    out: &mut [u8],
+    at: usize,
+    link: Option<(LinkInstanceId, usize)>,
+    place: Option<(ContextBytes, usize)>,
+) -> usize
     ensures { Says out.old at (kept_texts link place) result out.new }
 {
     let label = put(out, at, b"kept");

@@ -5,11 +5,11 @@ use mathlib.Core.List.{List, [], ◌∷◌, ◌++◌}
 use Prim.Native.Nat.{ℕ, ◌+◌, ◌*◌, ◌≤◌, ◌<◌}
 use native.Mathlib.Omega.{arith}
 use lib.Dec.{eqb}
-use lib.ListN.{length, drop, length-drop}
+use lib.ListN.{drop}
 use lib.Seq.{paste}
 use Rattle.line_rows.specs.Rows.{over}
 use Rattle.ips_words_start.specs.Start.{CONFIGURATION-HEAD, CONFIGURATION-SLOT}
-use Rattle.session_read.specs.Lines.{PLACES, CONFIGURATION-WORDS, StartFits}
+use Rattle.session_read.specs.Lines.{PLACES, StartFits}
 use Rattle.session_read.specs.Start.{SAID-ID, SAID-COUNT, SAID-CHANNELS, memory_place, behind_keyword, pace_place, codes_place, hello_of, limit_of, codes_of, head_said, channels_said, configuration_from}
 use Rattle.session_read.proofs.Laying.{laid_after}
 
@@ -30,10 +30,6 @@ pace_fits {n} f = omega (arith, f.few, behind_most n (memory_place n) 1)
 pub codes_fit : {n : ℕ → ℕ} → StartFits n → codes_place n + 1 < PLACES
 unfolding codes_place
 codes_fit {n} f = omega (arith, pace_fits f, behind_most n (pace_place n) 2)
-
-pub headed_long : (words : List ℕ) {headed : List ℕ} {datalink count hello limit codes : ℕ} → length words ≡ CONFIGURATION-WORDS
-    → headed ≡ (datalink ∷ count ∷ hello ∷ limit ∷ codes ∷ []) ++ drop CONFIGURATION-HEAD words → length headed ≡ CONFIGURATION-WORDS
-headed_long words e g = rw g (simp length-drop (omega arith))
 
 -- ---- head and channels, one behind the other
 pub configured : (n : ℕ → ℕ) (words : List ℕ) {headed words' : List ℕ} {hello limit codes : ℕ} → hello ≡ hello_of n → limit ≡ limit_of n → codes ≡ codes_of n

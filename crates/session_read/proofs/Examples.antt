@@ -8,12 +8,12 @@ use Rattle.text.specs.Words.{head_of, tail_of}
 use Rattle.text.specs.Numbers.{digit_of, step_of, follow_of, by_size, plain_of, parse_of}
 use Rattle.text.specs.Strings.{pairs_of, readable_of, hexed_of}
 use Rattle.line_rows.specs.Rows.{spells_of, choice_of, value_of, bytes_of, behind_of, item_of, items_of, list_of, last_number, item_or_list_of, left_out_of, row_of, read_by, good_by}
-use Rattle.line_rows.specs.Tables.{named_of, items_left, command_of, key_of, items_behind, said_in, key_in}
+use Rattle.line_rows.specs.Tables.{shortened, named_of, items_left, command_of, key_of, items_behind, said_in, key_in}
 use Rattle.meaning.specs.declared.message.End.{End}
 use Rattle.session_read.specs.declared.asked.Asked.{Asked}
 use Rattle.session_read.specs.declared.asked.Command.{Command}
 use Rattle.session_read.specs.declared.start.StartWords.{StartWords}
-use Rattle.session_read.specs.Lines.{shortened, end_of, asked_by, start_by, words_by, asked_of, start_of, words_of}
+use Rattle.session_read.specs.Lines.{end_of, asked_by, start_by, words_by, asked_of, start_of, words_of}
 use Rattle.session_read.specs.Start.{stores_of, perhaps, memory_of, behind_keyword, pace_place, codes_place, hello_of, limit_of, codes_of, configuration_from, start_from}
 use Rattle.session_read.specs.Words.{said_from}
 use Rattle.session_read.specs.Offers.{channel_count, expiry_count, length_count, answer_count, counts_from, lists_from}

@@ -1,40 +1,39 @@
 -- Numbers of a line laid as words, one after another, and behind what was laid before. Assumes nothing.
 use mathlib.Core.Path.{◌≡◌, refl, sym, ap, ◌∙◌}
-use mathlib.Core.List.{List, ◌++◌}
-use Prim.Native.Nat.{ℕ, ◌+◌, ◌≤◌, ◌<◌}
-use native.Mathlib.Numerals.{add-one}
+use mathlib.Core.List.{List, [], ◌∷◌, ◌++◌, append_assoc}
+use Prim.Native.Nat.{ℕ, zero, suc, ◌-◌, ◌+◌, ◌≤◌}
 use native.Mathlib.Omega.{arith}
-use lib.ListN.{length, set, drop, length-append}
-use lib.Seq.{paste, paste-zero, paste-suc, take_at, take-length, drop-append-add, drop-drop}
-use Rattle.facts.proofs.Tables.{length_tabulate, get_d_tabulate}
+use borrow.Rule.Slice.PartMut.{put_mid}
+use lib.ListN.{length, get_or, take, drop, length-drop, length-append}
+use lib.Seq.{paste, take_at, take-length, take_all, get_or-drop, drop-append-add, drop-drop}
+use Rattle.facts.specs.Tables.{tabulate}
+use Rattle.facts.proofs.Tables.{length_tabulate}
 use Rattle.line_rows.specs.Rows.{over}
-use Rattle.session_read.specs.Lines.{CONFIGURATION-WORDS}
 use Rattle.session_read.specs.Words.{said_from}
 
 pub said_length : (n : ℕ → ℕ) (from count : ℕ) → length (said_from n from count) ≡ count
 unfolding said_from
 said_length n from count = length_tabulate count (λ place. n (from + place))
 
--- ---- the loop: the first of the numbers are pasted
-pub record Laying (n : ℕ → ℕ) (words₀ words : List ℕ) (to from count at : ℕ) : Type 0 where
-  pub few : at ≤ count
-  pub so_far : words ≡ paste words₀ to (said_from n from count) at
+-- ---- a stretch of the numbers is copied
+first_are : (l : List ℕ) (count : ℕ) → count ≤ length l → take count l ≡ tabulate count (λ place. get_or l place 0)
+unfolding tabulate
+first_are l zero h = refl
+first_are [] (suc count) h = absurd (omega arith)
+first_are (x ∷ l) (suc count) h = ap (λ (xs : List ℕ). x ∷ xs) (first_are l count (omega arith))
 
-pub laying_start : (n : ℕ → ℕ) (words : List ℕ) (to from count : ℕ) → Laying n words words to from count 0
-laying_start n words to from count = record { few = omega arith; so_far = paste-zero words to (said_from n from count) }
-
-module _ {n : ℕ → ℕ} {words₀ words : List ℕ} {to from count at : ℕ} (k : Laying n words₀ words to from count at) where
-  pub laying_on : to + count ≤ CONFIGURATION-WORDS → length words₀ ≡ CONFIGURATION-WORDS → at < count → Laying n words₀ (set words (to + at) (n (from + at))) to from count (at + 1)
-  unfolding said_from
-  laying_on f long h =
-      let here = get_d_tabulate count (λ place. n (from + place)) at 0 h in
-      record {
-        few = omega arith;
-        so_far = rw (add-one at, k.so_far, ← here) (paste-suc words₀ to (said_from n from count) at 0 (omega arith) (omega (arith, said_length n from count)));
-      }
-
-  pub laying_end : count ≤ at → words ≡ paste words₀ to (said_from n from count) count
-  laying_end h = let all : at ≡ count = omega (arith, k.few) in k.so_far ∙ ap (λ (i : ℕ). paste words₀ to (said_from n from count) i) all
+pub copied_is : (n words : List ℕ) (to from count : ℕ) {part : List ℕ} → from + count ≤ length n → part ≡ take (from + count - from) (drop from n)
+    → put_mid to (to + count - to) words part ≡ paste words to (said_from (λ i. get_or n i 0) from count) count
+unfolding said_from
+copied_is n words to from count {part} h e =
+    let f : ℕ → ℕ = λ place. get_or n (from + place) 0 in
+    let left : length (drop from n) ≡ length n - from = length-drop from n in
+    let many : from + count - from ≡ count = omega arith in
+    let most : to + count - to ≡ count = omega arith in
+    let said : take count (drop from n) ≡ tabulate count f =
+    first_are (drop from n) count (omega arith) ∙ ap (tabulate count) (λ i place. get_or-drop from n place 0 i) in
+    let whole : take count (tabulate count f) ≡ tabulate count f = take_all count (tabulate count f) (omega (arith, length_tabulate count f)) in
+    rw (most, e, many, said, whole, drop-drop count to words) (sym (append_assoc (take to words) (tabulate count f) (drop (to + count) words)))
 
 -- ---- what is laid behind what was laid at the start
 pub laid_behind : (xs ys words : List ℕ) → paste (over xs words) (length xs) ys (length ys) ≡ over (xs ++ ys) words

@@ -7,12 +7,12 @@ use native.Mathlib.Omega.{arith}
 use lib.ListN.{length, get_or, replicate, length-replicate, get_or-replicate, get_or-eq_default}
 use Rattle.line_rows.specs.declared.table.Told.{Told}
 use Rattle.line_rows.specs.Rows.{over}
-use Rattle.line_rows.specs.Tables.{items_behind, Reads}
+use Rattle.line_rows.specs.Tables.{shortened, items_behind, Reads}
 use Rattle.line_rows.specs.Places.{keyed_of, row_of_key, written_out, Within}
 use Rattle.line_rows.proofs.Places.{reads_within, reads_numbers}
 use Rattle.session_read.specs.declared.asked.Asked.{Asked}
 use Rattle.session_read.specs.declared.start.StartWords.{StartWords}
-use Rattle.session_read.specs.Lines.{PLACES, CONFIGURATION-WORDS, COMMANDS, shortened, asked_by, start_by, words_by, numbers_in, said_by, key_by, asked_of, start_of, words_of, Asks, Bounded}
+use Rattle.session_read.specs.Lines.{PLACES, CONFIGURATION-WORDS, COMMANDS, asked_by, start_by, words_by, numbers_in, said_by, key_by, asked_of, start_of, words_of, Asks, Bounded}
 
 -- numbers that are all 0 before a line is read
 abbrev blank : List ℕ

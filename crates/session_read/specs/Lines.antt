@@ -1,8 +1,8 @@
 -- The lines of docs/SESSION.md, in its order: for each command its first word and its row, and what its numbers ask for.
-use Rattle.std.specs.Prelude.{cond, List, [], ◌∷◌, ◌++◌, ◌≡◌, ℕ, ◌-◌, ◌*◌, ◌^◌, ◌<◌, ◌≤◌, eqb, ltb, length, get_or, replicate}
+use Rattle.std.specs.Prelude.{cond, List, [], ◌∷◌, ◌++◌, ◌≡◌, ℕ, ◌-◌, ◌*◌, ◌^◌, ◌<◌, ◌≤◌, eqb, length, get_or, replicate}
 use Rattle.quantity.specs.Limits.{MOST-CHANNELS, LARGEST-STORE}
 use Rattle.line_rows.specs.Rows.{NUMBER, BYTES, LIST, OPTIONAL, key_text, Said, over}
-use Rattle.line_rows.specs.Tables.{command, said_in, key_in}
+use Rattle.line_rows.specs.Tables.{command, said_in, key_in, shortened}
 use Rattle.line_rows.specs.Places.{row_of_key, written_out, Within}
 use Rattle.meaning.specs.declared.message.End.{End}
 use Rattle.session_read.specs.declared.asked.Asked.{Asked}
@@ -139,13 +139,6 @@ PLACES = 329
 -- the words of the configuration of as many channels
 abbrev pub CONFIGURATION-WORDS : ℕ
 CONFIGURATION-WORDS = configuration_length MOST-SETTINGS
-
--- "It may be 140,000 bytes long": a longer one is read as an empty line, which is no command
-abbrev pub LONGEST-LINE : ℕ
-LONGEST-LINE = 140000
-
-unfoldable pub shortened : List ℕ → List ℕ
-shortened line = cond (ltb LONGEST-LINE (length line)) [] line
 
 -- ---- the table
 -- `read END ID HEX`, `echo END ID HEX END2 ROOM`

@@ -1,7 +1,7 @@
 // A line, read.
 ghost use Rattle.std.specs.Prelude.{◌≡◌, length};
 ghost use Rattle.line_rows.specs.Rows.{over};
-ghost use Rattle.session_read.specs.Lines.{CONFIGURATION-WORDS, shortened, words_by, numbers_in, Asks, Bounded};
+ghost use Rattle.session_read.specs.Lines.{CONFIGURATION-WORDS, words_by, numbers_in, Asks, Bounded};
 
 use crate::asked::{Asked, asks};
 use crate::configuration::{CONFIGURATION_WORDS, configure};
@@ -9,25 +9,12 @@ use crate::offers::lay_lists;
 use crate::start::{StartWords, starts};
 use crate::table::{COMMANDS, OFFERS, PLACES, START};
 
-// "It may be 140,000 bytes long."
-const LONGEST_LINE: usize = 140000;
-
 // What a line asks for, how many bytes it says, and what its numbers are if it is a `start`.
 #[derive(Clone, Copy)]
 pub struct Line {
     pub asked: Asked,
     pub bytes: usize,
     pub start: StartWords,
-}
-
-// A longer line is read as an empty one, which is no command.
-fn short(line: &[u8]) -> &[u8]
-    ensures { result.now ≡ shortened line.now }
-{
-    if line.len() > LONGEST_LINE {
-        return &line[0..0];
-    }
-    line
 }
 
 // The words that a line says: the configuration of a `start`, the lists of an `offers`.
@@ -51,7 +38,7 @@ pub fn read(line: &[u8], words: &mut [u64; CONFIGURATION_WORDS], lent: &mut [u8]
 {
     *words = [0u64; CONFIGURATION_WORDS];
     let mut numbers = [0u64; PLACES];
-    let told = line_rows::read(short(line), &COMMANDS, &mut numbers, lent);
+    let told = line_rows::read(line_rows::shortened(line), &COMMANDS, &mut numbers, lent);
     let asked = asks(told.key, &numbers);
     let start = starts(told.key, &numbers);
     lay_words(told.key, &numbers, words);

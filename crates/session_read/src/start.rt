@@ -47,11 +47,9 @@ fn stores(n: &[u64; PLACES]) -> usize
 {
     let count = n[SAID_COUNT] as usize;
     let mut total: usize = 0;
-    let mut index = 0;
-    while index < count {
+    for index in 0..count {
         let from = SAID_CHANNELS + CONFIGURATION_SLOT * index;
         total += n[from + START_SIZE] as usize;
-        index += 1;
     }
     total
 }

@@ -20,9 +20,5 @@ pub(crate) fn lay(
     requires words_len { length words.old ≡ CONFIGURATION-WORDS }
     ensures { words.new ≡ paste words.old to (said_from (numbers_in n.now) from count) count }
 {
-    let mut at = 0;
-    while at < count {
-        words[to + at] = n[from + at];
-        at += 1;
-    }
+    words[to..to + count].copy_from_slice(&n[from..from + count]);
 }

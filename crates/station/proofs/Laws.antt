@@ -1,4 +1,5 @@
 -- What a call answers is what is printed of it, and its words are those that are left; a line is what was read of it. Assumes nothing.
+use Rattle.std.specs.Prelude.{Result, Ok, Err}
 use mathlib.Core.Bool.{true, false, not}
 use mathlib.Core.Path.{◌≡◌, refl, sym, ap, ◌∙◌}
 use mathlib.Core.List.{List, [], ◌∷◌, ◌++◌}
@@ -14,9 +15,7 @@ use Rattle.radio_end_state.specs.declared.channel.Channel.{Channel}
 use Rattle.radio_end_state.specs.State.{State}
 use Rattle.radio_end_state.specs.Calls.{After}
 use Rattle.radio_end_telling.specs.Left.{Left}
-use Rattle.radio_end_start.specs.declared.StartAnswer.{StartAnswer}
 use Rattle.radio_end_start.specs.Start.{StartedIn}
-use Rattle.radio_end.specs.declared.shown.ShowAnswer.{ShowAnswer}
 use Rattle.radio_end.specs.Shown.{words_needed, shown_of}
 use Rattle.message_words.specs.Saying.{Says}
 use Rattle.message_words.specs.Phrases.{refused_texts}
@@ -29,15 +28,15 @@ use Rattle.station.specs.declared.Held.{Held}
 use Rattle.station.specs.declared.Turn.{Turn}
 use Rattle.station.specs.Turns.{called, show_texts, commanded, stated, start_answer, begun, asking, answered, Calls, Turns}
 
-module _ (asked quiet : List ℕ) {after : After} {words : List ℕ} {answer : Answer} {words' lent' : List ℕ} (k : Left after words answer words' lent') where
+module _ (asked quiet : List ℕ) {after : After} {words : List ℕ} {answer : Result Answer Refusal} {words' lent' : List ℕ} (k : Left after words answer words' lent') where
   pub calls : {out : List ℕ} {count : ℕ} {out' : List ℕ} → Says out 0 (answer_texts asked quiet answer lent') count out' → Calls (called asked quiet words after) out count words' out'
   calls s = record { says = rw (k.answer_is, k.output_is) at s; words_are = k.words_are }
 
-module _ (s : State) (id : ℕ) {answer : ShowAnswer} (e : answer ≡ shown_of s id) {out : List ℕ} {count : ℕ} {out' : List ℕ} where
-  pub shows : {channel : Channel} → answer ≡ ShowAnswer.Shown channel → Says out 0 (channel_texts channel) count out' → Says out 0 (show_texts s id) count out'
+module _ (s : State) (id : ℕ) {answer : Result Channel Refusal} (e : answer ≡ shown_of s id) {out : List ℕ} {count : ℕ} {out' : List ℕ} where
+  pub shows : {channel : Channel} → answer ≡ Ok channel → Says out 0 (channel_texts channel) count out' → Says out 0 (show_texts s id) count out'
   shows g k = rw (sym e ∙ g) k
 
-  pub shows_refused : {refusal : Refusal} → answer ≡ ShowAnswer.Refused refusal → Says out 0 (refused_texts refusal) count out' → Says out 0 (show_texts s id) count out'
+  pub shows_refused : {refusal : Refusal} → answer ≡ Err refusal → Says out 0 (refused_texts refusal) count out' → Says out 0 (show_texts s id) count out'
   shows_refused g k = rw (sym e ∙ g) k
 
 -- ---- a part from the start, as long as was asked for or all there is
@@ -74,7 +73,7 @@ module _ (held : Held) (words : List ℕ) (command : Command) (room : ℕ) (byte
       rw (not-false held.started h) (record { says = part.says; words_are = rw (part_drop words held.words e, part.words_are) })
 
 -- ---- a start
-module _ (held : Held) (words : List ℕ) (channels : ℕ) (numbers : List ℕ) {need own : ℕ} {configuration : List ℕ} {answer : StartAnswer} {part' : List ℕ} (a : need ≡ words_needed channels) (e : own ≡ min need (length words)) (c : configuration ≡ configuration_in numbers channels) (k : StartedIn configuration (take (own - 0) words) answer part') where
+module _ (held : Held) (words : List ℕ) (channels : ℕ) (numbers : List ℕ) {need own : ℕ} {configuration : List ℕ} {answer : Result (Unit {0}) Refusal} {part' : List ℕ} (a : need ≡ words_needed channels) (e : own ≡ min need (length words)) (c : configuration ≡ configuration_in numbers channels) (k : StartedIn configuration (take (own - 0) words) answer part') where
   abbrev lent : ℕ
   lent = min (words_needed channels) (length words)
 
@@ -91,7 +90,7 @@ module _ (held : Held) (words : List ℕ) (channels : ℕ) (numbers : List ℕ) 
   unfolding start_answer
   answer_so = on_lent.answer_is
 
-  pub starts : {out : List ℕ} {count : ℕ} {out' : List ℕ} → answer ≡ StartAnswer.Started → Says out 0 (STARTED ∷ []) count out'
+  pub starts : {out : List ℕ} {count : ℕ} {out' : List ℕ} → answer ≡ Ok tt → Says out 0 (STARTED ∷ []) count out'
       → Turns (begun held words channels numbers) out (record { held = record { started = true; words = own }; count = count }) (part' ++ drop (own - 0) words) out'
   unfolding begun
   starts g s =
@@ -100,7 +99,7 @@ module _ (held : Held) (words : List ℕ) (channels : ℕ) (numbers : List ℕ) 
         calls = record { says = rw (sym answer_so ∙ g) s; words_are = rw (whole, on_lent.words_are) };
       }
 
-  pub starts_refused : {refusal : Refusal} {out : List ℕ} {count : ℕ} {out' : List ℕ} → answer ≡ StartAnswer.Refused refusal → Says out 0 (refused_texts refusal) count out'
+  pub starts_refused : {refusal : Refusal} {out : List ℕ} {count : ℕ} {out' : List ℕ} → answer ≡ Err refusal → Says out 0 (refused_texts refusal) count out'
       → Turns (begun held words channels numbers) out (record { held = held; count = count }) (part' ++ drop (own - 0) words) out'
   unfolding begun
   starts_refused g s =

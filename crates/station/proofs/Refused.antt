@@ -1,4 +1,5 @@
 -- Promises: a line that is answered `refused ..` leaves every word, and what is held. Assumes nothing.
+use Rattle.std.specs.Prelude.{Result, Ok, Err}
 use Prim.Native.Nat.{ℕ, min}
 use mathlib.Core.Bool.{Bool, true, false}
 use mathlib.Core.List.{List, [], ◌++◌}
@@ -43,11 +44,11 @@ Keeps held words turned = first turned.call.texts ≡ 114 → (turned.held ≡ h
 
 -- ---- a call whose words for a message and for none begin otherwise
 module _ (asked quiet : List ℕ) (a : eqb (get_or asked 0 0) 114 ≡ false) (q : eqb (get_or quiet 0 0) 114 ≡ false) (words : List ℕ) where
-  answer_keeps : (answer : Answer) (state : State) (output : List ℕ) → KeepsWords words (called asked quiet words (record { answer = answer; state = state; output = output }))
-  answer_keeps (Answer.Answered count) state output = apart (get_or asked 0 0) a
-  answer_keeps (Answer.Unasked count) state output = apart 117 refl
-  answer_keeps Answer.Quiet state output = apart (get_or quiet 0 0) q
-  answer_keeps (Answer.Refused refusal) state output = λ e. refl
+  answer_keeps : (answer : Result Answer Refusal) (state : State) (output : List ℕ) → KeepsWords words (called asked quiet words (record { answer = answer; state = state; output = output }))
+  answer_keeps (Ok (Answer.Answered count)) state output = apart (get_or asked 0 0) a
+  answer_keeps (Ok (Answer.Unasked count)) state output = apart 117 refl
+  answer_keeps (Ok Answer.Quiet) state output = apart (get_or quiet 0 0) q
+  answer_keeps (Err refusal) state output = λ e. refl
 
   called_keeps : (after : After) → KeepsWords words (called asked quiet words after)
   called_keeps after = answer_keeps after.answer after.state after.output

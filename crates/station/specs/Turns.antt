@@ -1,15 +1,15 @@
 -- docs/STATION.md: what the program answers to a line, what is held behind it, and every word that it leaves.
-use Rattle.std.specs.Prelude.{true, cond, List, [], ◌∷◌, ◌++◌, ◌≡◌, ℕ, min, length, take, drop, replicate}
+use Rattle.quantity.specs.declared.count.LinkInstanceId.{LinkInstanceId}
+use Rattle.quantity.specs.declared.refusal.Refusal.{Refusal}
+use Rattle.radio_end_state.specs.declared.channel.Channel.{Channel}
+use Rattle.std.specs.Prelude.{true, cond, List, [], ◌∷◌, ◌++◌, ◌≡◌, ℕ, min, length, take, drop, replicate, Option, Some, Result, Ok, Err}
 use Rattle.quantity.specs.Refusals.{OUTSIDE-LIMITS, LARGE-ALLOWANCE}
-use Rattle.meaning.specs.declared.message.Instance.{Instance}
 use Rattle.radio_end_state.specs.State.{State, fresh_state}
 use Rattle.radio_end_state.specs.Limits.{allowances_fit}
 use Rattle.radio_end_state.specs.Calls.{After, heard, status_told, queued_told, context_told, link_told, told}
 use Rattle.radio_end_words.specs.Words.{state_in, state_words}
 use Rattle.radio_end_telling.specs.Left.{is_refused}
-use Rattle.radio_end_start.specs.declared.StartAnswer.{StartAnswer}
 use Rattle.radio_end_start.specs.Start.{configuration_in, starts_in, begins_in, not_started}
-use Rattle.radio_end.specs.declared.shown.ShowAnswer.{ShowAnswer}
 use Rattle.radio_end.specs.Shown.{words_needed, shown_of}
 use Rattle.line_rows.specs.Rows.{over}
 use Rattle.message_words.specs.Saying.{Says}
@@ -32,13 +32,13 @@ abbrev pub called : (asked quiet words : List ℕ) → After → Called
 called asked quiet words after = record { texts = answer_texts asked quiet after.answer after.output; words = cond (is_refused after.answer) words (state_words after.state) }
 
 -- "`link LEN VALUE`"
-abbrev pub link_said : (size value : ℕ) → Instance
-link_said size value = Instance.Given (record { 0 = value }) size
+abbrev pub link_said : (size value : ℕ) → Option (LinkInstanceId × ℕ)
+link_said size value = Some (record { 0 = value }, size)
 
 -- "12 for `show` of a lacking channel too"
-abbrev pub shown_texts : ShowAnswer → List (List ℕ)
-shown_texts (ShowAnswer.Shown channel) = channel_texts channel
-shown_texts (ShowAnswer.Refused refusal) = refused_texts refusal
+abbrev pub shown_texts : Result Channel Refusal → List (List ℕ)
+shown_texts (Ok channel) = channel_texts channel
+shown_texts (Err refusal) = refused_texts refusal
 
 abbrev pub show_texts : State → ℕ → List (List ℕ)
 show_texts s id = shown_texts (shown_of s id)
@@ -70,18 +70,18 @@ pub record Turned : Type 0 where
   pub call : Called
 
 -- "`start` is answered `started` .. a refused start leaves the state before it"
-abbrev pub start_texts : StartAnswer → List (List ℕ)
-start_texts StartAnswer.Started = STARTED ∷ []
-start_texts (StartAnswer.Refused refusal) = refused_texts refusal
+abbrev pub start_texts : Result (Unit {0}) Refusal → List (List ℕ)
+start_texts (Ok tt) = STARTED ∷ []
+start_texts (Err refusal) = refused_texts refusal
 
-abbrev pub held_behind : Held → ℕ → StartAnswer → Held
-held_behind held own StartAnswer.Started = record { started = true; words = own }
-held_behind held own (StartAnswer.Refused refusal) = held
+abbrev pub held_behind : Held → ℕ → Result (Unit {0}) Refusal → Held
+held_behind held own (Ok tt) = record { started = true; words = own }
+held_behind held own (Err refusal) = held
 
 -- 19, then 23
-unfoldable pub start_answer : (configuration words : List ℕ) → StartAnswer
+unfoldable pub start_answer : (configuration words : List ℕ) → Result (Unit {0}) Refusal
 start_answer configuration words =
-    cond (starts_in configuration words) (cond (allowances_fit (configuration_in configuration).settings) StartAnswer.Started (not_started LARGE-ALLOWANCE)) (not_started OUTSIDE-LIMITS)
+    cond (starts_in configuration words) (cond (allowances_fit (configuration_in configuration).settings) (Ok tt) (not_started LARGE-ALLOWANCE)) (not_started OUTSIDE-LIMITS)
 
 abbrev pub start_call : (configuration words : List ℕ) → Called
 start_call configuration words = record { texts = start_texts (start_answer configuration words); words = cond (begins_in configuration words) (state_words (fresh_state (configuration_in configuration))) words }

@@ -10,12 +10,9 @@ ghost use Rattle.station_print.specs.Answers.{ANSWER as ANSWER-TEXT, UNASKED, TE
 ghost use Rattle.station.specs.Turns.{link_said, show_texts, called, commanded, stated, begun, asking, answered, Turns, Calls};
 
 use lines::Found;
-use meaning::message::Instance;
 use message_words::whole::refused;
 use quantity::count::{ByteCount, LinkInstanceId};
 use quantity::limit::{LONGEST_DATAGRAM, MOST_CHANNELS};
-use radio_end::ShowAnswer;
-use radio_end_start::StartAnswer;
 use radio_end_words::layout::{HEAD, SLOT};
 use station_read::{Asked, Command, PLACES};
 use std::io::Read;
@@ -51,13 +48,6 @@ struct Turn {
 struct Said {
     held: Held,
     written: bool,
-}
-
-// The smaller of two lengths.
-fn least(a: usize, b: usize) -> usize
-    ensures { result ≡ min a b }
-{
-    if a < b { a } else { b }
 }
 
 // `hear ROOM HEX`
@@ -96,7 +86,7 @@ fn queued_line(words: &mut [u64], id: u8, bytes: u64, output: &mut [u8], out: &m
 fn link_line(words: &mut [u64], length: u8, value: u64, out: &mut [u8]) -> usize
     ensures { Calls (called UNASKED KEPT words.old (link_told (state_in words.old) (link_said length value) [])) out.old result words.new out.new }
 {
-    let instance = Instance::Given(LinkInstanceId(value), length as usize);
+    let instance = Some((LinkInstanceId(value), length as usize));
     let answer = radio_end::tell_link(words, instance);
     station_print::answered(out, answer, b"", b"unasked ", b"kept")
 }
@@ -114,8 +104,8 @@ fn show_line(words: &[u64], id: u8, out: &mut [u8]) -> usize
     ensures { Says out.old 0 (show_texts (state_in words.now) id) result out.new }
 {
     match radio_end::show(words, id) {
-        ShowAnswer::Shown(channel) => station_print::channel(out, channel),
-        ShowAnswer::Refused(refusal) => refused(out, 0, refusal),
+        Ok(channel) => station_print::channel(out, channel),
+        Err(refusal) => refused(out, 0, refusal),
     }
 }
 
@@ -155,8 +145,8 @@ fn state_line(
     if !held.started {
         return station_print::bad_line(out);
     }
-    let own = least(held.words, words.len());
-    let size = least(room, output.len());
+    let own = held.words.min(words.len());
+    let size = room.min(output.len());
     command_line(
         &mut words[0..own],
         command,
@@ -176,17 +166,17 @@ fn start_line(
 ) -> Turn
     ensures { Turns (begun held words.old channels numbers.now) out.old result words.new out.new }
 {
-    let own = least(radio_end::words_for(channels), words.len());
+    let own = radio_end::words_for(channels).min(words.len());
     let configuration = station_read::configuration(numbers, channels);
     match radio_end_start::start(&mut words[0..own], configuration) {
-        StartAnswer::Started => Turn {
+        Ok(()) => Turn {
             held: Held {
                 started: true,
                 words: own,
             },
             count: station_print::started(out),
         },
-        StartAnswer::Refused(refusal) => Turn {
+        Err(refusal) => Turn {
             held,
             count: refused(out, 0, refusal),
         },
@@ -218,15 +208,8 @@ fn asked_line(
     }
 }
 
-// The first of some bytes.
-fn first(bytes: &[u8], count: usize) -> &[u8]
-    requires { count ≤ length bytes.now }
-    ensures { result.now ≡ take count bytes.now }
-{
-    &bytes[0..count]
-}
-
 // Any line is answered as its definition says.
+#[tactic(auto, using(crate::proofs::Laws::bytes_within))]
 fn answer_line(
     held: Held,
     words: &mut [u64],
@@ -245,13 +228,14 @@ fn answer_line(
         words,
         asked,
         &numbers,
-        first(bytes, said.bytes),
+        &bytes[..said.bytes],
         output,
         out,
     )
 }
 
 // Says something on standard error, where nothing is left to say of what can't be written there.
+// Each program has its own `complain` and `print`: `Print` promises nothing of what it writes, and a public function promises its whole outcome.
 fn complain(complaints: &impl Print, text: &[u8]) {
     let _said = complaints.write_all(text).is_ok();
 }
@@ -287,7 +271,9 @@ fn say(
     }
 }
 
+// Not one loop with the other script's: a shared loop would be public, and would have to say by a relation of its closure's calls what each line was.
 // Answers line after line, up to the end or to what can't be read or written. Nothing says that an input ends, so the turns are counted.
+#[tactic(auto, using(lines::proofs::Laws::next_inside))]
 fn serve(
     reader: &mut impl Read,
     printer: &impl Print,
@@ -303,9 +289,7 @@ fn serve(
         words: 0,
     };
     let mut input = lines::start();
-    let mut turns = u64::MAX;
-    while turns > 0 {
-        turns -= 1;
+    for _turn in 0..u64::MAX {
         match lines::next(buffer, input) {
             Found::More => input = lines::fill(reader, buffer, input),
             Found::End => return,
@@ -342,7 +326,7 @@ fn serve(
     }
 }
 
-// An array that is lent as an array asks no proof of its length.
+// An array that is lent as an array asks no proof of its length. Lent as slices by `main`, the check runs out of stack at the longest of them.
 fn hold(
     reader: &mut impl Read,
     printer: &impl Print,

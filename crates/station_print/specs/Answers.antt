@@ -1,5 +1,6 @@
 -- docs/STATION.md: the answers, as texts one behind another.
-use Rattle.std.specs.Prelude.{ℕ, List, [], ◌∷◌, take}
+use Rattle.quantity.specs.declared.refusal.Refusal.{Refusal}
+use Rattle.std.specs.Prelude.{ℕ, List, [], ◌∷◌, take, Result, Ok, Err}
 use Rattle.text.specs.Strings.{bytes_text}
 use Rattle.message_words.specs.Phrases.{refused_texts}
 use Rattle.radio_end_state.specs.declared.answer.Answer.{Answer}
@@ -37,8 +38,8 @@ abbrev pub KEPT : List ℕ
 KEPT = 107 ∷ 101 ∷ 112 ∷ 116 ∷ []
 
 -- a message behind the word of the line that asked for it, or behind `unasked`; the line's word where there is none. The message stands at the start of the output
-abbrev pub answer_texts : (asked quiet : List ℕ) → Answer → List ℕ → List (List ℕ)
-answer_texts asked quiet (Answer.Answered count) out = asked ∷ (bytes_text (take count.0 out) ∷ [])
-answer_texts asked quiet (Answer.Unasked count) out = UNASKED ∷ (bytes_text (take count.0 out) ∷ [])
-answer_texts asked quiet Answer.Quiet out = quiet ∷ []
-answer_texts asked quiet (Answer.Refused refusal) out = refused_texts refusal
+abbrev pub answer_texts : (asked quiet : List ℕ) → Result Answer Refusal → List ℕ → List (List ℕ)
+answer_texts asked quiet (Ok (Answer.Answered count)) out = asked ∷ (bytes_text (take count.0 out) ∷ [])
+answer_texts asked quiet (Ok (Answer.Unasked count)) out = UNASKED ∷ (bytes_text (take count.0 out) ∷ [])
+answer_texts asked quiet (Ok Answer.Quiet) out = quiet ∷ []
+answer_texts asked quiet (Err refusal) out = refused_texts refusal

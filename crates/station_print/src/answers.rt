@@ -5,6 +5,7 @@ ghost use Rattle.message_words.specs.Saying.{Says};
 ghost use Rattle.station_print.specs.Answers.{BAD-LINE, STARTED, answer_texts};
 
 use message_words::whole;
+use quantity::refusal::Refusal;
 use radio_end_state::answer::Answer;
 use text::{put, put_bytes};
 
@@ -34,13 +35,19 @@ fn message(out: &mut [u8], label: &[u8], count: usize, lent: &[u8]) -> usize
 }
 
 // What a call came to: a message, which stands at the start of the lent output, behind a word; a word where there is none; a refusal.
-pub fn answered(out: &mut [u8], answer: Answer, lent: &[u8], asked: &[u8], quiet: &[u8]) -> usize
+pub fn answered(
+    out: &mut [u8],
+    answer: Result<Answer, Refusal>,
+    lent: &[u8],
+    asked: &[u8],
+    quiet: &[u8],
+) -> usize
     ensures { Says out.old 0 (answer_texts asked.now quiet.now answer lent.now) result out.new }
 {
     match answer {
-        Answer::Answered(count) => message(out, asked, count.0, lent),
-        Answer::Unasked(count) => message(out, b"unasked ", count.0, lent),
-        Answer::Quiet => put(out, 0, quiet),
-        Answer::Refused(refusal) => whole::refused(out, 0, refusal),
+        Ok(Answer::Answered(count)) => message(out, asked, count.0, lent),
+        Ok(Answer::Unasked(count)) => message(out, b"unasked ", count.0, lent),
+        Ok(Answer::Quiet) => put(out, 0, quiet),
+        Err(refusal) => whole::refused(out, 0, refusal),
     }
 }

@@ -4,27 +4,27 @@ ghost use Rattle.station_print.specs.Shown.{window_texts, highest_texts, channel
 
 use meaning::message::Window;
 use message_words::part::labelled;
+use quantity::count::FlowSequence;
 use radio_end_state::channel;
 use radio_end_state::channel::Channel;
-use radio_flow::Highest;
 use text::put;
 
-fn window(out: &mut [u8], at: usize, window: Window) -> usize
+fn window(out: &mut [u8], at: usize, window: Option<Window>) -> usize
     ensures { Says out.old at (window_texts window) result out.new }
 {
     match window {
-        Window::Absent => put(out, at, b" -"),
-        Window::Empty => put(out, at, b" none"),
-        Window::Given(number) => labelled(out, at, b" ", number.0 as u64),
+        None => put(out, at, b" -"),
+        Some(Window::Empty) => put(out, at, b" none"),
+        Some(Window::Given(number)) => labelled(out, at, b" ", number.0 as u64),
     }
 }
 
-fn highest(out: &mut [u8], at: usize, highest: Highest) -> usize
+fn highest(out: &mut [u8], at: usize, highest: Option<FlowSequence>) -> usize
     ensures { Says out.old at (highest_texts highest) result out.new }
 {
     match highest {
-        Highest::Unheard => put(out, at, b" -"),
-        Highest::At(sequence) => labelled(out, at, b" ", sequence.0 as u64),
+        None => put(out, at, b" -"),
+        Some(sequence) => labelled(out, at, b" ", sequence.0 as u64),
     }
 }
 

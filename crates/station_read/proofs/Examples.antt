@@ -1,4 +1,5 @@
 -- Lines of docs/STATION.md, word for word. Assumes nothing.
+use Rattle.std.specs.Prelude.{Some, None}
 use mathlib.Core.Path.{◌≡◌, refl}
 use mathlib.Core.List.{List, [], ◌∷◌}
 use Prim.Native.Nat.{ℕ}
@@ -7,12 +8,11 @@ use Rattle.text.specs.Words.{head_of, tail_of}
 use Rattle.text.specs.Numbers.{digit_of, step_of, follow_of, by_size, plain_of, parse_of}
 use Rattle.text.specs.Strings.{pairs_of, readable_of, hexed_of}
 use Rattle.line_rows.specs.Rows.{spells_of, choice_of, value_of, bytes_of, behind_of, item_of, items_of, list_of, last_number, item_or_list_of, left_out_of, row_of, read_by, good_by}
-use Rattle.line_rows.specs.Tables.{named_of, items_left, command_of, key_of, items_behind, said_in, key_in}
+use Rattle.line_rows.specs.Tables.{shortened, named_of, items_left, command_of, key_of, items_behind, said_in, key_in}
 use Rattle.wire.specs.Numbers.{number_from}
-use Rattle.meaning.specs.declared.message.Context.{Context}
 use Rattle.station_read.specs.declared.asked.Asked.{Asked}
 use Rattle.station_read.specs.declared.asked.Command.{Command}
-use Rattle.station_read.specs.Lines.{shortened, asked_by, context_said, said_by, asked_of}
+use Rattle.station_read.specs.Lines.{asked_by, context_said, said_by, asked_of}
 
 -- `hear 40 0aff`
 hear : asked_of 2 (104 ∷ 101 ∷ 97 ∷ 114 ∷ 32 ∷ 52 ∷ 48 ∷ 32 ∷ 48 ∷ 97 ∷ 102 ∷ 102 ∷ []) ≡ Asked.State Command.Hear 40
@@ -108,14 +108,14 @@ unfolding index_of index_after head_of tail_of digit_of step_of follow_of by_siz
 start_half = refl
 
 -- ---- a Context of no byte, of two, of nine
-no_byte : context_said [] ≡ Context.Absent
+no_byte : context_said [] ≡ None
 unfolding context_said
 no_byte = refl
 
-two_bytes : context_said (10 ∷ 255 ∷ []) ≡ Context.Given (record { 0 = 2815 }) 2
+two_bytes : context_said (10 ∷ 255 ∷ []) ≡ Some (record { 0 = 2815 }, 2)
 unfolding context_said number_from
 two_bytes = refl
 
-nine_bytes : context_said (1 ∷ 2 ∷ 3 ∷ 4 ∷ 5 ∷ 6 ∷ 7 ∷ 8 ∷ 9 ∷ []) ≡ Context.Given (record { 0 = 0 }) 9
+nine_bytes : context_said (1 ∷ 2 ∷ 3 ∷ 4 ∷ 5 ∷ 6 ∷ 7 ∷ 8 ∷ 9 ∷ []) ≡ Some (record { 0 = 0 }, 9)
 unfolding context_said
 nine_bytes = refl

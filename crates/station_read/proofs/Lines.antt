@@ -1,17 +1,16 @@
 -- A line read by the table: its numbers are within their bounds, and ask for what the line does. Assumes nothing.
 use mathlib.Core.Path.{◌≡◌, refl, sym, subst}
 use mathlib.Core.List.{List, []}
-use Prim.Native.Nat.{ℕ, ◌-◌, ◌≤◌}
+use Prim.Native.Nat.{ℕ}
 use native.Mathlib.Decide.{dec_le}
 use native.Mathlib.Omega.{arith}
-use lib.ListN.{length, get_or, take, drop, replicate, length-replicate, get_or-replicate, get_or-eq_default}
-use lib.Seq.{take_all}
+use lib.ListN.{length, get_or, replicate, length-replicate, get_or-replicate, get_or-eq_default}
 use Rattle.line_rows.specs.declared.table.Told.{Told}
-use Rattle.line_rows.specs.Tables.{items_behind, Reads}
+use Rattle.line_rows.specs.Tables.{shortened, items_behind, Reads}
 use Rattle.line_rows.specs.Places.{keyed_of, row_of_key, written_out, Within}
 use Rattle.line_rows.proofs.Places.{reads_within, reads_numbers}
 use Rattle.station_read.specs.declared.asked.Asked.{Asked}
-use Rattle.station_read.specs.Lines.{PLACES, COMMANDS, shortened, asked_by, numbers_in, said_by, key_by, asked_of, Asks, Bounded}
+use Rattle.station_read.specs.Lines.{PLACES, COMMANDS, asked_by, numbers_in, said_by, key_by, asked_of, Asks, Bounded}
 
 -- numbers that are all 0 before a line is read
 abbrev blank : List ℕ
@@ -42,10 +41,3 @@ module _ (line : List ℕ) {given lent : List ℕ} {told : Told} {numbers lent' 
   read_asks f =
       let key : told.key ≡ key_by (length lent) line = read_as_lem.key in
       record { asked = rw (said_as_lem, key) at f; count = read_as_lem.count; numbers = read_as_lem.numbers; bytes = read_as_lem.bytes }
-
--- a part from the start: all of the numbers where they are no more, else as many as were asked for
-pub all_numbers : (numbers : List ℕ) (n : ℕ) → length numbers ≤ n → take (length numbers - 0) (drop 0 numbers) ≡ take n numbers
-all_numbers numbers n h = rw (take_all n numbers h, take_all (length numbers - 0) numbers (omega arith))
-
-pub first_numbers : (numbers : List ℕ) (n : ℕ) → take (n - 0) (drop 0 numbers) ≡ take n numbers
-first_numbers numbers n = let z : n - 0 ≡ n = omega arith in rw z

@@ -1,10 +1,10 @@
 -- The lines of docs/STATION.md, in its order: for each command its first word and its row, and what its numbers ask for.
-use Rattle.std.specs.Prelude.{cond, List, [], ◌∷◌, ◌++◌, ◌≡◌, ℕ, ◌+◌, ◌-◌, ◌*◌, ◌^◌, eqb, leb, ltb, length, get_or, take, replicate}
+use Rattle.meaning.specs.declared.message.ContextBytes.{ContextBytes}
+use Rattle.std.specs.Prelude.{cond, List, [], ◌∷◌, ◌++◌, ◌≡◌, ℕ, ◌+◌, ◌-◌, ◌*◌, ◌^◌, eqb, leb, length, get_or, take, replicate, Option, Some, None}
 use Rattle.quantity.specs.Limits.{MOST-CHANNELS, LARGEST-STORE, LONGEST-NAME}
 use Rattle.wire.specs.Numbers.{big_endian}
-use Rattle.meaning.specs.declared.message.Context.{Context}
 use Rattle.line_rows.specs.Rows.{NUMBER, BYTES, LIST, key_text, Said, over}
-use Rattle.line_rows.specs.Tables.{command, said_in, key_in}
+use Rattle.line_rows.specs.Tables.{command, said_in, key_in, shortened}
 use Rattle.line_rows.specs.Places.{row_of_key, written_out, Within}
 use Rattle.station_read.specs.declared.asked.Asked.{Asked}
 use Rattle.station_read.specs.declared.asked.Command.{Command}
@@ -73,13 +73,6 @@ MOST-SETTINGS = 80
 abbrev pub PLACES : ℕ
 PLACES = 322
 
--- "It may be 140,000 bytes long": a longer one is read as an empty line, which is no command
-abbrev pub LONGEST-LINE : ℕ
-LONGEST-LINE = 140000
-
-unfoldable pub shortened : List ℕ → List ℕ
-shortened line = cond (ltb LONGEST-LINE (length line)) [] line
-
 -- ---- the table: `start ID COUNT` and `CHANNEL KIND WATERMARK THROUGHPUT` for each channel; `hear ROOM HEX`; `status CHANNEL VALUE ROOM`; `context HEX ROOM`;
 -- `queued CHANNEL BYTES ROOM`; `link LEN VALUE`; `tell ROOM`; `show CHANNEL`
 abbrev pub COMMANDS : List ℕ
@@ -116,9 +109,9 @@ abbrev pub configuration_in : List ℕ → ℕ → List ℕ
 configuration_in numbers count = take (2 + 4 * count) numbers
 
 -- "`-`: none"; of a byte string that is too long only its length counts, which is refused
-unfoldable pub context_said : List ℕ → Context
+unfoldable pub context_said : List ℕ → Option (ContextBytes × ℕ)
 context_said bytes =
-    cond (eqb (length bytes) 0) Context.Absent (Context.Given (record { 0 = cond (leb (length bytes) LONGEST-NAME) (big_endian bytes) 0 }) (length bytes))
+    cond (eqb (length bytes) 0) None (Some (record { 0 = cond (leb (length bytes) LONGEST-NAME) (big_endian bytes) 0 }, length bytes))
 
 -- ---- a line, with room for n bytes
 abbrev pub said_by : ℕ → List ℕ → Said

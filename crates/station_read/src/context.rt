@@ -4,7 +4,7 @@ ghost use Rattle.quantity.specs.Limits.{LONGEST-NAME};
 ghost use Rattle.wire.specs.Numbers.{big_endian};
 ghost use Rattle.station_read.specs.Lines.{context_said};
 
-use meaning::message::{Context, ContextBytes};
+use meaning::message::ContextBytes;
 use quantity::limit::LONGEST_NAME;
 
 // The number that the bytes spell. Of too many bytes only their length counts, which is refused.
@@ -18,11 +18,11 @@ fn spelt(bytes: &[u8]) -> u64
 }
 
 // No byte is no Context.
-pub fn context_said(bytes: &[u8]) -> Context
+pub fn context_said(bytes: &[u8]) -> Option<(ContextBytes, usize)>
     ensures { result ≡ context_said bytes.now }
 {
     if bytes.len() == 0 {
-        return Context::Absent;
+        return None;
     }
-    Context::Given(ContextBytes(spelt(bytes)), bytes.len())
+    Some((ContextBytes(spelt(bytes)), bytes.len()))
 }

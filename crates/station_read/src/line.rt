@@ -1,12 +1,9 @@
 // A line, read.
 ghost use Rattle.std.specs.Prelude.{◌≡◌};
-ghost use Rattle.station_read.specs.Lines.{shortened, configuration_in, Asks};
+ghost use Rattle.station_read.specs.Lines.{configuration_in, Asks};
 
 use crate::asked::{Asked, asks};
 use crate::table::{COMMANDS, PLACES};
-
-// "It may be 140,000 bytes long."
-const LONGEST_LINE: usize = 140000;
 
 // What a line asks for, and how many bytes it says.
 #[derive(Clone, Copy)]
@@ -15,22 +12,12 @@ pub struct Line {
     pub bytes: usize,
 }
 
-// A longer line is read as an empty one, which is no command.
-fn short(line: &[u8]) -> &[u8]
-    ensures { result.now ≡ shortened line.now }
-{
-    if line.len() > LONGEST_LINE {
-        return &line[0..0];
-    }
-    line
-}
-
 // Reads a line. The numbers that it says stand at the start of the lent words, zeros behind them; the bytes that it says stand at the start of the lent memory.
 pub fn read(line: &[u8], numbers: &mut [u64; PLACES], lent: &mut [u8]) -> Line
     ensures { Asks lent.old line.now result numbers.new lent.new }
 {
     *numbers = [0u64; PLACES];
-    let told = line_rows::read(short(line), &COMMANDS, numbers, lent);
+    let told = line_rows::read(line_rows::shortened(line), &COMMANDS, numbers, lent);
     let asked = asks(told.key, numbers);
     Line {
         asked,

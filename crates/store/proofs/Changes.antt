@@ -1,5 +1,5 @@
 -- The parts of a change together: what the proofs of `waiting` cite. Assumes nothing.
-use mathlib.Core.Bool.{Bool, true, false}
+use mathlib.Core.Bool.{Bool, false}
 use mathlib.Core.Path.{◌≡◌, refl, sym, ap, ◌∙◌}
 use mathlib.Core.List.{List, [], ◌∷◌, ◌++◌, map}
 use Prim.Native.Nat.{ℕ, zero, suc, ◌+◌, ◌-◌, ◌<◌, ◌≤◌}
@@ -8,11 +8,10 @@ use native.Mathlib.Omega.{arith}
 use lib.ListN.{length, take, drop, replicate, length-append, length-drop, length-map}
 use lib.Seq.{take-append_seam, drop-append-add, take-length, length-take-le}
 use Rattle.quantity.specs.Limits.{MOST-WAITING}
-use Rattle.quantity.specs.declared.count.ByteCount.{ByteCount}
 use Rattle.store.specs.declared.queue.Queue.{Queue}
 use Rattle.store.specs.declared.queue.Amount.{Amount}
 use Rattle.store.specs.Packets.{Packet, packet_for, alive, joined, full, is_full}
-use Rattle.store.specs.Waiting.{waiting, packets_of, listed, entry_of, queue_of, store_of, Holds, Sound, Offering}
+use Rattle.store.specs.Waiting.{waiting, packets_of, listed, entry_of, queue_of, store_of, Holds, Sound}
 use Rattle.store.specs.Parts.{pasted, kept, appended, entry_for, amount_of, packets_from, Left}
 use Rattle.store.proofs.Bytes.{rest_zeroed}
 use Rattle.store.proofs.Entries.{entries_alive, total_kept}
@@ -81,11 +80,3 @@ module _ (q : Queue) (s : List ℕ) (t : ℕ) (l : Amount) (so : Sound q s) (e :
         let room = room_left (length s) (alive t (packets_of q s)) p (judged ∙ h) in
         let used : l.bytes.0 ≡ length (joined (alive t (packets_of q s))) = ap (λ (x : Amount). x.bytes.0) counted in
         record { not_full = judged ∙ h; few = room.0; used = used; fits = omega (arith, room.1) }
-
-module _ (q : Queue) (s : List ℕ) (ps : List Packet) (p : Packet) where
-  pub refused : (moved : ByteCount) → is_full (length s) ps p ≡ true → Offering q s ps p (record { taken = false; queue = q; moved = moved }) s
-  refused moved e = record { taken_is = rw e; queue_is = rw e; store_is = rw e }
-
-  pub taken : (q' : Queue) (s' : List ℕ) (moved : ByteCount) → is_full (length s) ps p ≡ false → Holds (length s) (ps ++ (p ∷ [])) q' s'
-      → Offering q s ps p (record { taken = true; queue = q'; moved = moved }) s'
-  taken q' s' moved e h = record { taken_is = rw e; queue_is = rw e h.queue_is; store_is = rw e h.store_is }

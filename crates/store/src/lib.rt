@@ -2,5 +2,5 @@
 #![tactic(auto)]
 
 pub mod queue;
-pub mod stretch;
+mod stretch;
 pub mod waiting;

@@ -14,6 +14,7 @@ pub struct Entry {
     pub expiry: u64,
 }
 
+// By value, an array of 32 entries with a count beside it: document 01's form for "at most 32 packets waiting on a channel".
 #[derive(Clone, Copy)]
 pub struct Queue {
     pub entries: [Entry; MOST_WAITING],
@@ -47,6 +48,15 @@ pub fn empty() -> Queue
     Queue { entries, count: 0 }
 }
 
+// The entries that wait, from an index on.
+pub(crate) fn waiting_from(queue: &Queue, index: usize) -> &[Entry]
+    requires { queue.now.count ≤ MOST-WAITING }
+    ensures { result.now ≡ drop index (waiting queue.now) }
+{
+    let count = queue.count;
+    &queue.entries[index.min(count)..count]
+}
+
 // Whether a packet is not expired yet.
 pub(crate) fn lasts(entry: Entry, time: u64) -> bool
     ensures { result ≡ lasts_at time entry.expiry }
@@ -73,14 +83,11 @@ pub(crate) fn keep(queue: Queue, index: usize, time: u64) -> Queue
     ensures { result ≡ listed (kept time (drop index (waiting queue))) }
 {
     let mut left = empty();
-    let count = queue.count;
-    let mut at = index;
-    while at < count {
-        let entry = queue.entries[at];
-        at += 1;
-        if lasts(entry, time) {
+    let entries = waiting_from(&queue, index);
+    for entry in entries {
+        if lasts(*entry, time) {
             let kept = left.count;
-            left.entries[kept] = entry;
+            left.entries[kept] = *entry;
             left.count = kept + 1;
         }
     }
@@ -92,14 +99,11 @@ pub fn load(queue: Queue, time: u64) -> Amount
     requires { Countable queue }
     ensures { result ≡ amount_of (kept time (waiting queue)) }
 {
-    let count = queue.count;
     let mut packets = 0;
     let mut bytes = 0;
-    let mut at = 0;
-    while at < count {
-        let entry = queue.entries[at];
-        at += 1;
-        if lasts(entry, time) {
+    let entries = waiting_from(&queue, 0);
+    for entry in entries {
+        if lasts(*entry, time) {
             packets += 1;
             bytes += entry.length.0;
         }
@@ -115,22 +119,22 @@ pub(crate) fn first(queue: Queue, time: u64) -> Front
     requires { Countable queue }
     ensures { IsFirst queue time result }
 {
-    let count = queue.count;
     let mut start = 0;
-    let mut at = 0;
-    while at < count {
-        let entry = queue.entries[at];
+    let entries = waiting_from(&queue, 0);
+    for (index, entry) in entries.iter().enumerate() {
         let end = start + entry.length.0;
-        let behind = at + 1;
-        if lasts(entry, time) {
-            return Front { start, end, behind };
+        if lasts(*entry, time) {
+            return Front {
+                start,
+                end,
+                behind: index + 1,
+            };
         }
         start = end;
-        at = behind;
     }
     Front {
         start,
         end: start,
-        behind: at,
+        behind: entries.len(),
     }
 }

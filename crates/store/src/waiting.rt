@@ -1,6 +1,6 @@
 // What waits on one channel: its queue by value, and its store as it is lent.
 ghost use mathlib.Core.List.{[], tail};
-ghost use Rattle.std.specs.Prelude.{◌≡◌, ◌+◌, ◌≤◌, ◌<◌, ◌^◌, length, take, drop};
+ghost use Rattle.std.specs.Prelude.{IfSome, ◌≡◌, ◌+◌, ◌≤◌, ◌<◌, ◌^◌, length, take, drop};
 ghost use Rattle.quantity.specs.Limits.{MOST-WAITING};
 ghost use Rattle.store.specs.Packets.{alive, first_bytes, full, joined, packet_for};
 ghost use Rattle.store.specs.Moves.{displaced, expiring, sending, offering};
@@ -19,14 +19,6 @@ pub struct Remaining {
     pub moved: ByteCount,
 }
 
-// Whether a packet was taken, the queue then, and how many bytes were moved in the store.
-#[derive(Clone, Copy)]
-pub struct Offered {
-    pub taken: bool,
-    pub queue: Queue,
-    pub moved: ByteCount,
-}
-
 // Where the packets that stay end in the store, and how many bytes were moved for them.
 #[derive(Clone, Copy)]
 struct Compacted {
@@ -40,16 +32,13 @@ fn compact(queue: Queue, store: &mut [u8], index: usize, start: usize, time: u64
     ensures end_in_bounds { (result.end ≤ length store.old) × (take result.end store.new ≡ joined (alive time (packets_from queue store.old index start))) }
     ensures moved_value { result.moved ≡ record { 0 = displaced_between start 0 (leaving time (drop index (waiting queue))) } }
 {
-    let count = queue.count;
     let mut from = start;
     let mut to = 0;
     let mut moved = 0;
-    let mut at = index;
-    while at < count {
-        let entry = queue.entries[at];
+    let entries = queue::waiting_from(&queue, index);
+    for entry in entries {
         let next = from + entry.length.0;
-        at += 1;
-        if queue::lasts(entry, time) {
+        if queue::lasts(*entry, time) {
             let written = stretch::move_down(store, from, to, entry.length);
             moved += written.0;
             to += entry.length.0;
@@ -71,7 +60,7 @@ fn retain(queue: Queue, store: &mut [u8], index: usize, start: usize, time: u64)
     let compacted = compact(queue, store, index, start, time);
     let end = compacted.end;
     let moved = compacted.moved;
-    stretch::fill_zeros(&mut store[end..]);
+    store[end..].fill(0);
     let queue = queue::keep(queue, index, time);
     Remaining { queue, moved }
 }
@@ -111,7 +100,7 @@ pub fn clear(store: &mut [u8]) -> Remaining
     ensures holds { Holds (length store.old) [] result.queue store.new }
     ensures moved_value { result.moved ≡ record { 0 = 0 } }
 {
-    stretch::fill_zeros(store);
+    store.fill(0);
     let queue = queue::empty();
     Remaining {
         queue,
@@ -139,26 +128,26 @@ fn join(queue: Queue, store: &mut [u8], used: ByteCount, packet: &[u8], expiry: 
     queue::append(queue, Entry { length, expiry })
 }
 
-// The expired packets leave and the packet joins the end, where there is room then; else nothing changes.
-pub fn offer(queue: Queue, store: &mut [u8], packet: &[u8], expiry: u64, time: u64) -> Offered
+// The expired packets leave and the packet joins the end; nothing, and nothing changes, where there is no room then.
+pub fn offer(
+    queue: Queue,
+    store: &mut [u8],
+    packet: &[u8],
+    expiry: u64,
+    time: u64,
+) -> Option<Remaining>
     requires { Sound queue store.old }
-    ensures offering { Offering queue store.old (alive time (packets_of queue store.old)) (packet_for packet.now expiry) result store.new }
-    ensures moved_value { result.moved ≡ record { 0 = displaced (offering (length store.old) (packet_for packet.now expiry) time (packets_of queue store.old)) } }
+    ensures offering { Offering store.old (alive time (packets_of queue store.old)) (packet_for packet.now expiry) result store.new }
+    ensures moved_value { IfSome result (λ left. left.moved ≡ record { 0 = displaced (offering (length store.old) (packet_for packet.now expiry) time (packets_of queue store.old)) }) }
 {
     let amount = queue::load(queue, time);
     if is_full(amount, ByteCount(packet.len()), ByteCount(store.len())) {
-        return Offered {
-            taken: false,
-            queue,
-            moved: ByteCount(0),
-        };
+        return None;
     }
     let left = expire(queue, store, time);
-    let moved = left.moved;
     let queue = join(left.queue, store, amount.bytes, packet, expiry);
-    Offered {
-        taken: true,
+    Some(Remaining {
         queue,
-        moved,
-    }
+        moved: left.moved,
+    })
 }

@@ -1,4 +1,5 @@
 -- What a caller learns of a number that was read. Assumes nothing.
+use Rattle.std.specs.Prelude.{Option, Some, None}
 use mathlib.Core.Bool.{Bool, true, false, not, cond, ◌&&◌, and-eq-true_iff}
 use mathlib.Core.Path.{◌≡◌, refl, sym, ap, ◌∙◌}
 use mathlib.Core.List.{List, [], ◌∷◌}
@@ -10,12 +11,10 @@ use borrow.Author.Tests.{ltb-true, leb-true, eqb-false, not-true}
 use lib.Dec.{ltb, leb, eqb}
 use lib.ListN.{length}
 use Rattle.facts.proofs.Tests.{clash}
-use Rattle.text.specs.declared.Number.{Number}
-use Rattle.text.specs.declared.Number.TheVariants.{Bad, Value}
 use Rattle.text.specs.Numbers.{within, digit_of, step_of, and_then, follow_of, by_size, plain_of, parse_of}
 
 -- a test that lets a number through was passed
-passed : (t : Bool) (n : Number) {read : ℕ} → cond t n Bad ≡ Value read → (t ≡ true) × (n ≡ Value read)
+passed : (t : Bool) (n : Option ℕ) {read : ℕ} → cond t n None ≡ Some read → (t ≡ true) × (n ≡ Some read)
 passed true n e = (refl, e)
 passed false n e = ((cc), (cc))
 
@@ -25,11 +24,11 @@ record Stepped (base most value byte longer : ℕ) : Type 0 where
   same : longer ≡ value * base + digit_of byte
   bound : longer ≤ most
 
-stepped : (base most value byte : ℕ) {longer : ℕ} → step_of base most value byte ≡ Value longer → Stepped base most value byte longer
+stepped : (base most value byte : ℕ) {longer : ℕ} → step_of base most value byte ≡ Some longer → Stepped base most value byte longer
 unfolding step_of
 stepped base most value byte {longer} e =
     let sum : ℕ = value * base + digit_of byte in
-    let p = passed (ltb (digit_of byte) base && leb sum most) (Value sum) e in
+    let p = passed (ltb (digit_of byte) base && leb sum most) (Some sum) e in
     let q = (and-eq-true_iff (ltb (digit_of byte) base) (leb sum most)).0 p.0 in
     let same : longer ≡ sum = cc p.1 in
     record { digit = ltb-true (digit_of byte) base q.0; same = same; bound = omega (arith, leb-true sum most q.1) }
@@ -39,7 +38,7 @@ record Followed (base most value : ℕ) (digits : List ℕ) (read : ℕ) : Type 
   bound : read ≤ most
   grows : value * base ^ length digits ≤ read
 
-followed : (base most value : ℕ) (digits : List ℕ) (read : ℕ) → value ≤ most → follow_of base most value digits ≡ Value read
+followed : (base most value : ℕ) (digits : List ℕ) (read : ℕ) → value ≤ most → follow_of base most value digits ≡ Some read
     → Followed base most value digits read
 unfolding follow_of
 followed base most value [] read h e =
@@ -48,11 +47,11 @@ followed base most value [] read h e =
     record { bound = omega arith; grows = omega arith }
 followed base most value (byte ∷ digits) read h e = go (step_of base most value byte) refl (λ longer. followed base most longer digits read) e
   where
-    go : (n : Number) → step_of base most value byte ≡ n
-        → ((longer : ℕ) → longer ≤ most → follow_of base most longer digits ≡ Value read → Followed base most longer digits read)
-        → and_then n (λ longer. follow_of base most longer digits) ≡ Value read → Followed base most value (byte ∷ digits) read
-    go Bad q f p = clash (cc)
-    go (Value longer) q f p =
+    go : (n : Option ℕ) → step_of base most value byte ≡ n
+        → ((longer : ℕ) → longer ≤ most → follow_of base most longer digits ≡ Some read → Followed base most longer digits read)
+        → and_then n (λ longer. follow_of base most longer digits) ≡ Some read → Followed base most value (byte ∷ digits) read
+    go None q f p = clash (cc)
+    go (Some longer) q f p =
         let k = stepped base most value byte q in
         let rest = f longer k.bound p in
         let zeros : ℕ = base ^ length digits in
@@ -61,11 +60,11 @@ followed base most value (byte ∷ digits) read h e = go (step_of base most valu
         let l : value * base * zeros ≤ longer * zeros = mul-le-mul_right zeros (omega (arith, k.same)) in
         record { bound = rest.bound; grows = omega (arith, rest.grows) }
 
-pub follow_most : (base most : ℕ) (digits : List ℕ) {read : ℕ} → follow_of base most 0 digits ≡ Value read → read ≤ most
+pub follow_most : (base most : ℕ) (digits : List ℕ) {read : ℕ} → follow_of base most 0 digits ≡ Some read → read ≤ most
 follow_most base most digits e = (followed base most 0 digits _ (omega arith) e).bound
 
-module _ (most : ℕ) (word : List ℕ) {read : ℕ} (e : parse_of most word ≡ Value read) where
-  plain_read : (plain_of word ≡ true) × (follow_of 10 most 0 word ≡ Value read)
+module _ (most : ℕ) (word : List ℕ) {read : ℕ} (e : parse_of most word ≡ Some read) where
+  plain_read : (plain_of word ≡ true) × (follow_of 10 most 0 word ≡ Some read)
   unfolding parse_of
   plain_read = passed (plain_of word) (follow_of 10 most 0 word) e
 
@@ -84,13 +83,13 @@ digit_more byte h = go (within 48 57 byte) (within 97 102 byte) (λ q. leb-true 
     go false false f = omega arith
 
 -- and its word has no more digits than the bound
-pub parse_short : (most j : ℕ) (word : List ℕ) {read : ℕ} → 0 < j → most < 10 ^ j → parse_of most word ≡ Value read → length word ≤ j
+pub parse_short : (most j : ℕ) (word : List ℕ) {read : ℕ} → 0 < j → most < 10 ^ j → parse_of most word ≡ Some read → length word ≤ j
 unfolding plain_of by_size follow_of
 parse_short most j [] o h e = omega arith
 parse_short most j (a ∷ []) o h e = omega arith
 parse_short most j (a ∷ (b ∷ word)) {read} o h e = go (step_of 10 most 0 a) refl k.1
   where
-    k : (not (eqb a 48) ≡ true) × (follow_of 10 most 0 (a ∷ (b ∷ word)) ≡ Value read)
+    k : (not (eqb a 48) ≡ true) × (follow_of 10 most 0 (a ∷ (b ∷ word)) ≡ Some read)
     k = plain_read most (a ∷ (b ∷ word)) e
 
     digits : List ℕ
@@ -102,9 +101,9 @@ parse_short most j (a ∷ (b ∷ word)) {read} o h e = go (step_of 10 most 0 a) 
         let m : 10 ^ j ≤ 10 ^ length digits = pow-le-pow_right {n = 10} (omega arith) {i = j} {j = length digits} g in
         omega (arith, f.bound, f.grows)
 
-    go : (n : Number) → step_of 10 most 0 a ≡ n → and_then n (λ longer. follow_of 10 most longer digits) ≡ Value read → suc (length digits) ≤ j
-    go Bad q p = clash (cc)
-    go (Value first) q p =
+    go : (n : Option ℕ) → step_of 10 most 0 a ≡ n → and_then n (λ longer. follow_of 10 most longer digits) ≡ Some read → suc (length digits) ≤ j
+    go None q p = clash (cc)
+    go (Some first) q p =
         let s = stepped 10 most 0 a q in
         let more : 0 < first = omega (arith, s.same, digit_more a (eqb-false a 48 (not-true (eqb a 48) k.0))) in
         let rest = followed 10 most first digits read s.bound p in

@@ -1,4 +1,5 @@
 -- Byte strings, read and written pair by pair. Assumes nothing.
+use Rattle.std.specs.Prelude.{Option, Some, None}
 use mathlib.Core.Bool.{Bool, true, false, cond}
 use mathlib.Core.Path.{◌≡◌, refl, sym, ap, ◌∙◌}
 use mathlib.Core.List.{List, [], ◌∷◌, ◌++◌, append_assoc, append-nil}
@@ -9,12 +10,9 @@ use native.Mathlib.Omega.{arith}
 use borrow.Author.Tests.{le-leb, lt-leb, leb-true, eqb-true}
 use lib.Dec.{leb}
 use lib.ListN.{length, get_or, take, drop, set, length-drop, length-set}
-use lib.Seq.{get_or-drop, drop-drop, paste, paste-zero, paste-suc, take-suc, take_all, take_at, take-length, length-take-le}
+use lib.Seq.{get_or-drop, drop-drop, paste, paste-suc, take-suc, take_at, take-length, length-take-le}
 use Rattle.facts.proofs.Tests.{clash}
 use Rattle.io.specs.Digits.{last_digits, IsDigitCount}
-use Rattle.text.specs.declared.Number.{Number}
-use Rattle.text.specs.declared.Number.TheVariants.{Bad, Value}
-use Rattle.text.specs.declared.Hexed.TheVariants as hexed
 use Rattle.text.specs.Numbers.{by_size}
 use Rattle.text.specs.Laying.{laid, Lays}
 use Rattle.text.specs.Strings.{byte_of, before, pair_at, pairs_of, readable_of, hexed_of, unhexed, pairs_text, bytes_text}
@@ -26,7 +24,7 @@ use Rattle.text.proofs.Writing.{laid_in, lays_none, lays_as, lays_empty, lays_on
 -- ---- reading
 
 -- the code's part of two digits
-pub pair_is : (word : List ℕ) (i : ℕ) (r : Number) → r ≡ byte_of (take (i * 2 + 2 - i * 2) (drop (i * 2) word)) → r ≡ pair_at word i
+pub pair_is : (word : List ℕ) (i : ℕ) (r : Option ℕ) → r ≡ byte_of (take (i * 2 + 2 - i * 2) (drop (i * 2) word)) → r ≡ pair_at word i
 unfolding pair_at
 pair_is word i r e = let two : i * 2 + 2 - i * 2 ≡ 2 = omega arith in rw two at e
 
@@ -60,11 +58,11 @@ module _ {word : List ℕ} {i : ℕ} (k : Paired word i) where
         ∙ ap (λ (l : List ℕ). get_or word (i * 2) 0 ∷ l) (next word (i * 2 + 1) (omega arith))
         ∙ ap (λ (n : ℕ). get_or word (i * 2) 0 ∷ (get_or word (i * 2 + 1) 0 ∷ drop n word)) e
 
-    pub paired_bad : pair_at word i ≡ Bad → length (pairs_of word) ≡ i
+    pub paired_bad : pair_at word i ≡ None → length (pairs_of word) ≡ i
     unfolding pairs_of pair_at
     paired_bad e = stops (rw two (rw (rw two at e)))
 
-    module _ {byte : ℕ} (e : pair_at word i ≡ Value byte) where
+    module _ {byte : ℕ} (e : pair_at word i ≡ Some byte) where
       found : drop i (pairs_of word) ≡ byte ∷ pairs_of (drop ((i + 1) * 2) word)
       unfolding pairs_of pair_at
       found = k.rest ∙ rw two (rw (rw two at e))
@@ -92,11 +90,8 @@ pub record Unpairs (word out : List ℕ) (i : ℕ) (out' : List ℕ) : Type 0 wh
   pub bytes : out' ≡ paste out 0 (pairs_of word) i
   pub size : length out' ≡ length out
 
-pub unpair_none : (word out : List ℕ) → Unpairs word out 0 out
-unpair_none word out = record { paired = paired_none word; bytes = paste-zero out 0 (pairs_of word); size = refl }
-
 module _ {word out : List ℕ} {i : ℕ} {out' : List ℕ} (k : Unpairs word out i out') where
-  pub unpair_on : {byte : ℕ} → i < length word / 2 → length word / 2 ≤ length out → pair_at word i ≡ Value byte
+  pub unpair_on : {byte : ℕ} → i < length word / 2 → length word / 2 ≤ length out → pair_at word i ≡ Some byte
       → Unpairs word out (i + 1) (set out' i byte)
   unpair_on {byte} h room e = record {
     paired = paired_on k.paired h e;
@@ -122,9 +117,9 @@ pairs_most [] = omega arith
 pairs_most (a ∷ []) = omega arith
 pairs_most (a ∷ (b ∷ word)) = go (byte_of (a ∷ (b ∷ []))) (pairs_most word)
   where
-    go : (n : Number) → length (pairs_of word) * 2 ≤ length word → length (before n (pairs_of word)) * 2 ≤ length (a ∷ (b ∷ word))
-    go Bad h = omega arith
-    go (Value byte) h = omega arith
+    go : (n : Option ℕ) → length (pairs_of word) * 2 ≤ length word → length (before n (pairs_of word)) * 2 ≤ length (a ∷ (b ∷ word))
+    go None h = omega arith
+    go (Some byte) h = omega arith
 
 -- a word that stands for a byte string stands for one of half its length
 readable_count : (word : List ℕ) → readable_of word ≡ true → length (pairs_of word) ≡ length word / 2
@@ -136,39 +131,39 @@ readable_count (a ∷ (b ∷ word)) e =
     omega (arith, eqb-true (length (pairs_of all) * 2) (length all) e)
 
 module _ (word out : List ℕ) where
-  pub unhex_bad : readable_of word ≡ false → (hexed.Bad ≡ hexed_of (length out) word) × (out ≡ unhexed out word)
+  pub unhex_bad : readable_of word ≡ false → (None ≡ hexed_of (length out) word) × (out ≡ unhexed out word)
   unfolding hexed_of unhexed
   unhex_bad e = (rw e, rw e)
 
   pub unhex_long : readable_of word ≡ true → length out < length word / 2
-      → (hexed.Bad ≡ hexed_of (length out) word) × (out ≡ unhexed out word)
+      → (None ≡ hexed_of (length out) word) × (out ≡ unhexed out word)
   unfolding hexed_of unhexed
   unhex_long e h =
       let none : Lays out 0 (pairs_of word) 0 out = lays_none out 0 (pairs_of word) (omega (arith, readable_count word e)) in
       (rw (e, lt-leb (length word / 2) (length out) h), rw e none.bytes)
 
   pub unhex_good : (out' : List ℕ) → readable_of word ≡ true → length word / 2 ≤ length out → out' ≡ laid out 0 (pairs_of word)
-      → (hexed.Long (length word / 2) ≡ hexed_of (length out) word) × (out' ≡ unhexed out word)
+      → (Some (length word / 2) ≡ hexed_of (length out) word) × (out' ≡ unhexed out word)
   unfolding hexed_of unhexed
   unhex_good out' e h k = (rw (e, le-leb (length word / 2) (length out) h), rw e k)
 
 -- what a caller goes by: the bytes lie within the output
-pub unhex_inside : (size : ℕ) (word : List ℕ) {n : ℕ} → hexed_of size word ≡ hexed.Long n → n ≤ size
+pub unhex_inside : (size : ℕ) (word : List ℕ) {n : ℕ} → hexed_of size word ≡ Some n → n ≤ size
 unfolding hexed_of
 unhex_inside size word {n} e = go (readable_of word) (leb (length word / 2) size) refl e
   where
-    go : (t u : Bool) → leb (length word / 2) size ≡ u → cond t (cond u (hexed.Long (length word / 2)) hexed.Bad) hexed.Bad ≡ hexed.Long n
+    go : (t u : Bool) → leb (length word / 2) size ≡ u → cond t (cond u (Some (length word / 2)) None) None ≡ Some n
         → n ≤ size
     go true true q p = let same : length word / 2 ≡ n = cc in omega (arith, leb-true (length word / 2) size q)
     go true false q p = clash (cc)
     go false u q p = clash (cc)
 
 -- and stand at its start
-pub unhex_bytes : (out word : List ℕ) {n : ℕ} → hexed_of (length out) word ≡ hexed.Long n → take n (unhexed out word) ≡ pairs_of word
+pub unhex_bytes : (out word : List ℕ) {n : ℕ} → hexed_of (length out) word ≡ Some n → take n (unhexed out word) ≡ pairs_of word
 unfolding hexed_of unhexed
 unhex_bytes out word {n} e = go (readable_of word) (leb (length word / 2) (length out)) refl refl e
   where
-    go : (t u : Bool) → readable_of word ≡ t → leb (length word / 2) (length out) ≡ u → cond t (cond u (hexed.Long (length word / 2)) hexed.Bad) hexed.Bad ≡ hexed.Long n
+    go : (t u : Bool) → readable_of word ≡ t → leb (length word / 2) (length out) ≡ u → cond t (cond u (Some (length word / 2)) None) None ≡ Some n
         → take n (cond t (laid out 0 (pairs_of word)) out) ≡ pairs_of word
     go true true r q p =
         let same : n ≡ length (pairs_of word) = (cc) ∙ sym (readable_count word r) in
@@ -219,9 +214,6 @@ module _ {out : List ℕ} {at : ℕ} {bytes : List ℕ} {i r : ℕ} {out' : List
       let e : length (pairs_text (take i bytes)) ≡ i * 2 = pairs_length (take i bytes) ∙ ap (λ (n : ℕ). n * 2) count in
       let fits : at + length (pairs_text (take i bytes)) + 2 ≤ length out = omega arith in
       record { within = omega arith; laid = lays_as (pairs_last bytes i h) (lays_on k.laid k' fits) }
-
-  pub pairs_end : length bytes ≤ i → Lays out at (pairs_text bytes) r out'
-  pairs_end h = lays_as (ap pairs_text (take_all i bytes h)) k.laid
 
 -- ---- the empty byte string and the others
 

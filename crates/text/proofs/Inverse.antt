@@ -1,4 +1,5 @@
 -- What is written is read back: one law over the base and the number of digits. Assumes nothing.
+use Rattle.std.specs.Prelude.{Option, Some, None}
 use mathlib.Core.Bool.{Bool, true, false, cond}
 use mathlib.Core.Path.{◌≡◌, refl, sym, ap, ◌∙◌}
 use mathlib.Core.List.{List, [], ◌∷◌, ◌++◌}
@@ -11,9 +12,6 @@ use lib.IntN.{ℤ, pos, negsuc, nat_abs}
 use lib.ListN.{length, get_or, drop, get_or-append}
 use Rattle.facts.proofs.Tests.{clash}
 use Rattle.io.specs.Digits.{last_digits, hex_digit_ascii, IsDigitCount}
-use Rattle.text.specs.declared.Number.{Number}
-use Rattle.text.specs.declared.Number.TheVariants.{Bad, Value}
-use Rattle.text.specs.declared.Hexed.TheVariants as hexed
 use Rattle.text.specs.Laying.{laid, decimal_text, signed_text}
 use Rattle.text.specs.Numbers.{digit_of, step_of, and_then, follow_of, plain_of, parse_of}
 use Rattle.text.specs.Strings.{before, pairs_of, readable_of, hexed_of, unhexed, pairs_text, bytes_text}
@@ -33,32 +31,32 @@ digit_glyph d h = elim (dec_le 10 d) [ yes g ↦ letter g | no g ↦ decimal (om
     letter : 10 ≤ d → d ≡ digit_of (hex_digit_ascii d)
     letter g = let e : d ≡ 87 + d - 97 + 10 = omega arith in rw (le-ltb d 10 g) (e ∙ digit_letter (87 + d) (omega arith) (omega arith))
 
-follow_last : (base most value : ℕ) (x : List ℕ) (byte read : ℕ) → follow_of base most value x ≡ Value read
+follow_last : (base most value : ℕ) (x : List ℕ) (byte read : ℕ) → follow_of base most value x ≡ Some read
     → follow_of base most value (x ++ (byte ∷ [])) ≡ step_of base most read byte
 unfolding follow_of
 follow_last base most value [] byte read e = let same : value ≡ read = cc in rw same (end (step_of base most read byte))
   where
-    end : (n : Number) → and_then n (λ longer. Value longer) ≡ n
-    end Bad = refl
-    end (Value longer) = refl
+    end : (n : Option ℕ) → and_then n (λ longer. Some longer) ≡ n
+    end None = refl
+    end (Some longer) = refl
 follow_last base most value (a ∷ x) byte read e = go (step_of base most value a) (λ longer. follow_last base most longer x byte read) e
   where
-    go : (n : Number)
-        → ((longer : ℕ) → follow_of base most longer x ≡ Value read → follow_of base most longer (x ++ (byte ∷ [])) ≡ step_of base most read byte)
-        → and_then n (λ longer. follow_of base most longer x) ≡ Value read
+    go : (n : Option ℕ)
+        → ((longer : ℕ) → follow_of base most longer x ≡ Some read → follow_of base most longer (x ++ (byte ∷ [])) ≡ step_of base most read byte)
+        → and_then n (λ longer. follow_of base most longer x) ≡ Some read
         → and_then n (λ longer. follow_of base most longer (x ++ (byte ∷ []))) ≡ step_of base most read byte
-    go Bad f p = clash (cc)
-    go (Value longer) f p = f longer p
+    go None f p = clash (cc)
+    go (Some longer) f p = f longer p
 
 -- k digits in a base up to 16 behind a number
 pub follow_digits : (base most k n value : ℕ) → 0 < base → base ≤ 16 → n < base ^ k → value * base ^ k + n ≤ most
-    → follow_of base most value (last_digits base k n) ≡ Value (value * base ^ k + n)
+    → follow_of base most value (last_digits base k n) ≡ Some (value * base ^ k + n)
 unfolding follow_of
 follow_digits base most zero n value o h l m =
     let one : base ^ 0 ≡ 1 = pow-zero base in
     let z : value * base ^ 0 ≡ value * 1 = ap (λ (x : ℕ). value * x) one in
     let e : value ≡ value * base ^ 0 + n = omega arith in
-    ap Value e
+    ap Some e
 follow_digits base most (suc k) n value o h l m =
     let p : base ^ suc k ≡ base ^ k * base = pow-suc base k in
     let d : n / base * base + n % base ≡ n = div-add-mod' n base in
@@ -73,12 +71,12 @@ follow_digits base most (suc k) n value o h l m =
     let read = follow_digits base most k (n / base) value o h small (omega arith) in
     follow_last base most value (last_digits base k (n / base)) (hex_digit_ascii (n % base)) front read
     ∙ sym (step_on base most front (hex_digit_ascii (n % base)) (n % base) (digit_glyph (n % base) (omega arith)) r room)
-    ∙ ap Value (sym whole)
+    ∙ ap Some (sym whole)
 
 -- digits alone
-digits_back : (base most k n : ℕ) → 0 < base → base ≤ 16 → n < base ^ k → n ≤ most → follow_of base most 0 (last_digits base k n) ≡ Value n
+digits_back : (base most k n : ℕ) → 0 < base → base ≤ 16 → n < base ^ k → n ≤ most → follow_of base most 0 (last_digits base k n) ≡ Some n
 digits_back base most k n o h l m =
-    let e : 0 * base ^ k + n ≡ n = omega arith in follow_digits base most k n 0 o h l (omega arith) ∙ ap Value e
+    let e : 0 * base ^ k + n ≡ n = omega arith in follow_digits base most k n 0 o h l (omega arith) ∙ ap Some e
 
 -- ---- numbers in decimal
 
@@ -106,7 +104,7 @@ plain_digits (suc (suc j)) n f =
     ∙ rw (ne_eqb (get_or (last_digits 10 (suc (suc j)) n) 0 0) 48 (lead (suc j) n low f.1))
 
 -- what `put_number` lays is parsed as the number
-pub decimal_back : (most n : ℕ) → n ≤ most → n < 10 ^ 20 → parse_of most (decimal_text n) ≡ Value n
+pub decimal_back : (most n : ℕ) → n ≤ most → n < 10 ^ 20 → parse_of most (decimal_text n) ≡ Some n
 unfolding parse_of
 decimal_back most n m h =
     let w = decimal_written n h in
@@ -125,7 +123,7 @@ pairs_back [] h = refl
 pairs_back (byte ∷ bytes) h =
     let small : byte < 256 = h 0 (omega arith) in
     let first = digits_back 16 255 2 byte (omega arith) (omega arith) small (omega arith) in
-    ap (λ (n : Number). before n (pairs_of (pairs_text bytes))) first
+    ap (λ (n : Option ℕ). before n (pairs_of (pairs_text bytes))) first
     ∙ ap (λ (l : List ℕ). byte ∷ l) (pairs_back bytes (λ i g. h (suc i) (omega arith)))
 
 readable_back : (bytes : List ℕ) → Bytes bytes
@@ -140,31 +138,31 @@ readable_back (byte ∷ bytes) h =
 
 -- what `put_bytes` lays is read as the byte string, where it has room
 pub bytes_back : (bytes out : List ℕ) → Bytes bytes → length bytes ≤ length out
-    → (hexed_of (length out) (bytes_text bytes) ≡ hexed.Long (length bytes)) × (unhexed out (bytes_text bytes) ≡ bytes ++ drop (length bytes) out)
+    → (hexed_of (length out) (bytes_text bytes) ≡ Some (length bytes)) × (unhexed out (bytes_text bytes) ≡ bytes ++ drop (length bytes) out)
 bytes_back bytes out h room =
     let k = readable_back bytes h in
     let good = unhex_good (bytes_text bytes) out (laid out 0 bytes) k.0 (omega (arith, k.2)) (ap (laid out 0) (sym k.1)) in
     let e : 0 + length bytes ≡ length bytes = omega arith in
     let front = laid_in out 0 bytes (omega arith) ∙ ap (λ (n : ℕ). bytes ++ drop n out) e in
-    (sym good.0 ∙ ap hexed.Long k.2, sym good.1 ∙ front)
+    (sym good.0 ∙ ap Some k.2, sym good.1 ∙ front)
 
 -- ---- whole numbers
 
 same_number : (m n : ℕ) → m < 10 ^ 20 → n < 10 ^ 20 → decimal_text m ≡ decimal_text n → m ≡ n
 same_number m n h g e =
-    let p : parse_of (10 ^ 20) (decimal_text m) ≡ Value m = decimal_back (10 ^ 20) m (omega arith) h in
-    let q : parse_of (10 ^ 20) (decimal_text n) ≡ Value n = decimal_back (10 ^ 20) n (omega arith) g in
+    let p : parse_of (10 ^ 20) (decimal_text m) ≡ Some m = decimal_back (10 ^ 20) m (omega arith) h in
+    let q : parse_of (10 ^ 20) (decimal_text n) ≡ Some n = decimal_back (10 ^ 20) n (omega arith) g in
     cc
 
 -- a text that starts with `-` is no number in decimal
 no_sign : (n : ℕ) (text : List ℕ) → n < 10 ^ 20 → decimal_text n ≡ 45 ∷ text → ⊥
 unfolding parse_of follow_of step_of digit_of
 no_sign n text h e =
-    let p : parse_of (10 ^ 20) (decimal_text n) ≡ Value n = decimal_back (10 ^ 20) n (omega arith) h in
-    let q : parse_of (10 ^ 20) (45 ∷ text) ≡ Bad = either (plain_of (45 ∷ text)) in
+    let p : parse_of (10 ^ 20) (decimal_text n) ≡ Some n = decimal_back (10 ^ 20) n (omega arith) h in
+    let q : parse_of (10 ^ 20) (45 ∷ text) ≡ None = either (plain_of (45 ∷ text)) in
     clash (cc)
   where
-    either : (b : Bool) → cond b Bad Bad ≡ Bad
+    either : (b : Bool) → cond {A = Option ℕ} b None None ≡ None
     either true = refl
     either false = refl
 

@@ -1,4 +1,5 @@
 -- Digits read one by one. Assumes nothing.
+use Rattle.std.specs.Prelude.{Some, None}
 use mathlib.Core.Bool.{true, false, and-false}
 use mathlib.Core.Path.{◌≡◌, refl}
 use mathlib.Core.List.{List, [], ◌∷◌}
@@ -10,7 +11,6 @@ use native.Mathlib.Omega.{arith}
 use borrow.Author.Tests.{lt-ltb, le-ltb, le-leb, lt-leb}
 use lib.ListN.{length, get_or, drop, drop_of_length-le}
 use lib.Seq.{drop-cons}
-use Rattle.text.specs.declared.Number.TheVariants.{Bad, Value}
 use Rattle.text.specs.Numbers.{within, digit_of, step_of, follow_of, by_size}
 
 -- ---- a digit
@@ -37,16 +37,16 @@ digit_none byte h g = rw (within_no 48 57 byte h, within_no 97 102 byte g)
 -- ---- one digit more
 
 module _ (base most value byte : ℕ) where
-  pub step_none : base ≤ digit_of byte → Bad ≡ step_of base most value byte
+  pub step_none : base ≤ digit_of byte → None ≡ step_of base most value byte
   unfolding step_of
   step_none h = rw (le-ltb (digit_of byte) base h)
 
-  pub step_over : most < value * base + digit_of byte → Bad ≡ step_of base most value byte
+  pub step_over : most < value * base + digit_of byte → None ≡ step_of base most value byte
   unfolding step_of
   step_over h = rw (lt-leb (value * base + digit_of byte) most h, and-false)
 
   pub step_on : (d : ℕ) → d ≡ digit_of byte → d < base → value * base + d ≤ most
-      → Value (value * base + d) ≡ step_of base most value byte
+      → Some (value * base + d) ≡ step_of base most value byte
   unfolding step_of
   step_on d e h g =
       let h' : digit_of byte < base = rw e at h in
@@ -72,16 +72,16 @@ pub record Follows (base most : ℕ) (digits : List ℕ) (value i : ℕ) : Type 
   pub same : follow_of base most value (drop i digits) ≡ follow_of base most 0 digits
 
 module _ {base most : ℕ} {digits : List ℕ} {value i : ℕ} (k : Follows base most digits value i) where
-  pub follow_on : {longer : ℕ} → i < length digits → step_of base most value (get_or digits i 0) ≡ Value longer
+  pub follow_on : {longer : ℕ} → i < length digits → step_of base most value (get_or digits i 0) ≡ Some longer
       → Follows base most digits longer (i + 1)
   unfolding follow_of
   follow_on h e = record { within = omega arith; same = rw (next digits i h, e) at k.same }
 
-  pub follow_bad : i < length digits → step_of base most value (get_or digits i 0) ≡ Bad → Bad ≡ follow_of base most 0 digits
+  pub follow_bad : i < length digits → step_of base most value (get_or digits i 0) ≡ None → None ≡ follow_of base most 0 digits
   unfolding follow_of
   follow_bad h e = rw (next digits i h, e) at k.same
 
-  pub follow_end : length digits ≤ i → Value value ≡ follow_of base most 0 digits
+  pub follow_end : length digits ≤ i → Some value ≡ follow_of base most 0 digits
   unfolding follow_of
   follow_end h = rw (drop_of_length-le digits {i = i} h) at k.same
 

@@ -1,11 +1,8 @@
 -- Words and what they stand for, in literal bytes, each computed. Assumes nothing.
+use Rattle.std.specs.Prelude.{Option, Some, None}
 use mathlib.Core.List.{List, [], ◌∷◌}
 use mathlib.Core.Path.{◌≡◌, refl}
 use Prim.Native.Nat.{ℕ}
-use Rattle.text.specs.declared.Number.{Number}
-use Rattle.text.specs.declared.Number.TheVariants as number
-use Rattle.text.specs.declared.Hexed.{Hexed}
-use Rattle.text.specs.declared.Hexed.TheVariants as hexed
 use Rattle.text.specs.Laying.{laid}
 use Rattle.text.specs.Numbers.{digit_of, step_of, follow_of, by_size, plain_of, parse_of}
 use Rattle.text.specs.Strings.{pairs_of, readable_of, hexed_of, unhexed}
@@ -16,17 +13,17 @@ Stands f [] = Unit {0}
 Stands f (row ∷ rows) = (f row.0 ≡ row.1) × Stands f rows
 
 -- decimal numbers up to 300
-abbrev pub numbers : List (List ℕ × Number)
+abbrev pub numbers : List (List ℕ × Option ℕ)
 numbers =
     -- no digit, a needless zero, the bound and one above it, and what is no decimal digit
-    ([], number.Bad)
-    ∷ (48 ∷ [], number.Value 0)
-    ∷ (48 ∷ 48 ∷ [], number.Bad)
-    ∷ (48 ∷ 55 ∷ [], number.Bad)
-    ∷ (51 ∷ 48 ∷ 48 ∷ [], number.Value 300)
-    ∷ (51 ∷ 48 ∷ 49 ∷ [], number.Bad)
-    ∷ (43 ∷ 49 ∷ [], number.Bad)
-    ∷ (49 ∷ 97 ∷ [], number.Bad)
+    ([], None)
+    ∷ (48 ∷ [], Some 0)
+    ∷ (48 ∷ 48 ∷ [], None)
+    ∷ (48 ∷ 55 ∷ [], None)
+    ∷ (51 ∷ 48 ∷ 48 ∷ [], Some 300)
+    ∷ (51 ∷ 48 ∷ 49 ∷ [], None)
+    ∷ (43 ∷ 49 ∷ [], None)
+    ∷ (49 ∷ 97 ∷ [], None)
     ∷ []
 
 pub numbers_stand : Stands (parse_of 300) numbers
@@ -34,21 +31,21 @@ unfolding digit_of step_of follow_of by_size plain_of parse_of
 numbers_stand = (refl, (refl, (refl, (refl, (refl, (refl, (refl, (refl, tt))))))))
 
 -- byte strings for an output of four bytes
-abbrev pub strings : List (List ℕ × Hexed)
+abbrev pub strings : List (List ℕ × Option ℕ)
 strings =
     -- no word; `-`, the empty string; one digit
-    ([], hexed.Bad)
-    ∷ (45 ∷ [], hexed.Long 0)
-    ∷ (55 ∷ [], hexed.Bad)
+    ([], None)
+    ∷ (45 ∷ [], Some 0)
+    ∷ (55 ∷ [], None)
     -- pairs, up to what has room; an odd number of digits; a capital letter; a letter past `f`; `-` beside digits
-    ∷ (48 ∷ 97 ∷ [], hexed.Long 1)
-    ∷ (48 ∷ 97 ∷ 102 ∷ 102 ∷ 55 ∷ 48 ∷ 48 ∷ 51 ∷ [], hexed.Long 4)
-    ∷ (48 ∷ 97 ∷ 102 ∷ 102 ∷ 55 ∷ 48 ∷ 48 ∷ 51 ∷ 49 ∷ 49 ∷ [], hexed.Bad)
-    ∷ (48 ∷ 97 ∷ 102 ∷ [], hexed.Bad)
-    ∷ (48 ∷ 65 ∷ [], hexed.Bad)
-    ∷ (48 ∷ 103 ∷ [], hexed.Bad)
-    ∷ (48 ∷ 97 ∷ 45 ∷ [], hexed.Bad)
-    ∷ (48 ∷ 97 ∷ 45 ∷ 45 ∷ [], hexed.Bad)
+    ∷ (48 ∷ 97 ∷ [], Some 1)
+    ∷ (48 ∷ 97 ∷ 102 ∷ 102 ∷ 55 ∷ 48 ∷ 48 ∷ 51 ∷ [], Some 4)
+    ∷ (48 ∷ 97 ∷ 102 ∷ 102 ∷ 55 ∷ 48 ∷ 48 ∷ 51 ∷ 49 ∷ 49 ∷ [], None)
+    ∷ (48 ∷ 97 ∷ 102 ∷ [], None)
+    ∷ (48 ∷ 65 ∷ [], None)
+    ∷ (48 ∷ 103 ∷ [], None)
+    ∷ (48 ∷ 97 ∷ 45 ∷ [], None)
+    ∷ (48 ∷ 97 ∷ 45 ∷ 45 ∷ [], None)
     ∷ []
 
 pub strings_stand : Stands (hexed_of 4) strings

@@ -1,15 +1,15 @@
 -- Whole numbers of 64 bits, by their sign. Assumes nothing.
-use mathlib.Core.Bool.{Bool, true, false, true≢false, false≢true, cond}
+use mathlib.Core.Bool.{Bool, false, true≢false, cond}
 use mathlib.Core.List.{◌∷◌}
 use mathlib.Core.Path.{◌≡◌, refl, sym, ap, ◌∙◌}
 use Prim.Native.Nat.{ℕ, suc, ◌-◌, ◌^◌, ◌≤◌, ◌<◌}
 use native.Mathlib.Omega.{arith}
-use lib.Dec.{T, leb-zero}
+use lib.Dec.{leb-zero}
 use lib.IntN.{ℤ, pos, negsuc, nat_abs}
 use lib.ListN.{length}
 use lib.Signed.{le_z, non_neg}
 use mir.Syntax.{w64}
-use mir.Val.{Fits, SFits, of_z, to_z}
+use mir.Val.{SFits, of_z, to_z}
 use mir.ValLaws.{to_z-of_z, to_z_pos}
 use Rattle.text.specs.Laying.{decimal_text, signed_text}
 use Rattle.text.proofs.Decimals.{decimal_most}
@@ -18,12 +18,6 @@ use Rattle.text.proofs.Decimals.{decimal_most}
 pub sign_is : (z : ℤ) → SFits w64 z → le_z (pos 0) (to_z w64 (of_z w64 z)) ≡ non_neg z
 sign_is (pos n) f = rw (to_z-of_z w64 (pos n) f) (leb-zero n)
 sign_is (negsuc n) f = rw (to_z-of_z w64 (negsuc n) f)
-
--- a number that isn't negative is cast as it is
-pub positive : (z : ℤ) → SFits w64 z → non_neg z ≡ true
-    → T (non_neg (to_z w64 (of_z w64 z))) × Fits w64 (nat_abs (to_z w64 (of_z w64 z)))
-positive (pos n) f h = rw (to_z_pos w64 n f.sfits) (tt, record { fits = omega (arith, f.sfits) })
-positive (negsuc n) f h = absurd (false≢true h)
 
 -- `!value` of a negative one is one less than its size
 pub record Negative (z : ℤ) : Type 0 where

@@ -1,6 +1,6 @@
 -- A line is cut where its first space stands. Assumes nothing.
-use mathlib.Core.Path.{◌≡◌, refl, sym, ap, ◌∙◌}
-use mathlib.Core.List.{List, [], ◌∷◌}
+use mathlib.Core.Path.{◌≡◌, sym, ap, ◌∙◌}
+use mathlib.Core.List.{List}
 use Prim.Native.Nat.{ℕ, ◌+◌, ◌-◌}
 use native.Mathlib.Omega.{arith}
 use lib.ListN.{length, take, drop, length-append, take-append-drop}
@@ -8,10 +8,6 @@ use lib.Seq.{take-length}
 use Rattle.facts.proofs.Lists.{rest_part}
 use Rattle.octets.specs.Bytes.{index_of, slice}
 use Rattle.text.specs.Words.{head_of, tail_of}
-
-pub none_is : (s : List ℕ) → length s ≡ 0 → ◌≡◌ {A = List ℕ} [] (drop 1 s)
-none_is [] h = refl
-none_is (a ∷ s) h = absurd (omega arith)
 
 -- where `octets::find` finds a space in the whole line
 module _ (line : List ℕ) (end : ℕ) (found : end ≡ 0 + index_of 32 (slice 0 (length line) line)) where

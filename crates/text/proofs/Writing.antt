@@ -160,9 +160,6 @@ lays_wrote {out} {text} h k =
 pub wrote_size : {out text : List ℕ} {r : ℕ} {out' : List ℕ} → Wrote out text r out' → length out' ≡ length out
 wrote_size k = ap length k.bytes ∙ simp (length-append, length-drop) (omega (arith, k.room))
 
-pub wrote_inside : {out text : List ℕ} {r : ℕ} {out' : List ℕ} → Wrote out text r out' → r ≤ length out'
-wrote_inside k = omega (arith, k.room, k.count, wrote_size k)
-
 -- any two outcomes that a contract allows coincide
 pub lays_one : {out : List ℕ} {at : ℕ} {text : List ℕ} {r r' : ℕ} {out' out'' : List ℕ} → Lays out at text r out' → Lays out at text r' out'' → (r ≡ r') × (out' ≡ out'')
 lays_one k l = (k.cursor ∙ sym l.cursor, k.bytes ∙ sym l.bytes)

@@ -1,7 +1,5 @@
 -- What digits stand for.
-use Rattle.std.specs.Prelude.{Bool, true, false, not, cond, ◌&&◌, List, [], ◌∷◌, ℕ, ◌+◌, ◌-◌, ◌*◌, ltb, leb, eqb, get_or}
-use Rattle.text.specs.declared.Number.{Number}
-use Rattle.text.specs.declared.Number.TheVariants.{Bad, Value}
+use Rattle.std.specs.Prelude.{Bool, true, false, not, cond, ◌&&◌, List, [], ◌∷◌, ℕ, ◌+◌, ◌-◌, ◌*◌, ltb, leb, eqb, get_or, Option, Some, None}
 
 -- a byte from one to another
 abbrev pub within : ℕ → ℕ → ℕ → Bool
@@ -12,18 +10,18 @@ unfoldable pub digit_of : ℕ → ℕ
 digit_of byte = cond (within 48 57 byte) (byte - 48) (cond (within 97 102 byte) (byte - 97 + 10) 16)
 
 -- a number with one digit more in a base, up to a bound
-unfoldable pub step_of : ℕ → ℕ → ℕ → ℕ → Number
+unfoldable pub step_of : ℕ → ℕ → ℕ → ℕ → Option ℕ
 step_of base most value byte =
-    cond (ltb (digit_of byte) base && leb (value * base + digit_of byte) most) (Value (value * base + digit_of byte)) Bad
+    cond (ltb (digit_of byte) base && leb (value * base + digit_of byte) most) (Some (value * base + digit_of byte)) None
 
 -- a number that was read, handed on
-abbrev pub and_then : Number → (ℕ → Number) → Number
-and_then Bad f = Bad
-and_then (Value value) f = f value
+abbrev pub and_then : Option ℕ → (ℕ → Option ℕ) → Option ℕ
+and_then None f = None
+and_then (Some value) f = f value
 
 -- a number with digits more in a base, up to a bound
-unfoldable pub follow_of : ℕ → ℕ → ℕ → List ℕ → Number
-follow_of base most value [] = Value value
+unfoldable pub follow_of : ℕ → ℕ → ℕ → List ℕ → Option ℕ
+follow_of base most value [] = Some value
 follow_of base most value (byte ∷ digits) = and_then (step_of base most value byte) (λ longer. follow_of base most longer digits)
 
 -- by the size of a word: empty, one byte, more
@@ -37,5 +35,5 @@ unfoldable pub plain_of : List ℕ → Bool
 plain_of word = by_size false (λ a. true) (not (eqb (get_or word 0 0) 48)) word
 
 -- the number up to a bound that a word stands for in decimal
-unfoldable pub parse_of : ℕ → List ℕ → Number
-parse_of most word = cond (plain_of word) (follow_of 10 most 0 word) Bad
+unfoldable pub parse_of : ℕ → List ℕ → Option ℕ
+parse_of most word = cond (plain_of word) (follow_of 10 most 0 word) None

@@ -34,21 +34,11 @@ fn put_negative(out: &mut [u8], at: usize, value: u64) -> usize
     put(out, at, &text[..n])
 }
 
-// A whole number without its sign. `!value` is -(value + 1), which the least number has too.
-fn magnitude(value: i64) -> u64
-    ensures { result ≡ nat_abs value }
-{
-    if value >= 0 {
-        return value as u64;
-    }
-    !value as u64 + 1
-}
-
 // Lays a whole number in decimal.
 pub fn put_signed(out: &mut [u8], at: usize, value: i64) -> usize
     ensures { Lays out.old at (signed_text value) result out.new }
 {
-    let size = magnitude(value);
+    let size = value.unsigned_abs();
     if value >= 0 {
         return put_number(out, at, size);
     }

@@ -10,17 +10,3 @@ pub use laying::{put, put_number, put_signed};
 pub use numbers::parse;
 pub use strings::{put_bytes, unhex};
 pub use words::{beyond, head, tail, word};
-
-// What a word stands for as a number.
-#[derive(Clone, Copy)]
-pub enum Number {
-    Bad,
-    Value(u64),
-}
-
-// What a word stands for as a byte string: n bytes.
-#[derive(Clone, Copy)]
-pub enum Hexed {
-    Bad,
-    Long(usize),
-}

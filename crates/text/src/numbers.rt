@@ -2,8 +2,6 @@
 ghost use Rattle.std.specs.Prelude.{◌≡◌, ◌<◌};
 ghost use Rattle.text.specs.Numbers.{digit_of, step_of, follow_of, plain_of, parse_of};
 
-use crate::Number;
-
 const DECIMAL: u64 = 10;
 
 // The digit that a byte stands for, 0 to 15, or 16.
@@ -18,38 +16,33 @@ fn digit(byte: u8) -> u64
 }
 
 // A number with one digit more, up to a bound.
-fn step(value: u64, byte: u8, base: u64, most: u64) -> Number
+fn step(value: u64, byte: u8, base: u64, most: u64) -> Option<u64>
     requires { 0 < base }
     ensures { result ≡ step_of base most value byte }
 {
     let d = digit(byte);
     if d >= base {
-        return Number::Bad;
+        return None;
     }
     if d > most {
-        return Number::Bad;
+        return None;
     }
     if value > (most - d) / base {
-        return Number::Bad;
+        return None;
     }
-    Number::Value(value * base + d)
+    Some(value * base + d)
 }
 
 // The number that digits stand for, up to a bound.
-pub(crate) fn follow(digits: &[u8], base: u64, most: u64) -> Number
+pub(crate) fn follow(digits: &[u8], base: u64, most: u64) -> Option<u64>
     requires { 0 < base }
     ensures { result ≡ follow_of base most 0 digits.now }
 {
     let mut value: u64 = 0;
-    let mut i = 0;
-    while i < digits.len() {
-        let Number::Value(longer) = step(value, digits[i], base, most) else {
-            return Number::Bad;
-        };
-        value = longer;
-        i += 1;
+    for byte in digits {
+        value = step(value, *byte, base, most)?;
     }
-    Number::Value(value)
+    Some(value)
 }
 
 // Whether a word isn't empty and has no needless leading zero.
@@ -66,11 +59,11 @@ fn plain(word: &[u8]) -> bool
 }
 
 // The number up to a bound that a word stands for in decimal.
-pub fn parse(word: &[u8], most: u64) -> Number
+pub fn parse(word: &[u8], most: u64) -> Option<u64>
     ensures { result ≡ parse_of most word.now }
 {
     if plain(word) {
         return follow(word, DECIMAL, most);
     }
-    Number::Bad
+    None
 }

@@ -6,7 +6,6 @@ ghost use Rattle.text.specs.Strings.{pair_at, pairs_of, readable_of, hexed_of, u
 
 use crate::laying::put;
 use crate::numbers::follow;
-use crate::{Hexed, Number};
 
 const HEXADECIMAL: u64 = 16;
 
@@ -16,7 +15,7 @@ const MOST_BYTE: u64 = 255;
 const EMPTY: u8 = b'-';
 
 // The byte that a pair of digits stands for, by the pair's index.
-fn pair(word: &[u8], i: usize) -> Number
+fn pair(word: &[u8], i: usize) -> Option<u64>
     requires { i * 2 + 2 ≤ length word.now }
     ensures { result ≡ pair_at word.now i }
 {
@@ -30,12 +29,10 @@ fn pairs(word: &[u8]) -> usize
     ensures { result ≡ length (pairs_of word.now) }
 {
     let n = word.len() / 2;
-    let mut i = 0;
-    while i < n {
-        let Number::Value(_) = pair(word, i) else {
+    for i in 0..n {
+        let Some(_) = pair(word, i) else {
             return i;
         };
-        i += 1;
     }
     n
 }
@@ -46,13 +43,11 @@ fn unpair(word: &[u8], out: &mut [u8])
     ensures { out.new ≡ laid out.old 0 (pairs_of word.now) }
 {
     let n = word.len() / 2;
-    let mut i = 0;
-    while i < n {
-        let Number::Value(byte) = pair(word, i) else {
+    for i in 0..n {
+        let Some(byte) = pair(word, i) else {
             return;
         };
         out[i] = byte as u8;
-        i += 1;
     }
 }
 
@@ -70,19 +65,19 @@ fn readable(word: &[u8]) -> bool
 }
 
 // The byte string that a word stands for, laid at the start of an output. A refused word leaves the output as it was.
-pub fn unhex(word: &[u8], out: &mut [u8]) -> Hexed
+pub fn unhex(word: &[u8], out: &mut [u8]) -> Option<usize>
     ensures value { result ≡ hexed_of (length out.old) word.now }
     ensures out_after { out.new ≡ unhexed out.old word.now }
 {
     let n = word.len() / 2;
     if !readable(word) {
-        return Hexed::Bad;
+        return None;
     }
     if n > out.len() {
-        return Hexed::Bad;
+        return None;
     }
     unpair(word, out);
-    Hexed::Long(n)
+    Some(n)
 }
 
 // Lays a byte as a pair of digits.
@@ -100,10 +95,8 @@ fn put_pairs(out: &mut [u8], at: usize, bytes: &[u8]) -> usize
     ensures { Lays out.old at (pairs_text bytes.now) result out.new }
 {
     let mut end = at;
-    let mut i = 0;
-    while i < bytes.len() {
-        end = put_byte(out, end, bytes[i]);
-        i += 1;
+    for byte in bytes {
+        end = put_byte(out, end, *byte);
     }
     end
 }

@@ -33,17 +33,15 @@ module _ (ports : Ports) (id : DatalinkId) where
 
   pub record Counting (file counts₀ : List ℕ) (input : Input) (counts : List ℕ) : Type 0 where
     pub walk : Walk counting file counts₀ input counts
-    pub size : length counts ≡ length counts₀
 
   -- no more records are judged than bytes are read
   pub record Judging (file words₀ : List ℕ) (input : Input) (number : ℕ) (words : List ℕ) : Type 0 where
     pub walk : Walk judging file (1, words₀) input (suc number, words)
-    pub size : length words ≡ length words₀
     pub counted : number + bytes_left input ≤ length file
 
 module _ {ports : Ports} {id : DatalinkId} where
   pub counting_start : (file counts : List ℕ) → Counting ports id file counts (held_of (length file)) counts
-  counting_start file counts = record { walk = walk_start (counting ports id) file counts; size = refl }
+  counting_start file counts = record { walk = walk_start (counting ports id) file counts }
 
   module _ {file counts₀ counts : List ℕ} {input : Input} (k : Counting ports id file counts₀ input counts) where
     pub counting_end : record_in file input ≡ Came.End → (0 ≡ refusal_of file) × (counts ≡ count_all (outcomes_of ports id (reports_of file)) counts₀)
@@ -61,15 +59,15 @@ module _ {ports : Ports} {id : DatalinkId} where
       pub counting_less : bytes_left rest < bytes_left input
       counting_less = (walk_record (counting ports id) k.walk e).less
 
-      pub counting_on : {counts' : List ℕ} → counts' ≡ add_all (adds_of (census.outcome_of ports id original (take (to - from) (drop from file)))) counts → length counts' ≡ length counts
+      pub counting_on : {counts' : List ℕ} → counts' ≡ add_all (adds_of (census.outcome_of ports id original (take (to - from) (drop from file)))) counts
           → Counting ports id file counts₀ rest counts'
       unfolding outcomes_of count_all
-      counting_on {counts'} w s =
+      counting_on {counts'} w =
           let frame : slice from to file ≡ take (to - from) (drop from file) = slice_is from to file counting_inside.0 counting_inside.1 in
-          record { walk = (walk_record (counting ports id) k.walk e).walk (λ reports. rw (w, frame) refl); size = s ∙ k.size }
+          record { walk = (walk_record (counting ports id) k.walk e).walk (λ reports. rw (w, frame) refl) }
 
   pub judging_start : (file words : List ℕ) → Judging ports id file words (held_of (length file)) 0 words
-  judging_start file words = record { walk = walk_start (judging ports id) file (1, words); size = refl; counted = omega arith }
+  judging_start file words = record { walk = walk_start (judging ports id) file (1, words); counted = omega arith }
 
   module _ {file words₀ words : List ℕ} {input : Input} {number : ℕ} (k : Judging ports id file words₀ input number words) where
     pub judging_end : record_in file input ≡ Came.End → words ≡ judged_all ports id 1 (reports_of file) words₀
@@ -92,13 +90,12 @@ module _ {ports : Ports} {id : DatalinkId} where
       judging_fits = omega (arith, judging_less, k.counted)
 
       pub judging_on : {number' : ℕ} {words' : List ℕ} → number' ≡ suc number
-          → words' ≡ judged_by number' (conduct.outcome_of ports id original (take (to - from) (drop from file))) words → length words' ≡ length words
+          → words' ≡ judged_by number' (conduct.outcome_of ports id original (take (to - from) (drop from file))) words
           → Judging ports id file words₀ rest number' words'
       unfolding judged_all
-      judging_on {number'} {words'} n w s =
+      judging_on {number'} {words'} n w =
           let frame : slice from to file ≡ take (to - from) (drop from file) = slice_is from to file judging_inside.0 judging_inside.1 in
           record {
             walk = (walk_record (judging ports id) k.walk e).walk (λ reports. rw (w, n, frame) refl);
-            size = s ∙ k.size;
             counted = omega (arith, n, judging_less, k.counted);
           }

@@ -12,11 +12,13 @@ use quantity::count::DatalinkId;
 use records::Came;
 
 // Counts record after record. Gives the number by which the capture is refused, or 0.
+#[tactic(auto, using(crate::proofs::Walks::counting_end, crate::proofs::Walks::counting_refused, crate::proofs::Walks::counting_inside, crate::proofs::Walks::counting_less))]
 fn count(capture: &[u8], counts: &mut [u64], ports: Ports, id: DatalinkId) -> u8
     ensures refusal { result ≡ refusal_of capture.now }
     ensures counts { counts.new ≡ count_all (outcomes_of ports id (reports_of capture.now)) counts.old }
 {
     let mut input = records::held(capture.len());
+    // Not a `for`: the contract holds of a capture of any length, and a `for` would bound the turns.
     loop {
         match records::record_in(capture, input) {
             Came::End => return 0,
@@ -35,11 +37,13 @@ fn count(capture: &[u8], counts: &mut [u64], ports: Ports, id: DatalinkId) -> u8
 }
 
 // Judges record after record, by their numbers from 1.
+#[tactic(auto, using(crate::proofs::Walks::judging_end, crate::proofs::Walks::judging_inside, crate::proofs::Walks::judging_less))]
 fn judge(capture: &[u8], words: &mut [u64], ports: Ports, id: DatalinkId)
     ensures { words.new ≡ judged_all ports id 1 (reports_of capture.now) words.old }
 {
     let mut input = records::held(capture.len());
     let mut number: u64 = 0;
+    // Not a `for`, as above.
     loop {
         match records::record_in(capture, input) {
             Came::End => return,

@@ -1,4 +1,5 @@
 -- What these promises ask of words can be met: a store that was filled to its last byte under the limits before is taken over. Assumes nothing.
+use Rattle.std.specs.Prelude.{Some}
 use Prim.Native.Nat.{ℕ}
 use mathlib.Core.Bool.{true, false}
 use mathlib.Core.List.{List, [], ◌∷◌}
@@ -7,7 +8,6 @@ use native.Mathlib.Omega.{arith}
 use lib.ListN.{length}
 use lib.Seq.{take_all}
 use Rattle.facts.specs.Tables.{tabulate}
-use Rattle.meaning.specs.declared.message.Status.{Status}
 use Rattle.store.specs.Packets.{packet_for}
 use Rattle.store.specs.Waiting.{waiting, total, cut, packets_of, all_within_under, well_formed_under}
 use Rattle.ips_state.specs.State.{channel_at}
@@ -30,7 +30,7 @@ module _ (memory : List ℕ) (long : length memory ≡ 1500) where
 
   -- it stands for a channel of these numbers, and the packet that waits, every byte
   pub filled_stands : let w = world_in (lent filled_words memory) in let c = channel_in w 0 in
-      (c.setting ≡ record { id = 0; controlled = false; size = record { 0 = 1500 } }) × (c.status ≡ Status.Given 1) × (c.sequence ≡ record { 0 = 7 }) × (c.latest ≡ 100)
+      (c.setting ≡ record { id = 0; controlled = false; size = record { 0 = 1500 } }) × (c.status ≡ Some 1) × (c.sequence ≡ record { 0 = 7 }) × (c.latest ≡ 100)
       × (packets_of c.queue (store_in w 0) ≡ packet_for memory 200 ∷ [])
   unfolding packets_of cut waiting store_at start_of channel_at sizes state_in readable head_spelled all_spelled spelled state_of tabulate words.channel_in slot status_of flow_of instance_of context_of queue_in entries_in
   filled_stands = (refl, refl, refl, refl, rw (take_all 1500 memory (omega (arith, long)), take_all 1500 memory (omega (arith, long))))

@@ -17,7 +17,7 @@ use Rattle.store.specs.Waiting.{waiting, cut, packets_of, entry_of}
 use Rattle.store.proofs.Held.{waiting_of}
 use Rattle.ipv6.specs.Ipv6.{is_ipv6}
 use Rattle.ips_channel_rules.specs.Rules as rules
-use Rattle.ips_channel_rules.specs.Rules.{ChannelCall, offer, next, withdraw, Says, Answer, refused, answered, unless_refused, Event, Happened, Terms, Condition, Result, refusal, offer_at}
+use Rattle.ips_channel_rules.specs.Rules.{ChannelCall, offer, next, withdraw, Says, Answer, refused, answered, unless_refused, Event, Happened, Terms, Condition, AfterCall, refusal, offer_at}
 use Rattle.ips_channel_rules.specs.Machine.{machine}
 use Rattle.ips_channel_rules.proofs.Exact.{offer_not_ipv6, offer_long}
 use Rattle.ips_channel_rules.proofs.Limits.{machine_limited}
@@ -81,7 +81,7 @@ module _ (longest : ℕ) where
   held_short c st all = rw (waiting_of st.keeping) (each_map (NoLonger longest) entry_of st.keeping all)
 
   module _ (datalink : DatalinkSetting) (call : ChannelCall) (short : ShortOn longest call) (c : Channel) (store : List ℕ) (all : ShortQueue longest c) where
-    abbrev r : Result machine (Says call)
+    abbrev r : AfterCall machine (Says call)
     r = result_of datalink call c store
 
     kept_short : Each ShortPacket r.condition.keeping

@@ -1,5 +1,7 @@
 -- Document 02's raised limits: "A store filled under the old limit must be taken over unchanged." Words that fitted fit, and any calls with packets of at most
 -- 1,500 bytes answer, and leave words, memory and outputs, as they did. "As they did" is by the rules as they stand now, the limits alone apart. Assumes nothing.
+use Rattle.quantity.specs.declared.refusal.Refusal.{Refusal}
+use Rattle.std.specs.Prelude.{Result, Ok}
 use Prim.Native.Nat.{ℕ, ◌≤◌, ◌<◌}
 use mathlib.Core.Bool.{true, and-eq-true_iff}
 use mathlib.Core.List.{List, [], ◌∷◌}
@@ -13,7 +15,7 @@ use Rattle.quantity.specs.Limits.{FEWEST-CHANNELS, Limits, CURRENT-LIMITS}
 use Rattle.ipv6.specs.FixedHeader.{FixedHeader}
 use Rattle.store.specs.Packets.{Packet, alive}
 use Rattle.store.proofs.Held.{waiting_of}
-use Rattle.ips_channel_rules.specs.Rules.{Taken, taken, refused, answered, longest_on, Condition, Result, offer_at}
+use Rattle.ips_channel_rules.specs.Rules.{Taken, taken, refused, answered, longest_on, Condition, AfterCall, offer_at}
 use Rattle.ips_channel_rules.specs.Machine.{machine}
 use Rattle.ips_channel_rules.proofs.Limits.{machine_limited}
 use Rattle.ips_channel_rules.proofs.CallCases.{offer_fourteen, offer_where_none_waits}
@@ -23,7 +25,6 @@ use Rattle.ips_channel.specs.Channel.{terms_under, terms_of, fresh_channel}
 use Rattle.ips_state.specs.State.{ChannelStart, Configuration, State, channel_at, fresh_of, fresh_state}
 use Rattle.ips_state.specs.Limits.{waits_fit, state_fits_under, state_fits, count_fits_under, configuration_fits_under}
 use Rattle.ips_state.specs.Memory.{world_fits_under, world_fits}
-use Rattle.ips_state.specs.declared.StartAnswer.{StartAnswer}
 use Rattle.ips_state.proofs.Places.{channel_fitting_at, fresh_count}
 use Rattle.ips_run.specs.Run.{Call, fresh_world}
 use Rattle.ips_run.specs.Demand.{BytesIn}
@@ -143,14 +144,14 @@ module _ (configuration words memory : List ℕ) (starts : starts_in_under 16 co
   now_starts : starts_in configuration words memory ≡ true
   now_starts = starts_raised EARLIER-LIMITS CURRENT-LIMITS raised configuration words memory starts
 
-  pub widened_start : {answer : StartAnswer} {words' memory' : List ℕ} → StartedIn configuration words memory answer words' memory' → StartedAsBefore configuration memory answer words' memory'
+  pub widened_start : {answer : Result (Unit {0}) Refusal} {words' memory' : List ℕ} → StartedIn configuration words memory answer words' memory' → StartedAsBefore configuration memory answer words' memory'
   unfolding starts_in_under
   widened_start {answer} {words'} {memory'} h =
       let k = configuration_in configuration in
-      let started : answer ≡ StartAnswer.Started = rw (now_starts, waits) at h.answer_is in
+      let started : answer ≡ Ok tt = rw (now_starts, waits) at h.answer_is in
       let fits = ((and-eq-true_iff (configuration_fits_under 16 k) _).0 starts).0 in
       let now-fits = ((and-eq-true_iff (configuration_fits_under CURRENT-LIMITS.channels k) _).0 now_starts).0 in
-      let begun : StartedIn configuration words memory StartAnswer.Started words' memory' = rw started at h in
+      let begun : StartedIn configuration words memory (Ok tt) words' memory' = rw started at h in
       record {
         answer_is = started;
         words_are = rw (now_starts, waits) at h.words_are;
@@ -162,8 +163,8 @@ module _ (configuration words memory : List ℕ) (starts : starts_in_under 16 co
 module _ (datalink : DatalinkSetting) (setting : Setting) (room : 1501 ≤ setting.size.0) (p : Packet) (header : FixedHeader p.bytes) (long : length p.bytes ≡ 1501)
     (time : ℕ) (st : Condition machine) where
   pub earlier_fourteen : (offer_at machine (terms_under EARLIER-LIMITS.packet datalink setting) p time st).answer ≡ refused 14
-  earlier_fourteen = ap (λ (r : Result machine Taken). r.answer) (offer_fourteen machine machine_limited (terms_under EARLIER-LIMITS.packet datalink setting) p time st header (inl (omega (arith, long))))
+  earlier_fourteen = ap (λ (r : AfterCall machine Taken). r.answer) (offer_fourteen machine machine_limited (terms_under EARLIER-LIMITS.packet datalink setting) p time st header (inl (omega (arith, long))))
 
   pub longer_taken : st.latest ≤ time → time < p.expiry → alive time st.keeping ≡ [] → (offer_at machine (terms_of datalink setting) p time st).answer ≡ answered taken
   longer_taken t x nothing =
-      ap (λ (r : Result machine Taken). r.answer) (offer_where_none_waits machine machine_limited (terms_of datalink setting) p time st header (omega (arith, long)) (omega (arith, long, room)) t x nothing)
+      ap (λ (r : AfterCall machine Taken). r.answer) (offer_where_none_waits machine machine_limited (terms_of datalink setting) p time st header (omega (arith, long)) (omega (arith, long, room)) t x nothing)

@@ -1,6 +1,7 @@
 -- Document 02: "Raise channels to 64 (IDs still 0 to 254) and packets to 9,000 bytes; 32 waiting stays. A store filled under the old limit must be taken over
 -- unchanged." The limits before that, and any calls under any limits: both are instances of the rules as they stand now, the limits alone apart.
-use Rattle.std.specs.Prelude.{ℕ, ◌≤◌, Bool, true, List, [], ◌∷◌, ◌≡◌, length, replicate}
+use Rattle.quantity.specs.declared.refusal.Refusal.{Refusal}
+use Rattle.std.specs.Prelude.{ℕ, ◌≤◌, Bool, true, List, [], ◌∷◌, ◌≡◌, length, replicate, Result, Ok}
 use Rattle.quantity.specs.Limits.{Limits}
 use Rattle.store.specs.declared.queue.Entry.{Entry}
 use Rattle.store.specs.Waiting.{waiting}
@@ -9,7 +10,6 @@ use Rattle.ips_channel.specs.declared.state.Channel.{Channel}
 use Rattle.ips_state.specs.State.{State}
 use Rattle.ips_state.specs.Limits.{state_fits_under, state_fits}
 use Rattle.ips_state.specs.Memory.{World, world_fits_under}
-use Rattle.ips_state.specs.declared.StartAnswer.{StartAnswer}
 use Rattle.ips_run.specs.Run.{Call, on, radio, pace, query}
 use Rattle.ips_calls.specs.Replies.{EndpointReply, reply_under}
 use Rattle.ips_words_start.specs.Start.{configuration_in, fresh_words}
@@ -69,8 +69,8 @@ pub record SameUnder (narrow wide : Limits) (cs : List Call) (l : Lent) : Type 0
   pub lent_left : after_all_under wide cs l ≡ after_all_under narrow cs l
 
 -- ---- a start as it was under the limits before: not refused, the words and the zeros of a fresh start, which fit under those limits
-pub record StartedAsBefore (configuration memory : List ℕ) (answer : StartAnswer) (words' memory' : List ℕ) : Type 0 where
-  pub answer_is : answer ≡ StartAnswer.Started
+pub record StartedAsBefore (configuration memory : List ℕ) (answer : Result (Unit {0}) Refusal) (words' memory' : List ℕ) : Type 0 where
+  pub answer_is : answer ≡ Ok tt
   pub words_are : words' ≡ fresh_words (configuration_in configuration)
   pub memory_is : memory' ≡ replicate (length memory) 0
   pub fits : world_fits_under EARLIER-LIMITS (world_in (lent words' memory')) ≡ true

@@ -1,4 +1,5 @@
 -- The laws of options: a body is exactly the concatenation of its options, and back. No bound on their number shows in any of them. Assumes nothing.
+use Rattle.std.specs.Prelude.{Option, Some, None}
 use Prim.Native.Nat.{ℕ, zero, suc, ◌+◌, ◌-◌, ◌*◌, ◌^◌, ◌≤◌, ◌<◌}
 use mathlib.Core.Path.{◌≡◌, refl, sym, ap, ap₂, ◌∙◌}
 use mathlib.Core.List.{List, [], ◌∷◌, ◌++◌, append_assoc, append-nil}
@@ -8,8 +9,6 @@ use borrow.Author.Tests.{lt-ltb, le-ltb, eq-eqb, ne_eqb, eqb-true, ltb-false}
 use lib.Dec.{ltb, eqb}
 use lib.ListN.{length, get_or, take, drop, set, length-append, length-drop, take-append-drop, drop_of_length-le}
 use lib.Seq.{length-take-le, take-length, drop-length, take_at, drop_at, drop-drop, drop-cons}
-use Rattle.wire.specs.declared.option.Frame.{Frame}
-use Rattle.wire.specs.declared.option.Frame.TheVariants.{Cut, Whole}
 use Rattle.wire.specs.Numbers.{number_from, big_endian, bytes_of, Octets}
 use Rattle.wire.specs.Options.{option_bytes, length_at, frame_of, Options, done, cut, option, bytes, split_first, split_with, split, WholeOptions, Laid}
 use Rattle.wire.proofs.Numbers.{length_bytes, there_and_back, back_and_there}
@@ -23,15 +22,19 @@ length_at_lem (a ∷ []) h = absurd (omega arith)
 length_at_lem (a ∷ (b ∷ [])) h = absurd (omega arith)
 length_at_lem (a ∷ (b ∷ (c ∷ xs))) h = omega arith
 
-pub frame_short : (xs : List ℕ) → length xs < 3 → Cut ≡ frame_of xs
+pub frame_short : (xs : List ℕ) → length xs < 3 → None ≡ frame_of xs
 unfolding frame_of
 frame_short xs h = simp (lt-ltb (length xs) 3 h)
 
-pub frame_past : (xs : List ℕ) → 3 ≤ length xs → length xs - 3 < length_at xs → Cut ≡ frame_of xs
+pub frame_past : (xs : List ℕ) → 3 ≤ length xs → length xs - 3 < length_at xs → None ≡ frame_of xs
 unfolding frame_of
 frame_past xs h k = simp (le-ltb (length xs) 3 h, lt-ltb (length xs - 3) (length_at xs) k)
 
-pub frame_whole : (xs : List ℕ) → 3 + length_at xs ≤ length xs → Whole (get_or xs 0 0) (length_at xs) ≡ frame_of xs
+-- a whole frame, by its type and its length
+abbrev pub whole : ℕ → ℕ → Option (ℕ × ℕ)
+whole kind size = Some (kind, size)
+
+pub frame_whole : (xs : List ℕ) → 3 + length_at xs ≤ length xs → Some (get_or xs 0 0, length_at xs) ≡ frame_of xs
 unfolding frame_of
 frame_whole xs h =
     let g : 3 ≤ length xs = omega arith in
@@ -44,19 +47,20 @@ pub record Fits-whole (xs : List ℕ) (kind size : ℕ) : Type 0 where
   pub size_is : size ≡ length_at xs
   pub inside : 3 + size ≤ length xs
 
-pub frame_tells : (xs : List ℕ) (kind size : ℕ) → frame_of xs ≡ Whole kind size → Fits-whole xs kind size
+pub frame_tells : (xs : List ℕ) (kind size : ℕ) → frame_of xs ≡ Some (kind, size) → Fits-whole xs kind size
 unfolding frame_of
 frame_tells xs kind size e = go (ltb (length xs) 3) refl (ltb (length xs - 3) (length_at xs)) refl e
   where
     go : (b : Bool) → ltb (length xs) 3 ≡ b → (d : Bool) → ltb (length xs - 3) (length_at xs) ≡ d
-        → cond b Cut (cond d Cut (Whole (get_or xs 0 0) (length_at xs))) ≡ Whole kind size → Fits-whole xs kind size
+        → cond {A = Option (ℕ × ℕ)} b None (cond d None (Some (get_or xs 0 0, length_at xs))) ≡ Some (kind, size) → Fits-whole xs kind size
     go true p d q r = let z : ◌≡◌ {A = ℕ} 0 1 = cc in absurd (omega arith)
     go false p true q r = let z : ◌≡◌ {A = ℕ} 0 1 = cc in absurd (omega arith)
     go false p false q r =
         let a = ltb-false (length xs) 3 p in
         let b = ltb-false (length xs - 3) (length_at xs) q in
-        let n : length_at xs ≡ size = cc in
-        record { kind_is = cc; size_is = sym n; inside = omega arith }
+        let both : ◌≡◌ {A = ℕ × ℕ} (get_or xs 0 0, length_at xs) (kind, size) = cc in
+        let n : length_at xs ≡ size = ap (λ (p : ℕ × ℕ). p.1) both in
+        record { kind_is = sym (ap (λ (p : ℕ × ℕ). p.0) both); size_is = sym n; inside = omega arith }
 
 -- ---- a body, option by option
 
@@ -64,9 +68,9 @@ frame_tells xs kind size e = go (ltb (length xs) 3) refl (ltb (length xs - 3) (l
 same_first : (xs : List ℕ) (f g : List ℕ → Options) → ((ys : List ℕ) → length ys < length xs → f ys ≡ g ys) → split_first (frame_of xs) xs f ≡ split_first (frame_of xs) xs g
 same_first xs f g agree = go (frame_of xs) refl
   where
-    go : (t : Frame) → frame_of xs ≡ t → split_first t xs f ≡ split_first t xs g
-    go Cut e = refl
-    go (Whole kind size) e = let t = (frame_tells xs kind size e).inside in ap (option kind (take size (drop 3 xs))) (agree (drop (3 + size) xs) (rw length-drop (omega arith)))
+    go : (t : Option (ℕ × ℕ)) → frame_of xs ≡ t → split_first t xs f ≡ split_first t xs g
+    go None e = refl
+    go (Some (kind, size)) e = let t = (frame_tells xs kind size e).inside in ap (option kind (take size (drop 3 xs))) (agree (drop (3 + size) xs) (rw length-drop (omega arith)))
 
 -- a bound of the rest's length or more changes nothing
 enough : (k j : ℕ) (xs : List ℕ) → length xs ≤ k → length xs ≤ j → split_with k xs ≡ split_with j xs
@@ -89,10 +93,10 @@ pub split_end : (xs : List ℕ) → length xs ≡ 0 → split xs ≡ done
 unfolding split split_with
 split_end xs e = rw e
 
-pub split_cut : (xs : List ℕ) → 0 < length xs → frame_of xs ≡ Cut → split xs ≡ cut xs
+pub split_cut : (xs : List ℕ) → 0 < length xs → frame_of xs ≡ None → split xs ≡ cut xs
 split_cut xs h e = split_eq xs h ∙ rw e
 
-pub split_whole : (xs : List ℕ) (kind size : ℕ) → frame_of xs ≡ Whole kind size → split xs ≡ option kind (take size (drop 3 xs)) (split (drop (3 + size) xs))
+pub split_whole : (xs : List ℕ) (kind size : ℕ) → frame_of xs ≡ Some (kind, size) → split xs ≡ option kind (take size (drop 3 xs)) (split (drop (3 + size) xs))
 split_whole xs kind size e = let t = (frame_tells xs kind size e).inside in split_eq xs (omega arith) ∙ rw e
 
 -- ---- the concatenation of its options, and back
@@ -115,10 +119,10 @@ module _ (kind : ℕ) (content rest : List ℕ) (h : length content < 2 ^ 16) wh
   long : length front ≡ 3 + (length content + length rest)
   long = rw regroup (simp length-append (rw (length_bytes 2 (length content)) (omega arith)))
 
-  front_frame : frame_of front ≡ Whole kind (length content)
+  front_frame : frame_of front ≡ Some (kind, length content)
   front_frame =
       sym (frame_whole front (let a = size_is in let b = long in omega arith))
-      ∙ ap₂ Whole (ap (λ (l : List ℕ). get_or l 0 0) regroup) size_is
+      ∙ ap₂ whole (ap (λ (l : List ℕ). get_or l 0 0) regroup) size_is
 
   pub split_front : split front ≡ option kind content (split rest)
   split_front =
@@ -145,7 +149,7 @@ octets_drop (suc n) [] o = tt
 octets_drop (suc n) (x ∷ xs) o = octets_drop n xs o.1
 
 -- the first option's bytes, and those behind it
-first_bytes_lem : (xs : List ℕ) (kind size : ℕ) → Octets xs → frame_of xs ≡ Whole kind size → option_bytes kind (take size (drop 3 xs)) ++ drop (3 + size) xs ≡ xs
+first_bytes_lem : (xs : List ℕ) (kind size : ℕ) → Octets xs → frame_of xs ≡ Some (kind, size) → option_bytes kind (take size (drop 3 xs)) ++ drop (3 + size) xs ≡ xs
 unfolding option_bytes
 first_bytes_lem xs kind size o e =
     let t = frame_tells xs kind size e in
@@ -171,9 +175,9 @@ unfolding split_with bytes
 bytes_with zero xs h o = sym (drop_of_length-le xs {i = 0} (omega arith))
 bytes_with (suc k) xs h o = each (eqb (length xs) 0) refl (λ ys l p. bytes_with k ys (omega arith) p)
   where
-    go : (f : Frame) → frame_of xs ≡ f → Shorter k xs → bytes (split_first f xs (split_with k)) ≡ xs
-    go Cut e shorter = refl
-    go (Whole kind size) e shorter =
+    go : (f : Option (ℕ × ℕ)) → frame_of xs ≡ f → Shorter k xs → bytes (split_first f xs (split_with k)) ≡ xs
+    go None e shorter = refl
+    go (Some (kind, size)) e shorter =
         let t = (frame_tells xs kind size e).inside in
         ap (λ (l : List ℕ). option_bytes kind (take size (drop 3 xs)) ++ l) (shorter (drop (3 + size) xs) (rw length-drop (omega arith)) (octets_drop (3 + size) xs o))
         ∙ first_bytes_lem xs kind size o e

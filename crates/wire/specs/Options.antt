@@ -1,8 +1,6 @@
 -- Source document 000, sections 3.1 and 3.2: a message's body is "a sequence of one or more CIRI options"; an option is an 8-bit Type, a 16-bit
 -- Length, which "denotes the length in octets of the Option Data field (not including Type and Length)", and the Option Data.
-use Rattle.std.specs.Prelude.{ℕ, zero, suc, ◌+◌, ◌*◌, ◌-◌, ◌/◌, ◌%◌, ◌<◌, ◌^◌, ◌≡◌, List, [], ◌∷◌, ◌++◌, Bool, cond, length, get_or, take, drop, ltb, eqb}
-use Rattle.wire.specs.declared.option.Frame.{Frame}
-use Rattle.wire.specs.declared.option.Frame.TheVariants.{Cut, Whole}
+use Rattle.std.specs.Prelude.{ℕ, zero, suc, ◌+◌, ◌-◌, ◌<◌, ◌^◌, ◌≡◌, List, [], ◌∷◌, ◌++◌, cond, length, get_or, take, drop, ltb, eqb, Option, Some, None}
 use Rattle.wire.specs.Numbers.{big_endian, bytes_of}
 
 -- the bytes of one option
@@ -14,8 +12,8 @@ abbrev pub length_at : List ℕ → ℕ
 length_at rest = big_endian (take 2 (drop 1 rest))
 
 -- the first option of a rest: cut off where "an option runs past the end, or its frame does", else its type and length
-unfoldable pub frame_of : List ℕ → Frame
-frame_of rest = cond (ltb (length rest) 3) Cut (cond (ltb (length rest - 3) (length_at rest)) Cut (Whole (get_or rest 0 0) (length_at rest)))
+unfoldable pub frame_of : List ℕ → Option (ℕ × ℕ)
+frame_of rest = cond (ltb (length rest) 3) None (cond (ltb (length rest - 3) (length_at rest)) None (Some (get_or rest 0 0, length_at rest)))
 
 -- a body: nothing left; bytes that are no whole option; or an option's type and content, and what stands behind it
 pub data Options : Type 0 where
@@ -30,9 +28,9 @@ bytes (cut rest) = rest
 bytes (option kind content more) = option_bytes kind content ++ bytes more
 
 -- what the first option of a rest makes of it, the rest behind it being cut by `f`
-abbrev pub split_first : Frame → List ℕ → (List ℕ → Options) → Options
-split_first Cut rest f = cut rest
-split_first (Whole kind size) rest f = option kind (take size (drop 3 rest)) (f (drop (3 + size) rest))
+abbrev pub split_first : Option (ℕ × ℕ) → List ℕ → (List ℕ → Options) → Options
+split_first None rest f = cut rest
+split_first (Some (kind, size)) rest f = option kind (take size (drop 3 rest)) (f (drop (3 + size) rest))
 
 -- the first argument is a bound on the number of options, which each have three bytes at least
 unfoldable pub split_with : ℕ → List ℕ → Options

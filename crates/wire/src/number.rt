@@ -9,10 +9,8 @@ pub fn read(bytes: &[u8]) -> u64
     ensures below { result < 256 ^ length bytes.now }
 {
     let mut value: u64 = 0;
-    let mut i: usize = 0;
-    while i < bytes.len() {
-        value = value * 256 + bytes[i] as u64;
-        i += 1;
+    for byte in bytes {
+        value = value * 256 + u64::from(*byte);
     }
     value
 }
@@ -22,10 +20,8 @@ pub fn write(out: &mut [u8], value: u64)
     ensures { out.new ≡ bytes_of (length out.old) value }
 {
     let mut left = value;
-    let mut i = out.len();
-    while 0 < i {
-        i -= 1;
+    for i in (0..out.len()).rev() {
         out[i] = (left % 256) as u8;
-        left = left / 256;
+        left /= 256;
     }
 }

@@ -10,25 +10,18 @@ const LENGTH_AT: usize = 1;
 // Type and length.
 pub const FRAME_SIZE: usize = 3;
 
-// The first option of a rest: cut off, or whole, with its type and its content's length.
-#[derive(Clone, Copy)]
-pub enum Frame {
-    Cut,
-    Whole(u8, usize),
-}
-
 // The option that stands first in the rest of a body, if it is whole.
-pub fn first(rest: &[u8]) -> Frame
+pub fn first(rest: &[u8]) -> Option<(u8, usize)>
     ensures { result ≡ frame_of rest.now }
 {
     if rest.len() < FRAME_SIZE {
-        return Frame::Cut;
+        return None;
     }
     let size = number::read(&rest[LENGTH_AT..FRAME_SIZE]) as usize;
     if rest.len() - FRAME_SIZE < size {
-        return Frame::Cut;
+        return None;
     }
-    Frame::Whole(rest[0], size)
+    Some((rest[0], size))
 }
 
 // Lays an option down at the start of the rest of an output. Gives its length, frame and content.

@@ -1,5 +1,7 @@
 -- A datagram from the radio, whatever it is, leaves every word but those of status and flow state, Link Instance and Context, and the pacer's clock and last heard; an
 -- accepted control message's own Context stands in its words. Assumes nothing.
+use Rattle.std.specs.Prelude.{Option, Some, None}
+use Rattle.meaning.specs.declared.message.ContextBytes.{ContextBytes}
 use Prim.Native.Nat.{ℕ, ◌+◌, ◌*◌, ◌≤◌, ◌<◌}
 use mathlib.Core.Bool.{Bool, true, false, cond, and-eq-true_iff}
 use mathlib.Core.Logic.{⊎_elim}
@@ -7,9 +9,7 @@ use mathlib.Core.List.{List}
 use mathlib.Core.Path.{◌≡◌, refl, sym, ap, ◌∙◌}
 use native.Mathlib.Omega.{arith}
 use lib.ListN.{length, get_or}
-use Rattle.meaning.specs.declared.message.Status.{Status}
 use Rattle.meaning.specs.declared.message.Window.{Window}
-use Rattle.meaning.specs.declared.message.Context.{Context}
 use Rattle.meaning.specs.declared.message.Control.{Control}
 use Rattle.pacer.specs.declared.Pacer.{Pacer}
 use Rattle.pacer.specs.Pacing.{heard_at, moved_to}
@@ -36,7 +36,7 @@ nothing_leaves : (l : Lent) → RadioLeaves l l
 nothing_leaves l = record { channels = none_left l; head = λ k h. refl; waits = λ k h b. refl; due = refl; codes = refl }
 
 -- ---- words in which each channel was told something
-module _ (words words' : List ℕ) (fits : state_fits (state_in words) ≡ true) (same_long : length words' ≡ length words) (status : ℕ → Status) (window : ℕ → Window)
+module _ (words words' : List ℕ) (fits : state_fits (state_in words) ≡ true) (same_long : length words' ≡ length words) (status : ℕ → Option ℕ) (window : ℕ → Option Window)
     (told : (i : ℕ) → i < get_or words 1 0 → slot words' i ≡ told_slot status window (slot words i)) where
   -- a word of a channel that stands in its slot stands among all the words
   pub in_slot : (i j : ℕ) → i < get_or words 1 0 → j < 74 → {n : ℕ} → get_or (told_slot status window (slot words i)) j 0 ≡ n → get_or words' (14 + 74 * i + j) 0 ≡ n
@@ -86,10 +86,10 @@ module _ (message : Control) (words : List ℕ) (fits : state_fits (state_in wor
       room : 14 ≤ length before
       room = instance_room message.instance (heard_slots message words (get_or words 1 0)) before (slots_room message words _ fits refl) refl
 
-      left_by_lem : (given : Context) → ContextLeft (context_heard given before) given
-      left_by_lem Context.Absent = without (tag_written before Context.Absent room) (value_written before Context.Absent room) (size_written before Context.Absent room)
-      left_by_lem (Context.Given bytes size) =
-          let given : Context = Context.Given bytes size in
+      left_by_lem : (given : Option (ContextBytes × ℕ)) → ContextLeft (context_heard given before) given
+      left_by_lem None = without (tag_written before None room) (value_written before None room) (size_written before None room)
+      left_by_lem (Some (bytes, size)) =
+          let given : Option (ContextBytes × ℕ) = Some (bytes, size) in
           with_bytes (tag_written before given room) (value_written before given room) (size_written before given room)
 
   -- a word of the pacer, by what stands there
@@ -156,7 +156,7 @@ module _ {time : ℕ} {datagram : List ℕ} {l l' : Lent} {x : EndpointReply} (h
     heard_room : 14 ≤ length (heard_words m l.words)
     heard_room = omega (arith, heard_length m l.words fitting, head_there l.words fitting)
 
-    context_stands : {words : List ℕ} (p : Pacer) {given : Context} → ContextLeft words given → ContextLeft (put_pacer words p) given
+    context_stands : {words : List ℕ} (p : Pacer) {given : Option (ContextBytes × ℕ)} → ContextLeft words given → ContextLeft (put_pacer words p) given
     context_stands {words} p (without a b c) =
         without (paced_before words p 5 (omega arith) ∙ a) (paced_before words p 6 (omega arith) ∙ b) (paced_before words p 7 (omega arith) ∙ c)
     context_stands {words} p (with_bytes a b c) =

@@ -1,4 +1,5 @@
 -- The pacer asked, in words: which stand, which take the time, and what a silence writes. Assumes nothing.
+use Rattle.std.specs.Prelude.{Some, None}
 use Prim.Native.Nat.{ℕ, ◌+◌, ◌*◌, ◌≤◌, ◌<◌}
 use mathlib.Core.Bool.{Bool, true, false, cond, and-eq-true_iff}
 use mathlib.Core.List.{List}
@@ -8,7 +9,6 @@ use borrow.Author.Tests.{le-leb, lt-leb}
 use lib.ListN.{length, get_or, set, length-set}
 use lib.Dec.{eqb}
 use lib.Seq.{get_or-set_same, get_or-set_other}
-use Rattle.meaning.specs.declared.message.Status.{Status}
 use Rattle.meaning.specs.declared.message.Window.{Window}
 use Rattle.pacer.specs.Pacing.{is_silent, asked}
 use Rattle.ips_state.specs.Limits.{state_fits}
@@ -69,10 +69,10 @@ module _ (w : List ℕ) (long : length w ≡ 74) where
 -- ---- all the words
 module _ (words : List ℕ) (fits : state_fits (state_in words) ≡ true) where
   silent_slot : (i j : ℕ) → i < get_or words 1 0 → j < 74 → {n : ℕ} → get_or (silenced_slot (slot words i)) j 0 ≡ n → get_or (silenced_words words) (14 + 74 * i + j) 0 ≡ n
-  silent_slot i j h b e = in_slot words (silenced_words words) fits (silenced_length words fits) (λ id. Status.Absent) (λ id. Window.Empty) (silenced_slot_lem words fits) i j h b e
+  silent_slot i j h b e = in_slot words (silenced_words words) fits (silenced_length words fits) (λ id. None) (λ id. (Some Window.Empty)) (silenced_slot_lem words fits) i j h b e
 
   slot_long : (i : ℕ) → i < get_or words 1 0 → length (slot words i) ≡ 74
-  slot_long i h = long_slot words (silenced_words words) fits (silenced_length words fits) (λ id. Status.Absent) (λ id. Window.Empty) (silenced_slot_lem words fits) i h
+  slot_long i h = long_slot words (silenced_words words) fits (silenced_length words fits) (λ id. None) (λ id. (Some Window.Empty)) (silenced_slot_lem words fits) i h
 
   kind_at : (i n : ℕ) → get_or words (14 + 74 * i + 1) 0 ≡ n → get_or (slot words i) 1 0 ≡ n
   kind_at i n e = slot_word words i 1 (omega arith) ∙ e
@@ -88,7 +88,7 @@ module _ (words : List ℕ) (fits : state_fits (state_in words) ≡ true) where
 
   silence_channels : (memory : List ℕ) → ChannelsLeft (lent words memory) (lent (silenced_words words) memory)
   silence_channels =
-      told_leaves words (silenced_words words) fits (silenced_length words fits) (λ id. Status.Absent) (λ id. Window.Empty) (silenced_slot_lem words fits)
+      told_leaves words (silenced_words words) fits (silenced_length words fits) (λ id. None) (λ id. (Some Window.Empty)) (silenced_slot_lem words fits)
 
   abbrev fallen : Bool → List ℕ
   fallen silent = cond silent (silenced_words words) words

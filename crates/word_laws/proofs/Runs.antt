@@ -1,4 +1,5 @@
 -- Words that calls reach: readable and within the limits; and no state in words has a sequence of more than 32 bits. Assumes nothing.
+use Rattle.std.specs.Prelude.{Ok}
 use Prim.Native.Nat.{ℕ, ◌^◌, ◌<◌}
 use mathlib.Core.Bool.{Bool, true, false}
 use mathlib.Core.List.{List}
@@ -8,7 +9,6 @@ use lib.ListN.{length}
 use Rattle.ips_state.specs.State.{channel_at, blank_state}
 use Rattle.ips_state.specs.Memory.{World}
 use Rattle.ips_state.specs.Limits.{state_fits}
-use Rattle.ips_state.specs.declared.StartAnswer.{StartAnswer}
 use Rattle.ips_run.specs.Run.{Call, after_all}
 use Rattle.ips_run.specs.Demand.{BytesIn}
 use Rattle.ips_run.proofs.Whole.{reached_fits}
@@ -45,7 +45,7 @@ words_sequences words index inside = go (readable words) refl
     go false e = none_said words index inside e
 
 -- WORDS STAY READABLE OVER ANY RUN, and within the limits
-module _ {configuration words memory words' memory' : List ℕ} (started : StartedIn configuration words memory StartAnswer.Started words' memory') where
+module _ {configuration words memory words' memory' : List ℕ} (started : StartedIn configuration words memory (Ok tt) words' memory') where
   pub ran_fits : (cs : List Call) → BytesIn cs → (xs : List EndpointReply) (last : Lent) → RanIn (lent words' memory') cs xs last → state_fits (state_in last.words) ≡ true
   ran_fits cs bytes xs last run =
       let begun = started_leaves configuration words memory started refl in

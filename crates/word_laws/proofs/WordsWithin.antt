@@ -1,4 +1,7 @@
 -- Words stand for a state within the limits exactly where `WordsWithin` says so, fact by fact; and what such words say. Assumes nothing.
+use Rattle.quantity.specs.declared.count.LinkInstanceId.{LinkInstanceId}
+use Rattle.meaning.specs.declared.message.ContextBytes.{ContextBytes}
+use Rattle.std.specs.Prelude.{Some, None}
 use Prim.Native.Nat.{ℕ, zero, suc, ◌+◌, ◌*◌, ◌≤◌, ◌<◌}
 use mathlib.Core.Bool.{Bool, true, false, cond}
 use mathlib.Core.List.{List, [], ◌∷◌, ◌++◌}
@@ -11,9 +14,6 @@ use lib.Dec.{eqb}
 use lib.ListN.{length, take, get_or}
 use lib.Seq.{length-take-le, get_or-take, take-suc}
 use Rattle.facts.proofs.Tests.{clash}
-use Rattle.meaning.specs.declared.message.Instance.{Instance}
-use Rattle.meaning.specs.declared.message.Context.{Context}
-use Rattle.meaning.specs.declared.message.Status.{Status}
 use Rattle.store.specs.declared.queue.Entry.{Entry}
 use Rattle.store.specs.Waiting.{waiting, total, no_entry}
 use Rattle.flow.specs.declared.Flow.{Flow}
@@ -92,7 +92,7 @@ part_within w e c =
       largest = c.largest;
       status_tag_lem = s.status_tag_lem;
       status_byte = s.status;
-      highest = λ t. c.highest (get_or w 4 0) (tag_given (get_or w 3 0) Status.Absent (Status.Given (get_or w 4 0)) t);
+      highest = λ t. c.highest (get_or w 4 0) (tag_given (get_or w 3 0) None (Some (get_or w 4 0)) t);
       flow_tag_lem = s.flow_tag_lem;
       plain = λ k. free_tag (get_or w 5 0) (get_or w 6 0) (c.plain (rw k));
       window = s.window;
@@ -114,7 +114,7 @@ within_part w c = record {
   smallest = c.smallest;
   largest = c.largest;
   highest = λ value e.
-      let one = given_tag (get_or w 3 0) Status.Absent (Status.Given (get_or w 4 0)) c.status_tag_lem (Status.Given value) (λ q. cc) e in
+      let one = given_tag (get_or w 3 0) None (Some (get_or w 4 0)) c.status_tag_lem (Some value) (λ q. cc) e in
       let is : get_or w 4 0 ≡ value = cc one.1 in
       omega (arith, c.highest one.0);
   plain = λ e. ⊎_elim (λ (k : get_or w 1 0 ≡ 0). rw (c.plain k)) (λ (k : get_or w 1 0 ≡ 1). absurd (eqb-false (get_or w 1 0) 1 e k)) (none_or_one (get_or w 1 0) c.kind);
@@ -236,15 +236,15 @@ module _ (words : List ℕ) where
     unfolding state_of instance_of context_of
     within_words =
         let r = readable_facts words e in
-        let instance = Instance.Given (record { 0 = get_or words 3 0 }) (get_or words 4 0) in
-        let context = Context.Given (record { 0 = get_or words 6 0 }) (get_or words 7 0) in
+        let instance = Some (record { 0 = get_or words 3 0 }, get_or words 4 0) in
+        let context = Some (record { 0 = get_or words 6 0 }, get_or words 7 0) in
         record {
           long = r.long;
           datalink = r.head.datalink;
           some = omega (arith, channels_length words, w.some);
           few = omega (arith, channels_length words, w.few);
-          instance_within = name_words words 2 r.head.instance (λ t. w.instance_within (record { 0 = get_or words 3 0 }) (get_or words 4 0) (tag_given (get_or words 2 0) Instance.Absent instance t));
-          context_within = name_words words 5 r.head.context (λ t. w.context_within (record { 0 = get_or words 6 0 }) (get_or words 7 0) (tag_given (get_or words 5 0) Context.Absent context t));
+          instance_within = name_words words 2 r.head.instance (λ t. w.instance_within (record { 0 = get_or words 3 0 }) (get_or words 4 0) (tag_given (get_or words 2 0) None instance t));
+          context_within = name_words words 5 r.head.context (λ t. w.context_within (record { 0 = get_or words 6 0 }) (get_or words 7 0) (tag_given (get_or words 5 0) None context t));
           hello = w.hello;
           limit = w.limit;
           codes = r.head.codes;
@@ -285,14 +285,16 @@ module _ (words : List ℕ) where
       hello = w.hello;
       limit = w.limit;
       instance_within = λ value size p.
-          let one = given_tag (get_or words 2 0) Instance.Absent (Instance.Given (record { 0 = get_or words 3 0 }) (get_or words 4 0)) w.instance_within.tag (Instance.Given value size) (λ q. cc) p in
-          let first : get_or words 3 0 ≡ value.0 = cc one.1 in
-          let second : get_or words 4 0 ≡ size = cc one.1 in
+          let one = given_tag (get_or words 2 0) None (Some (record { 0 = get_or words 3 0 }, get_or words 4 0)) w.instance_within.tag (Some (value, size)) (λ q. cc) p in
+          let both : ◌≡◌ {A = LinkInstanceId × ℕ} (record { 0 = get_or words 3 0 }, get_or words 4 0) (value, size) = cc one.1 in
+          let first : get_or words 3 0 ≡ value.0 = ap (λ (both : LinkInstanceId × ℕ). both.0.0) both in
+          let second : get_or words 4 0 ≡ size = ap (λ (both : LinkInstanceId × ℕ). both.1) both in
           rw (← first, ← second) (words_name words 2 w.instance_within one.0);
       context_within = λ value size p.
-          let one = given_tag (get_or words 5 0) Context.Absent (Context.Given (record { 0 = get_or words 6 0 }) (get_or words 7 0)) w.context_within.tag (Context.Given value size) (λ q. cc) p in
-          let first : get_or words 6 0 ≡ value.0 = cc one.1 in
-          let second : get_or words 7 0 ≡ size = cc one.1 in
+          let one = given_tag (get_or words 5 0) None (Some (record { 0 = get_or words 6 0 }, get_or words 7 0)) w.context_within.tag (Some (value, size)) (λ q. cc) p in
+          let both : ◌≡◌ {A = ContextBytes × ℕ} (record { 0 = get_or words 6 0 }, get_or words 7 0) (value, size) = cc one.1 in
+          let first : get_or words 6 0 ≡ value.0 = ap (λ (both : ContextBytes × ℕ). both.0.0) both in
+          let second : get_or words 7 0 ≡ size = ap (λ (both : ContextBytes × ℕ). both.1) both in
           rw (← first, ← second) (words_name words 5 w.context_within one.0);
     }
 

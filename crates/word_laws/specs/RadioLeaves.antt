@@ -1,8 +1,7 @@
 -- Document 01, "Radio control message accepted", in literal numbers: which words no datagram from the radio changes, and the words of the kept Context;
 -- the same of the pacer asked, and what a silence writes.
-use Rattle.std.specs.Prelude.{ℕ, ◌+◌, ◌*◌, ◌<◌, List, ◌≡◌, length, get_or}
+use Rattle.std.specs.Prelude.{ℕ, ◌+◌, ◌*◌, ◌<◌, List, ◌≡◌, length, get_or, Option, Some, None}
 use Rattle.meaning.specs.declared.message.ContextBytes.{ContextBytes}
-use Rattle.meaning.specs.declared.message.Context.{Context}
 use Rattle.endpoint.specs.Lent.{Lent}
 
 -- of each channel its setting, and all behind the four words of status and flow state: sequence, latest time, and what waits; every lent byte
@@ -38,6 +37,6 @@ pub record Unsilenced (words words' : List ℕ) : Type 0 where
   pub stands : (k : ℕ) → 12 < k → get_or words' k 0 ≡ get_or words k 0
 
 -- Document 02 §2: an accepted control message leaves its own Context in words 5 to 7, and three zeros where it has "no Context at all"
-pub data ContextLeft (words : List ℕ) : Context → Type 0 where
-  without : get_or words 5 0 ≡ 0 → get_or words 6 0 ≡ 0 → get_or words 7 0 ≡ 0 → ContextLeft words Context.Absent
-  with_bytes : {bytes : ContextBytes} {size : ℕ} → get_or words 5 0 ≡ 1 → get_or words 6 0 ≡ bytes.0 → get_or words 7 0 ≡ size → ContextLeft words (Context.Given bytes size)
+pub data ContextLeft (words : List ℕ) : Option (ContextBytes × ℕ) → Type 0 where
+  without : get_or words 5 0 ≡ 0 → get_or words 6 0 ≡ 0 → get_or words 7 0 ≡ 0 → ContextLeft words None
+  with_bytes : {bytes : ContextBytes} {size : ℕ} → get_or words 5 0 ≡ 1 → get_or words 6 0 ≡ bytes.0 → get_or words 7 0 ≡ size → ContextLeft words (Some (bytes, size))

@@ -1,8 +1,5 @@
 -- Number 19 of a state in words, and what such words say, in literal numbers: 14 words of the endpoint's own, then 74 for each channel, in configuration order.
-use Rattle.std.specs.Prelude.{ℕ, zero, suc, ◌+◌, ◌*◌, ◌^◌, ◌≤◌, ◌<◌, true, false, List, ◌≡◌, length, get_or}
-use Rattle.meaning.specs.declared.message.Instance.{Instance}
-use Rattle.meaning.specs.declared.message.Context.{Context}
-use Rattle.meaning.specs.declared.message.Status.{Status}
+use Rattle.std.specs.Prelude.{ℕ, zero, suc, ◌+◌, ◌*◌, ◌^◌, ◌≤◌, ◌<◌, true, false, List, ◌≡◌, length, get_or, Some, None}
 use Rattle.store.specs.Waiting.{no_entry}
 use Rattle.flow.specs.declared.Flow.{Flow}
 use Rattle.ips_channel.specs.declared.state.Channel.{Channel}
@@ -67,8 +64,8 @@ pub record ChannelSaid (words : List ℕ) (b : ℕ) (c : Channel) : Type 0 where
   pub plain : get_or words (b + 1) 0 ≡ 0 → c.setting.controlled ≡ false
   pub controlled : get_or words (b + 1) 0 ≡ 1 → c.setting.controlled ≡ true
   pub size : c.setting.size.0 ≡ get_or words (b + 2) 0
-  pub absent : get_or words (b + 3) 0 ≡ 0 → c.status ≡ Status.Absent
-  pub given : get_or words (b + 3) 0 ≡ 1 → c.status ≡ Status.Given (get_or words (b + 4) 0)
+  pub absent : get_or words (b + 3) 0 ≡ 0 → c.status ≡ None
+  pub given : get_or words (b + 3) 0 ≡ 1 → c.status ≡ Some (get_or words (b + 4) 0)
   pub free : get_or words (b + 5) 0 ≡ 0 → c.flow ≡ Flow.Free
   pub no_window_lem : get_or words (b + 5) 0 ≡ 1 → c.flow ≡ Flow.NoWindow
   pub in_force : get_or words (b + 5) 0 ≡ 2 → c.flow ≡ Flow.InForce (record { 0 = get_or words (b + 6) 0 })
@@ -84,10 +81,10 @@ pub record ChannelSaid (words : List ℕ) (b : ℕ) (c : Channel) : Type 0 where
 pub record StateSaid (words : List ℕ) (s : State) : Type 0 where
   pub datalink : s.datalink.id.0 ≡ get_or words 0 0
   pub count : length s.channels ≡ get_or words 1 0
-  pub no_instance_lem : get_or words 2 0 ≡ 0 → s.instance ≡ Instance.Absent
-  pub instance : get_or words 2 0 ≡ 1 → s.instance ≡ Instance.Given (record { 0 = get_or words 3 0 }) (get_or words 4 0)
-  pub no_context_lem : get_or words 5 0 ≡ 0 → s.context ≡ Context.Absent
-  pub context : get_or words 5 0 ≡ 1 → s.context ≡ Context.Given (record { 0 = get_or words 6 0 }) (get_or words 7 0)
+  pub no_instance_lem : get_or words 2 0 ≡ 0 → s.instance ≡ None
+  pub instance : get_or words 2 0 ≡ 1 → s.instance ≡ Some (record { 0 = get_or words 3 0 }, get_or words 4 0)
+  pub no_context_lem : get_or words 5 0 ≡ 0 → s.context ≡ None
+  pub context : get_or words 5 0 ≡ 1 → s.context ≡ Some (record { 0 = get_or words 6 0 }, get_or words 7 0)
   pub hello : s.pacer.hello ≡ get_or words 8 0
   pub limit : s.pacer.limit ≡ get_or words 9 0
   pub clock : s.pacer.clock ≡ get_or words 10 0

@@ -1,24 +1,24 @@
--- Whether a number fits its length, a byte at a time. Assumes nothing.
-use Prim.Native.Nat.{ℕ, zero, suc, ◌-◌, ◌*◌, ◌/◌, ◌^◌, ◌≤◌, ◌<◌}
-use mathlib.Core.Path.{◌≡◌, refl, sym, ◌∙◌}
-use mathlib.Core.Bool.{Bool, true, false}
-use native.Mathlib.Nat.{pow-suc}
-use native.Mathlib.Omega.{arith}
-use borrow.Author.Tests.{ne_eqb, lt-ltb, le-ltb, ltb-true, ltb-false}
+-- Whether a number fits its length, by its bits. Assumes nothing.
+use Rattle.std.proofs.Common.{◌≡◌, ℕ, zero, suc, ◌+◌, ◌*◌, ◌/◌, ◌^◌, ◌≤◌, ◌<◌, Bool, true, false, refl, sym, arith, pow-add, pow-suc, lt_of_lt_of_le, lit<}
+use native.Mathlib.Nat.{pow-le-pow_right, div-eq_of_lt, div-lt_iff_lt-mul}
+use borrow.Author.Tests.{ne_eqb, eq-eqb, lt-ltb, ltb-true, ltb-false}
 use lib.Dec.{ltb, eqb}
 
-below_times : (left k : ℕ) → ltb left (k * 256) ≡ ltb (left / 256) k
-below_times left k = go (ltb left (k * 256)) refl
+pub fits_long : (number size : ℕ) → number < 2 ^ 64 → 8 ≤ size → ltb number (256 ^ size) ≡ true
+fits_long number size h k = lt-ltb number (256 ^ size) (lt_of_lt_of_le h (pow-le-pow_right {n = 256} (lit< tt) {i = 8} {j = size} k))
+
+bits_of_bytes : (size : ℕ) → 2 ^ (8 * size) ≡ 256 ^ size
+bits_of_bytes zero = refl
+bits_of_bytes (suc size) =
+    let e : 8 * suc size ≡ 8 * size + 8 = omega arith in
+    rw (e, pow-add 2 (8 * size) 8, bits_of_bytes size) (sym (pow-suc 256 size))
+
+pub fits_bits : (number size : ℕ) → eqb (number / 2 ^ (8 * size)) 0 ≡ ltb number (256 ^ size)
+fits_bits number size = rw (bits_of_bytes size) (go (ltb number (256 ^ size)) refl)
   where
-    go : (b : Bool) → ltb left (k * 256) ≡ b → ltb left (k * 256) ≡ ltb (left / 256) k
-    go true e = let h = ltb-true left (k * 256) e in let less : left / 256 < k = omega arith in e ∙ sym (lt-ltb (left / 256) k less)
-    go false e = let h = ltb-false left (k * 256) e in let more : k ≤ left / 256 = omega arith in e ∙ sym (le-ltb (left / 256) k more)
-
--- a byte less of both
-pub fits_less : (left i : ℕ) → 0 < i → ltb left (256 ^ i) ≡ ltb (left / 256) (256 ^ (i - 1))
-fits_less left zero h = absurd (omega arith)
-fits_less left (suc i) h = let less : suc i - 1 ≡ i = omega arith in rw (less, pow-suc) (below_times left (256 ^ i))
-
-pub fits_nothing : (left : ℕ) → eqb left 0 ≡ ltb left 1
-fits_nothing zero = refl
-fits_nothing (suc n) = let some : 1 ≤ suc n = omega arith in ne_eqb (suc n) 0 (λ e. omega arith) ∙ sym (le-ltb (suc n) 1 some)
+    go : (b : Bool) → ltb number (256 ^ size) ≡ b → eqb (number / 256 ^ size) 0 ≡ b
+    go true e = eq-eqb (number / 256 ^ size) 0 (div-eq_of_lt (ltb-true number (256 ^ size) e))
+    go false e =
+        let large = ltb-false number (256 ^ size) e in
+        let one : 256 ^ 0 ≤ 256 ^ size = pow-le-pow_right {n = 256} (lit< tt) {i = 0} {j = size} (omega arith) in
+        ne_eqb (number / 256 ^ size) 0 (λ z. let less : number < 1 * 256 ^ size = (div-lt_iff_lt-mul (omega arith)).0 (omega arith) in omega arith)

@@ -1,4 +1,4 @@
 -- The laws that the proofs of this crate share.
 pub mod Fitting
-pub mod Places
+pub mod Cells
 pub mod PlainNumbers

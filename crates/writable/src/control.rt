@@ -1,52 +1,38 @@
 // A control message, part by part.
 ghost use Rattle.std.specs.Prelude.{◌≡◌, ◌&&◌};
-ghost use Rattle.writable.specs.Allowed.{status_allowed, statuses_allowed, primary_allowed, sequence_allowed, sequences_allowed, window_allowed, windows_allowed, control_allowed};
+ghost use Rattle.std.specs.List.{list_all};
+ghost use Rattle.writable.specs.Allowed.{status_allowed, primary_allowed, sequence_allowed, window_allowed, control_allowed};
 
 use crate::part;
-use meaning::message::{Control, End, SequenceCell, Status, StatusCell, WindowCell};
+use meaning::message::{Control, End, Window};
+use quantity::count::FlowSequence;
 use quantity::limit::CHANNEL_IDS;
 
-// What the tables state of one channel.
-fn place(end: End, status: StatusCell, sequence: SequenceCell, window: WindowCell) -> bool
-    ensures { result ≡ (status_allowed end status.status && (sequence_allowed end sequence.sequence && window_allowed end window.window)) }
+fn statuses(end: End, cells: &[Option<u8>]) -> bool
+    ensures { result ≡ list_all (status_allowed end) cells.now }
 {
-    let given_status = status.status;
-    let given_sequence = sequence.sequence;
-    let given_window = window.window;
-    part::status(end, given_status)
-        && (part::sequence(end, given_sequence) && part::window(end, given_window))
+    cells.iter().all(|cell| part::status(end, *cell))
 }
 
-fn tables(
-    end: End,
-    statuses: [StatusCell; CHANNEL_IDS],
-    sequences: [SequenceCell; CHANNEL_IDS],
-    windows: [WindowCell; CHANNEL_IDS],
-) -> bool
-    ensures { result ≡ (statuses_allowed end statuses && (sequences_allowed end sequences && windows_allowed end windows)) }
+fn sequences(end: End, cells: &[Option<FlowSequence>]) -> bool
+    ensures { result ≡ list_all (sequence_allowed end) cells.now }
 {
-    let mut channel: usize = 0;
-    while channel < CHANNEL_IDS {
-        if !place(end, statuses[channel], sequences[channel], windows[channel]) {
-            return false;
-        }
-        channel += 1;
-    }
-    true
+    cells.iter().all(|cell| part::sequence(end, *cell))
+}
+
+fn windows(end: End, cells: &[Option<Window>]) -> bool
+    ensures { result ≡ list_all (window_allowed end) cells.now }
+{
+    cells.iter().all(|cell| part::window(end, *cell))
 }
 
 // The radio states a status of channel 0.
-fn primary(end: End, statuses: [StatusCell; CHANNEL_IDS]) -> bool
+fn primary(end: End, statuses: [Option<u8>; CHANNEL_IDS]) -> bool
     ensures { result ≡ primary_allowed end statuses }
 {
-    let cell = statuses[0];
-    let status = cell.status;
     match end {
         End::Ips => true,
-        End::Radio => match status {
-            Status::Absent => false,
-            Status::Given(_) => true,
-        },
+        End::Radio => statuses[0].is_some(),
     }
 }
 
@@ -54,14 +40,11 @@ fn primary(end: End, statuses: [StatusCell; CHANNEL_IDS]) -> bool
 pub fn may_write(end: End, message: Control) -> bool
     ensures { result ≡ control_allowed end message }
 {
-    let datalink = message.datalink;
-    let instance = message.instance;
-    let context = message.context;
-    let statuses = message.statuses;
-    let sequences = message.sequences;
-    let windows = message.windows;
-    part::datalink(datalink)
-        && (part::instance(end, instance)
-            && (part::context(end, context)
-                && (tables(end, statuses, sequences, windows) && primary(end, statuses))))
+    part::datalink(message.datalink)
+        && part::instance(end, message.instance)
+        && part::context(end, message.context)
+        && statuses(end, &message.statuses)
+        && primary(end, message.statuses)
+        && sequences(end, &message.sequences)
+        && windows(end, &message.windows)
 }

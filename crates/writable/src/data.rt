@@ -9,15 +9,13 @@ use meaning::message::{Data, End};
 const LENGTHS: usize = 65536;
 
 // Whether a data message may be written with a packet of this size.
+#[tactic(auto, unfolding(crate::specs::Allowed::data_allowed))]
 pub fn may_write(end: End, message: Data, size: usize) -> bool
     ensures { result ≡ data_allowed end message size }
 {
-    let datalink = message.datalink;
-    let sequence = message.sequence;
-    let channel = message.channel;
-    let expiration = message.expiration;
-    part::datalink(datalink)
-        && (part::counted(end, sequence, channel)
-            && (part::channel(end, channel)
-                && (part::expiration(end, expiration) && size < LENGTHS)))
+    part::datalink(message.datalink)
+        && part::counted(end, message.sequence, message.channel)
+        && part::channel(end, message.channel)
+        && part::expiration(end, message.expiration)
+        && size < LENGTHS
 }

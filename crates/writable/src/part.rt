@@ -4,22 +4,15 @@ ghost use Rattle.quantity.specs.Limits.{SHORTEST-NAME, LONGEST-NAME};
 ghost use Rattle.writable.specs.Allowed.{may, datalink_allowed, instance_allowed, context_allowed, status_allowed, sequence_allowed, window_allowed, counted_allowed, channel_allowed, expiration_allowed};
 
 use meaning::kind;
-use meaning::message::{
-    Channel, Context, Counted, Datalink, End, Expiration, Instance, Plane, Sequence, Status, Window,
-};
+use meaning::message::{ContextBytes, End, Plane, Window};
+use quantity::count::{DatalinkId, FlowSequence, LinkInstanceId};
 use quantity::limit::{HIGHEST_STATUS, LONGEST_NAME, RESERVED_CHANNEL, SHORTEST_NAME};
 
-// Whether a number is not too big for its length.
+// Whether a number is not too big for its length: eight bytes hold any, fewer only what has no bit beyond them.
 fn fits(number: u64, size: usize) -> bool
     ensures { result ≡ ltb number (256 ^ size) }
 {
-    let mut left = number;
-    let mut i = size;
-    while 0 < i {
-        left = left / 256;
-        i -= 1;
-    }
-    left == 0
+    size >= 8 || number >> (8 * size as u32) == 0
 }
 
 // Link Instance and Datalink Context, as the number that their bytes spell.
@@ -27,108 +20,87 @@ fn instance_or_context(end: End, kind: u8, number: u64, size: usize) -> bool
     ensures { result ≡ (may Plane.Control end kind && (leb SHORTEST-NAME size && (leb size LONGEST-NAME && ltb number (256 ^ size)))) }
 {
     kind::may_hold(Plane::Control, end, kind)
-        && (SHORTEST_NAME <= size && (size <= LONGEST_NAME && fits(number, size)))
+        && SHORTEST_NAME <= size
+        && size <= LONGEST_NAME
+        && fits(number, size)
 }
 
 // A Datalink Identifier has to be stated.
-pub fn datalink(datalink: Datalink) -> bool
+pub fn datalink(datalink: Option<DatalinkId>) -> bool
     ensures { result ≡ datalink_allowed datalink }
 {
-    match datalink {
-        Datalink::Absent => false,
-        Datalink::Given(_) => true,
-    }
+    datalink.is_some()
 }
 
 // A Link Instance has a listed length, and its number fits it.
-pub fn instance(end: End, instance: Instance) -> bool
+#[tactic(auto, unfolding(meaning::specs::Kinds::length_listed))]
+pub fn instance(end: End, instance: Option<(LinkInstanceId, usize)>) -> bool
     ensures { result ≡ instance_allowed end instance }
 {
-    match instance {
-        Instance::Absent => true,
-        Instance::Given(id, size) => instance_or_context(end, kind::LINK_INSTANCE, id.0, size),
-    }
+    instance.is_none_or(|(id, size)| instance_or_context(end, kind::LINK_INSTANCE, id.0, size))
 }
 
 // A Context likewise.
-pub fn context(end: End, context: Context) -> bool
+#[tactic(auto, unfolding(meaning::specs::Kinds::length_listed))]
+pub fn context(end: End, context: Option<(ContextBytes, usize)>) -> bool
     ensures { result ≡ context_allowed end context }
 {
-    match context {
-        Context::Absent => true,
-        Context::Given(string, size) => instance_or_context(
-            end,
-            kind::DATALINK_CONTEXT,
-            string.0,
-            size,
-        ),
-    }
+    context.is_none_or(|(string, size)| instance_or_context(
+        end,
+        kind::DATALINK_CONTEXT,
+        string.0,
+        size,
+    ))
 }
 
 // A status of at most 15.
-pub fn status(end: End, status: Status) -> bool
+pub fn status(end: End, status: Option<u8>) -> bool
     ensures { result ≡ status_allowed end status }
 {
-    match status {
-        Status::Absent => true,
-        Status::Given(s) => kind::may_hold(Plane::Control, end, kind::CHANNEL_STATUS)
-            && s <= HIGHEST_STATUS,
-    }
+    status.is_none_or(|status| kind::may_hold(Plane::Control, end, kind::CHANNEL_STATUS)
+        && status <= HIGHEST_STATUS)
 }
 
 // A Flow Sequence, where this end may state one.
-pub fn sequence(end: End, sequence: Sequence) -> bool
+pub fn sequence(end: End, sequence: Option<FlowSequence>) -> bool
     ensures { result ≡ sequence_allowed end sequence }
 {
-    match sequence {
-        Sequence::Absent => true,
-        Sequence::Given(_) => kind::may_hold(Plane::Control, end, kind::FLOW_SEQUENCE),
-    }
+    sequence.is_none_or(|_| kind::may_hold(Plane::Control, end, kind::FLOW_SEQUENCE))
 }
 
-// A Flow Window, where this end may state one.
-pub fn window(end: End, window: Window) -> bool
+// A Flow Window, empty or not, where this end may state one.
+pub fn window(end: End, window: Option<Window>) -> bool
     ensures { result ≡ window_allowed end window }
 {
-    match window {
-        Window::Absent => true,
-        Window::Empty => kind::may_hold(Plane::Control, end, kind::FLOW_WINDOW),
-        Window::Given(_) => kind::may_hold(Plane::Control, end, kind::FLOW_WINDOW),
-    }
+    window.is_none_or(|_| kind::may_hold(Plane::Control, end, kind::FLOW_WINDOW))
 }
 
 // A data message's Flow Sequence is of the channel that the message names.
-pub fn counted(end: End, counted: Counted, channel: Channel) -> bool
+pub fn counted(end: End, counted: Option<(u8, FlowSequence)>, channel: Option<u8>) -> bool
     ensures { result ≡ counted_allowed end counted channel }
 {
     match counted {
-        Counted::Absent => true,
-        Counted::Given(id, _) => match channel {
-            Channel::Absent => false,
-            Channel::Given(named) => kind::may_hold(Plane::Data, end, kind::FLOW_SEQUENCE)
-                && id == named,
-        },
+        None => true,
+        Some((id, _)) => channel.is_some_and(|named| kind::may_hold(
+            Plane::Data,
+            end,
+            kind::FLOW_SEQUENCE,
+        ) && id == named),
     }
 }
 
 // A Channel Identifier other than 255.
-pub fn channel(end: End, channel: Channel) -> bool
+pub fn channel(end: End, channel: Option<u8>) -> bool
     ensures { result ≡ channel_allowed end channel }
 {
-    match channel {
-        Channel::Absent => true,
-        Channel::Given(id) => kind::may_hold(Plane::Data, end, kind::CHANNEL_IDENTIFIER)
-            && id < RESERVED_CHANNEL,
-    }
+    channel.is_none_or(|id| kind::may_hold(Plane::Data, end, kind::CHANNEL_IDENTIFIER)
+        && id < RESERVED_CHANNEL)
 }
 
 // An Expiration Time other than 0.
-pub fn expiration(end: End, expiration: Expiration) -> bool
+pub fn expiration(end: End, expiration: Option<u32>) -> bool
     ensures { result ≡ expiration_allowed end expiration }
 {
-    match expiration {
-        Expiration::Absent => true,
-        Expiration::Given(time) => kind::may_hold(Plane::Data, end, kind::EXPIRATION_TIME)
-            && time != 0,
-    }
+    expiration.is_none_or(|time| kind::may_hold(Plane::Data, end, kind::EXPIRATION_TIME)
+        && time != 0)
 }

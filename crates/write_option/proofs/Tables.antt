@@ -1,4 +1,7 @@
 -- The laws of a table's options, for any table. Assumes nothing.
+use Rattle.std.specs.Prelude.{Option, None}
+use Rattle.quantity.specs.declared.count.FlowSequence.{FlowSequence}
+use Rattle.meaning.specs.declared.message.Window.{Window}
 use Prim.Native.Nat.{ℕ, suc, ◌+◌, ◌-◌, ◌*◌, ◌≤◌, ◌<◌}
 use mathlib.Core.Path.{◌≡◌}
 use mathlib.Core.List.{List, [], ◌∷◌, ◌++◌}
@@ -7,26 +10,22 @@ use native.Mathlib.Numerals.{add-one}
 use lib.ListN.{length, get_or, take, drop, drop_of_length-le}
 use lib.Seq.{drop-cons}
 use Rattle.quantity.specs.Limits.{CHANNEL-IDS}
-use Rattle.meaning.specs.Cells.{no_status, no_sequence, no_window}
 use Rattle.meaning.proofs.Tables.{Full}
 use Rattle.wire.specs.Options.{Options, done, Laid}
-use Rattle.meaning.specs.declared.message.StatusCell.{StatusCell}
-use Rattle.meaning.specs.declared.message.SequenceCell.{SequenceCell}
-use Rattle.meaning.specs.declared.message.WindowCell.{WindowCell}
 use Rattle.write_option.specs.Laying.{alone, size_of}
 use Rattle.write_option.specs.Parts.{status_then, sequence_then, window_then, table_then, statuses_then, sequences_then, windows_then}
 use Rattle.write_option.specs.Sizes.{LONGEST-OPTION, status_size, sequence_size, window_size, table_size, statuses_size, sequences_size, windows_size}
 use Rattle.write_option.proofs.Laying.{Part, part_nothing, part_both, Standing, standing_start, standing_end, Lending, lending}
 use Rattle.write_option.proofs.Parts.{status_part_lem, sequence_part_lem, window_part_lem}
 
-abbrev pub status_at : ℕ → StatusCell → Options → Options
-status_at channel cell = status_then channel cell.status
+abbrev pub status_at : ℕ → Option ℕ → Options → Options
+status_at channel cell = status_then channel cell
 
-abbrev pub sequence_at : ℕ → SequenceCell → Options → Options
-sequence_at channel cell = sequence_then channel cell.sequence
+abbrev pub sequence_at : ℕ → Option FlowSequence → Options → Options
+sequence_at channel cell = sequence_then channel cell
 
-abbrev pub window_at : ℕ → WindowCell → Options → Options
-window_at channel cell = window_then channel cell.window
+abbrev pub window_at : ℕ → Option Window → Options → Options
+window_at channel cell = window_then channel cell
 
 -- a table: what a place of it puts, that part's size, and a place that is not there
 pub record Table (A : Type 0) : Type 0 where
@@ -35,14 +34,14 @@ pub record Table (A : Type 0) : Type 0 where
   pub part : (channel : ℕ) (cell : A) → Part (put channel cell) (size cell)
   pub none : A
 
-abbrev pub status_table : Table StatusCell
-status_table = record { put = status_at; size = λ cell. status_size cell.status; part = λ channel cell. status_part_lem channel cell.status; none = no_status }
+abbrev pub status_table : Table (Option ℕ)
+status_table = record { put = status_at; size = λ cell. status_size cell; part = λ channel cell. status_part_lem channel cell; none = None }
 
-abbrev pub sequence_table : Table SequenceCell
-sequence_table = record { put = sequence_at; size = λ cell. sequence_size cell.sequence; part = λ channel cell. sequence_part_lem channel cell.sequence; none = no_sequence }
+abbrev pub sequence_table : Table (Option FlowSequence)
+sequence_table = record { put = sequence_at; size = λ cell. sequence_size cell; part = λ channel cell. sequence_part_lem channel cell; none = None }
 
-abbrev pub window_table : Table WindowCell
-window_table = record { put = window_at; size = λ cell. window_size cell.window; part = λ channel cell. window_part_lem channel cell.window; none = no_window }
+abbrev pub window_table : Table (Option Window)
+window_table = record { put = window_at; size = λ cell. window_size cell; part = λ channel cell. window_part_lem channel cell; none = None }
 
 -- ---- a table before what follows
 
@@ -51,13 +50,13 @@ unfolding table_then table_size
 table_part t channel [] = part_nothing
 table_part t channel (cell ∷ cells) = part_both (t.part channel cell) (table_part t (suc channel) cells)
 
-pub statuses_part : (cells : List StatusCell) → Part (statuses_then cells) (statuses_size cells)
+pub statuses_part : (cells : List (Option ℕ)) → Part (statuses_then cells) (statuses_size cells)
 statuses_part = table_part status_table 0
 
-pub sequences_part : (cells : List SequenceCell) → Part (sequences_then cells) (sequences_size cells)
+pub sequences_part : (cells : List (Option FlowSequence)) → Part (sequences_then cells) (sequences_size cells)
 sequences_part = table_part sequence_table 0
 
-pub windows_part : (cells : List WindowCell) → Part (windows_then cells) (windows_size cells)
+pub windows_part : (cells : List (Option Window)) → Part (windows_then cells) (windows_size cells)
 windows_part = table_part window_table 0
 
 -- ---- laying a table down, channel by channel
@@ -114,12 +113,12 @@ module _ {A : Type 0} (size : A → ℕ) (cells : List A) (none : A) (channel : 
   unfolding table_size
   size_end h = rw (drop_of_length-le cells h)
 
-module _ (statuses : List StatusCell) (sequences : List SequenceCell) (windows : List WindowCell) where
+module _ (statuses : List (Option ℕ)) (sequences : List (Option FlowSequence)) (windows : List (Option Window)) where
   abbrev pub size_from : ℕ → ℕ
   size_from channel = statuses_size (drop channel statuses) + (sequences_size (drop channel sequences) + windows_size (drop channel windows))
 
   abbrev pub size_at : ℕ → ℕ
-  size_at channel = status_table.size (get_or statuses channel no_status) + (sequence_table.size (get_or sequences channel no_sequence) + window_table.size (get_or windows channel no_window))
+  size_at channel = status_table.size (get_or statuses channel None) + (sequence_table.size (get_or sequences channel None) + window_table.size (get_or windows channel None))
 
   -- with the bytes of the channels from here on those counted are the whole
   pub record Counting (channel size : ℕ) : Type 0 where
@@ -134,15 +133,15 @@ module _ (statuses : List StatusCell) (sequences : List SequenceCell) (windows :
   pub counting_turn : (channel size r : ℕ) → channel < CHANNEL-IDS → (r ≡ size_at channel) × (r ≤ 3 * LONGEST-OPTION) → Counting channel size → Counting (channel + 1) (size + r)
   counting_turn channel size r h e s =
       let full = s.full in
-      let a = size_step status_table.size statuses no_status channel (omega arith) in
-      let b = size_step sequence_table.size sequences no_sequence channel (omega arith) in
-      let d = size_step window_table.size windows no_window channel (omega arith) in
+      let a = size_step status_table.size statuses None channel (omega arith) in
+      let b = size_step sequence_table.size sequences None channel (omega arith) in
+      let d = size_step window_table.size windows None channel (omega arith) in
       record { full = full; inside = omega arith; few = omega (arith, s.few); whole = omega (arith, s.whole) }
 
   pub counting_end : (channel size : ℕ) → CHANNEL-IDS ≤ channel → Counting channel size → (size ≡ size_from 0) × (size ≤ 3 * LONGEST-OPTION * CHANNEL-IDS)
   counting_end channel size h s =
       let full = s.full in
-      let a = size_end status_table.size statuses no_status channel (omega arith) in
-      let b = size_end sequence_table.size sequences no_sequence channel (omega arith) in
-      let d = size_end window_table.size windows no_window channel (omega arith) in
+      let a = size_end status_table.size statuses None channel (omega arith) in
+      let b = size_end sequence_table.size sequences None channel (omega arith) in
+      let d = size_end window_table.size windows None channel (omega arith) in
       (omega (arith, s.whole), omega (arith, s.few, s.inside))

@@ -5,118 +5,113 @@ ghost use Rattle.write_option.specs.Laying.{ShortInstance, ShortContext};
 ghost use Rattle.write_option.specs.Sizes.{LONGEST-OPTION, datalink_size, instance_size, context_size, status_size, sequence_size, window_size, counted_size, channel_size, expiration_size, statuses_size, sequences_size, windows_size};
 
 use crate::size;
-use meaning::message::{
-    Channel, Context, Counted, Datalink, Expiration, Instance, Sequence, SequenceCell, Status,
-    StatusCell, Window, WindowCell,
-};
+use meaning::message::{ContextBytes, Window};
+use quantity::count::{DatalinkId, FlowSequence, LinkInstanceId};
 use quantity::limit::CHANNEL_IDS;
 use wire::option::FRAME_SIZE;
 
 // How long each option is, frame and content; 0 where nothing is stated.
-pub fn datalink(datalink: Datalink) -> usize
+pub fn datalink(datalink: Option<DatalinkId>) -> usize
     ensures { (result ≡ datalink_size datalink) × (result ≤ LONGEST-OPTION) }
 {
     match datalink {
-        Datalink::Absent => 0,
-        Datalink::Given(_) => FRAME_SIZE + 1,
+        None => 0,
+        Some(_) => FRAME_SIZE + 1,
     }
 }
 
 // By its own length.
-pub fn instance(instance: Instance) -> usize
+pub fn instance(instance: Option<(LinkInstanceId, usize)>) -> usize
     requires { ShortInstance instance }
     ensures { (result ≡ instance_size instance) × (result ≤ LONGEST-OPTION) }
 {
     match instance {
-        Instance::Absent => 0,
-        Instance::Given(_, size) => FRAME_SIZE + size,
+        None => 0,
+        Some((_, size)) => FRAME_SIZE + size,
     }
 }
 
 // By its own length.
-pub fn context(context: Context) -> usize
+pub fn context(context: Option<(ContextBytes, usize)>) -> usize
     requires { ShortContext context }
     ensures { (result ≡ context_size context) × (result ≤ LONGEST-OPTION) }
 {
     match context {
-        Context::Absent => 0,
-        Context::Given(_, size) => FRAME_SIZE + size,
+        None => 0,
+        Some((_, size)) => FRAME_SIZE + size,
     }
 }
 
-fn status(status: Status) -> usize
+fn status(status: Option<u8>) -> usize
     ensures { (result ≡ status_size status) × (result ≤ LONGEST-OPTION) }
 {
     match status {
-        Status::Absent => 0,
-        Status::Given(_) => FRAME_SIZE + 2,
+        None => 0,
+        Some(_) => FRAME_SIZE + 2,
     }
 }
 
-fn sequence(sequence: Sequence) -> usize
+fn sequence(sequence: Option<FlowSequence>) -> usize
     ensures { (result ≡ sequence_size sequence) × (result ≤ LONGEST-OPTION) }
 {
     match sequence {
-        Sequence::Absent => 0,
-        Sequence::Given(_) => FRAME_SIZE + 5,
+        None => 0,
+        Some(_) => FRAME_SIZE + 5,
     }
 }
 
-fn window(window: Window) -> usize
+fn window(window: Option<Window>) -> usize
     ensures { (result ≡ window_size window) × (result ≤ LONGEST-OPTION) }
 {
     match window {
-        Window::Absent => 0,
-        Window::Empty => FRAME_SIZE + 1,
-        Window::Given(_) => FRAME_SIZE + 5,
+        None => 0,
+        Some(Window::Empty) => FRAME_SIZE + 1,
+        Some(Window::Given(_)) => FRAME_SIZE + 5,
     }
 }
 
 // A Channel ID and 32 bits.
-pub fn counted(counted: Counted) -> usize
+pub fn counted(counted: Option<(u8, FlowSequence)>) -> usize
     ensures { (result ≡ counted_size counted) × (result ≤ LONGEST-OPTION) }
 {
     match counted {
-        Counted::Absent => 0,
-        Counted::Given(_, _) => FRAME_SIZE + 5,
+        None => 0,
+        Some((_, _)) => FRAME_SIZE + 5,
     }
 }
 
 // One byte.
-pub fn channel(channel: Channel) -> usize
+pub fn channel(channel: Option<u8>) -> usize
     ensures { (result ≡ channel_size channel) × (result ≤ LONGEST-OPTION) }
 {
     match channel {
-        Channel::Absent => 0,
-        Channel::Given(_) => FRAME_SIZE + 1,
+        None => 0,
+        Some(_) => FRAME_SIZE + 1,
     }
 }
 
 // 32 bits.
-pub fn expiration(expiration: Expiration) -> usize
+pub fn expiration(expiration: Option<u32>) -> usize
     ensures { (result ≡ expiration_size expiration) × (result ≤ LONGEST-OPTION) }
 {
     match expiration {
-        Expiration::Absent => 0,
-        Expiration::Given(_) => FRAME_SIZE + 4,
+        None => 0,
+        Some(_) => FRAME_SIZE + 4,
     }
 }
 
 // What the tables state of one channel.
-fn cells(status: StatusCell, sequence: SequenceCell, window: WindowCell) -> usize
-    ensures { (result ≡ status_size status.status + (sequence_size sequence.sequence + window_size window.window)) × (result ≤ 3 * LONGEST-OPTION) }
+fn cells(status: Option<u8>, sequence: Option<FlowSequence>, window: Option<Window>) -> usize
+    ensures { (result ≡ status_size status + (sequence_size sequence + window_size window)) × (result ≤ 3 * LONGEST-OPTION) }
 {
-    let given_status = status.status;
-    let given_sequence = sequence.sequence;
-    let given_window = window.window;
-    size::status(given_status) + size::sequence(given_sequence) + size::window(given_window)
+    size::status(status) + size::sequence(sequence) + size::window(window)
 }
 
 // The options of a control message's three tables together.
 pub fn tables(
-    statuses: [StatusCell; CHANNEL_IDS],
-    sequences: [SequenceCell; CHANNEL_IDS],
-    windows: [WindowCell; CHANNEL_IDS],
+    statuses: [Option<u8>; CHANNEL_IDS],
+    sequences: [Option<FlowSequence>; CHANNEL_IDS],
+    windows: [Option<Window>; CHANNEL_IDS],
 ) -> usize
     ensures { (result ≡ statuses_size statuses + (sequences_size sequences + windows_size windows)) × (result ≤ 3 * LONGEST-OPTION * CHANNEL-IDS) }
 {

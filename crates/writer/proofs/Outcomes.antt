@@ -1,4 +1,7 @@
 -- A writer's outcome, from what its code learns on the way. Assumes nothing.
+use Rattle.std.specs.Prelude.{Result, Ok, Err}
+use Rattle.quantity.specs.declared.count.ByteCount.{ByteCount}
+use Rattle.quantity.specs.declared.refusal.Refusal.{Refusal}
 use Prim.Native.Nat.{ℕ, ◌≤◌}
 use mathlib.Core.Path.{◌≡◌, refl, sym, ap, ◌∙◌}
 use mathlib.Core.Bool.{Bool, true, false, not, ◌||◌}
@@ -10,11 +13,10 @@ use lib.ListN.{length}
 use Rattle.quantity.specs.Limits.{LONGEST-DATAGRAM}
 use Rattle.quantity.specs.Refusals.{NO-ROOM, NOT-WRITABLE}
 use Rattle.wire.specs.Options.{Laid}
-use Rattle.writer.specs.declared.answer.WriteAnswer.{WriteAnswer}
 use Rattle.writer.specs.Written.{no_room_of, Outcome}
 
-pub outcome_refused : {allowed may : Bool} {message out : List ℕ} {a : WriteAnswer} → may ≡ allowed → not may ≡ true
-    → a ≡ WriteAnswer.Refused (record { number = NOT-WRITABLE; place = 0 }) → Outcome allowed message out a out
+pub outcome_refused : {allowed may : Bool} {message out : List ℕ} {a : Result ByteCount Refusal} → may ≡ allowed → not may ≡ true
+    → a ≡ Err (record { number = NOT-WRITABLE; place = 0 }) → Outcome allowed message out a out
 outcome_refused {may = may} e t a = let n = not-true may t in record { answers = a ∙ rw (← e, n); bytes_are = rw (← e, n) }
 
 -- what the code knows where 18 is judged: the message may be written, and whether there is no room for it
@@ -27,10 +29,10 @@ pub judged_by_lem : {allowed may full : Bool} {message out : List ℕ} {size : �
 judged_by_lem {may = may} {out = out} e t l f = record { yes = sym e ∙ not-false may t; room_is = sym (f ∙ ap (λ (n : ℕ). no_room_of n (length out)) l) }
 
 module _ {allowed full : Bool} {message out : List ℕ} (j : Judged allowed message out full) where
-  pub outcome_no_room : {a : WriteAnswer} → full ≡ true → a ≡ WriteAnswer.Refused (record { number = NO-ROOM; place = 0 }) → Outcome allowed message out a out
+  pub outcome_no_room : {a : Result ByteCount Refusal} → full ≡ true → a ≡ Err (record { number = NO-ROOM; place = 0 }) → Outcome allowed message out a out
   outcome_no_room k a = record { answers = a ∙ rw (j.yes, j.room_is, k); bytes_are = rw (j.yes, j.room_is, k) }
 
-  pub outcome_wrote : {r : ℕ} {exit : List ℕ} → full ≡ false → Laid message out exit r → Outcome allowed message out (WriteAnswer.Wrote (record { 0 = r })) exit
+  pub outcome_wrote : {r : ℕ} {exit : List ℕ} → full ≡ false → Laid message out exit r → Outcome allowed message out (Ok (record { 0 = r })) exit
   outcome_wrote k laid = record { answers = rw (j.yes, j.room_is, k, laid.count_is); bytes_are = rw (j.yes, j.room_is, k) laid.bytes_are }
 
   pub room_enough : full ≡ false → length message ≤ length out

@@ -1,4 +1,7 @@
 -- The contents of a meaning that may be written are short. Assumes nothing.
+use Rattle.std.specs.Prelude.{Option, Some, None}
+use Rattle.quantity.specs.declared.count.LinkInstanceId.{LinkInstanceId}
+use Rattle.meaning.specs.declared.message.ContextBytes.{ContextBytes}
 use Prim.Native.Nat.{ℕ, ◌≤◌, ◌<◌, ◌^◌}
 use mathlib.Core.Path.{◌≡◌}
 use mathlib.Core.Bool.{Bool, true, ◌&&◌, and-eq-true_iff}
@@ -8,8 +11,6 @@ use Rattle.quantity.specs.Limits.{SHORTEST-NAME, LONGEST-NAME}
 use Rattle.meaning.specs.Kinds.{length_listed, LINK-INSTANCE, DATALINK-CONTEXT}
 use Rattle.meaning.specs.declared.message.End.{End}
 use Rattle.meaning.specs.declared.message.Plane.TheVariants as planes
-use Rattle.meaning.specs.declared.message.Instance.{Instance}
-use Rattle.meaning.specs.declared.message.Context.{Context}
 use Rattle.meaning.specs.declared.message.Control.{Control}
 use Rattle.meaning.specs.declared.message.Data.{Data}
 use Rattle.writable.specs.Allowed.{may, datalink_allowed, instance_allowed, context_allowed, control_allowed, counted_allowed, channel_allowed, expiration_allowed, data_allowed}
@@ -20,15 +21,15 @@ short_length a number n e =
     let listed = ((and-eq-true_iff (leb SHORTEST-NAME n && leb n LONGEST-NAME) (ltb number (256 ^ n))).0 ((and-eq-true_iff a _).0 e).1).0 in
     leb-true n LONGEST-NAME ((and-eq-true_iff (leb SHORTEST-NAME n) (leb n LONGEST-NAME)).0 listed).1
 
-instance_short : (end : End) (instance : Instance) → instance_allowed end instance ≡ true → ShortInstance instance
+instance_short : (end : End) (instance : Option (LinkInstanceId × ℕ)) → instance_allowed end instance ≡ true → ShortInstance instance
 unfolding length_listed
-instance_short end Instance.Absent e = tt
-instance_short end (Instance.Given v n) e = short_length (may planes.Control end LINK-INSTANCE) v.0 n e
+instance_short end None e = tt
+instance_short end (Some (v, n)) e = short_length (may planes.Control end LINK-INSTANCE) v.0 n e
 
-context_short : (end : End) (context : Context) → context_allowed end context ≡ true → ShortContext context
+context_short : (end : End) (context : Option (ContextBytes × ℕ)) → context_allowed end context ≡ true → ShortContext context
 unfolding length_listed
-context_short end Context.Absent e = tt
-context_short end (Context.Given b n) e = short_length (may planes.Control end DATALINK-CONTEXT) b.0 n e
+context_short end None e = tt
+context_short end (Some (b, n)) e = short_length (may planes.Control end DATALINK-CONTEXT) b.0 n e
 
 pub control_short : (end : End) (m : Control) → control_allowed end m ≡ true → ShortNames m
 unfolding control_allowed

@@ -1,13 +1,14 @@
 -- The one way in which a meaning is written. "The writer's order: Datalink Identifier, Link Instance, Context, Channel Status, Flow Sequence or
 -- Flow Window, each by rising Channel ID, then Channel Identifier, Expiration Time, Packet Data."
-use Rattle.std.specs.Prelude.{ℕ, List, ◌∷◌, ◌≡◌, Bool, cond, ◌||◌, length, ltb}
+use Rattle.quantity.specs.declared.count.ByteCount.{ByteCount}
+use Rattle.quantity.specs.declared.refusal.Refusal.{Refusal}
+use Rattle.std.specs.Prelude.{ℕ, List, ◌∷◌, ◌≡◌, Bool, cond, ◌||◌, length, ltb, Result, Ok, Err}
 use Rattle.quantity.specs.Limits.{LONGEST-DATAGRAM}
 use Rattle.quantity.specs.Refusals.{NO-ROOM, NOT-WRITABLE}
 use Rattle.wire.specs.Options.{Options, done, option, bytes, over}
 use Rattle.meaning.specs.declared.message.Control.{Control}
 use Rattle.meaning.specs.declared.message.Data.{Data}
 use Rattle.meaning.specs.Kinds.{PACKET-DATA}
-use Rattle.writer.specs.declared.answer.WriteAnswer.{WriteAnswer}
 pub use Rattle.write_option.specs.Parts.{datalink_then, instance_then, context_then, status_then, sequence_then, window_then, statuses_then, sequences_then, windows_then, counted_then, channel_then, expiration_then}
 unfoldable pub use Rattle.write_option.specs.Parts.{table_then}
 
@@ -39,16 +40,16 @@ abbrev pub no_room_of : ℕ → ℕ → Bool
 no_room_of size room = ltb room size || ltb LONGEST-DATAGRAM size
 
 -- WRITING: 20, then 18, then the message over the first bytes of the output; "bytes behind the message stay"
-abbrev pub answer_to : Bool → List ℕ → ℕ → WriteAnswer
+abbrev pub answer_to : Bool → List ℕ → ℕ → Result ByteCount Refusal
 answer_to allowed message room =
     cond allowed
-    (cond (no_room_of (length message) room) (WriteAnswer.Refused (record { number = NO-ROOM; place = 0 })) (WriteAnswer.Wrote (record { 0 = length message })))
-    (WriteAnswer.Refused (record { number = NOT-WRITABLE; place = 0 }))
+    (cond (no_room_of (length message) room) (Err (record { number = NO-ROOM; place = 0 })) (Ok (record { 0 = length message })))
+    (Err (record { number = NOT-WRITABLE; place = 0 }))
 
 abbrev pub out_after : Bool → List ℕ → List ℕ → List ℕ
 out_after allowed message out = cond allowed (cond (no_room_of (length message) (length out)) out (over message out)) out
 
 -- the outcome of writing a message that is allowed or not into an output: the answer, and every byte of the output
-pub record Outcome (allowed : Bool) (message out : List ℕ) (answer : WriteAnswer) (out' : List ℕ) : Type 0 where
+pub record Outcome (allowed : Bool) (message out : List ℕ) (answer : Result ByteCount Refusal) (out' : List ℕ) : Type 0 where
   pub answers : answer ≡ answer_to allowed message (length out)
   pub bytes_are : out' ≡ out_after allowed message out

@@ -6,10 +6,10 @@ ghost use Rattle.writable.specs.Allowed.{control_allowed};
 ghost use Rattle.writer.specs.Written.{control_written, Outcome};
 
 use crate::answer;
-use crate::answer::WriteAnswer;
 use meaning::message::{Control, End};
 use quantity::count::ByteCount;
 use quantity::refusal;
+use quantity::refusal::Refusal;
 use write_option::{option, size, table};
 
 // Version 1, the control plane.
@@ -56,7 +56,7 @@ fn lay(message: Control, out: &mut [u8]) -> usize
 }
 
 // 20 and 18 are judged before a byte is touched.
-pub fn write(end: End, message: Control, out: &mut [u8]) -> WriteAnswer
+pub fn write(end: End, message: Control, out: &mut [u8]) -> Result<ByteCount, Refusal>
     ensures { Outcome (control_allowed end message) (control_written message) out.old result out.new }
 {
     if !writable::control::may_write(end, message) {
@@ -65,5 +65,5 @@ pub fn write(end: End, message: Control, out: &mut [u8]) -> WriteAnswer
     if answer::no_room(size(message), out.len()) {
         return answer::refused(refusal::NO_ROOM);
     }
-    WriteAnswer::Wrote(ByteCount(lay(message, out)))
+    Ok(ByteCount(lay(message, out)))
 }

@@ -5,10 +5,10 @@ ghost use Rattle.writable.specs.Allowed.{data_allowed};
 ghost use Rattle.writer.specs.Written.{data_written, Outcome};
 
 use crate::answer;
-use crate::answer::WriteAnswer;
 use meaning::message::{Data, End};
 use quantity::count::ByteCount;
 use quantity::refusal;
+use quantity::refusal::Refusal;
 use wire::option::FRAME_SIZE;
 use write_option::{option, size};
 
@@ -52,7 +52,7 @@ fn lay(message: Data, packet: &[u8], out: &mut [u8]) -> usize
 }
 
 // 20 and 18 are judged before a byte is touched.
-pub fn write(end: End, message: Data, packet: &[u8], out: &mut [u8]) -> WriteAnswer
+pub fn write(end: End, message: Data, packet: &[u8], out: &mut [u8]) -> Result<ByteCount, Refusal>
     ensures { Outcome (data_allowed end message (length packet.now)) (data_written message packet.now) out.old result out.new }
 {
     if !writable::data::may_write(end, message, packet.len()) {
@@ -61,5 +61,5 @@ pub fn write(end: End, message: Data, packet: &[u8], out: &mut [u8]) -> WriteAns
     if answer::no_room(size(message, packet), out.len()) {
         return answer::refused(refusal::NO_ROOM);
     }
-    WriteAnswer::Wrote(ByteCount(lay(message, packet, out)))
+    Ok(ByteCount(lay(message, packet, out)))
 }

@@ -8,12 +8,12 @@ returns-in_default c = rw c.in_default.is c.refused.ensures
 
 pub returns-in_default-ips : goal.returns-in_default-ips
 unfolding words_say
-returns-in_default-ips c = rw (c.in-Value.is, c.in_default-ips.is) c.refused-in_default-ips.ensures
+returns-in_default-ips c = rw (c.in-Some.is, c.in_default-ips.is) c.refused-in_default-ips.ensures
 
 pub returns-in_default-datalink : goal.returns-in_default-datalink
 unfolding words_say
-returns-in_default-datalink c = rw (c.in-Value.is, c.in-Value-ips.is, c.in_default-datalink.is) c.refused-in_default-datalink.ensures
+returns-in_default-datalink c = rw (c.in-Some.is, c.in-Some-ips.is, c.in_default-datalink.is) c.refused-in_default-datalink.ensures
 
 pub returns : goal.returns
 unfolding words_say
-returns c = rw (c.in-Value.is, c.in-Value-ips.is, c.in-Value-datalink.is) c.numbers_say.ensures
+returns c = rw (c.in-Some.is, c.in-Some-ips.is, c.in-Some-datalink.is) c.numbers_say.ensures

@@ -1,10 +1,7 @@
-use Prim.Native.Nat.{◌-◌, ◌≤◌}
-use Rattle.quantity.specs.Limits.{CHANNEL-IDS}
-use Rattle.conduct.proofs.Steps.{Heard}
+-- The channels so far are heard.
+use mathlib.Core.Path.{◌≡◌}
+use Rattle.conduct.specs.Words.{heard_up_to}
 use Rattle.conduct.proofs.hear.Given as goal
 
 abbrev pub invariant-loop-i : goal.invariant-loop-i
-invariant-loop-i l = (l.i ≤ CHANNEL-IDS) × Heard l.cells l.initial.words l.i l.words
-
-abbrev pub decreases-loop-i : goal.decreases-loop-i
-decreases-loop-i l = CHANNEL-IDS - l.i
+invariant-loop-i l = l.words ≡ heard_up_to l.i l.cell-items l.initial.words

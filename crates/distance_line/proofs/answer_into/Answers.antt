@@ -12,5 +12,5 @@ returns-in_default c =
 
 pub returns : goal.returns
 returns c =
-    let read = sym c.read_line.ensures ∙ c.in-Numbers.is in
+    let read = sym c.read_line.ensures ∙ c.in-Some.is in
     answer_as _ read c.put_row.ensures

@@ -1,16 +1,13 @@
--- `part` meets its contract: both ends within the bytes, or not. Assumes nothing.
-use native.Mathlib.Omega.{arith}
-use Rattle.ethernet.proofs.Parts.{slice_inside, slice_crossed, slice_past, slice_rest}
+-- `part` meets its contract: both ends within the bytes, or nothing between them. Assumes nothing.
+use Rattle.std.proofs.Common.{sym, ◌∙◌, arith}
+use Rattle.octets.proofs.Search.{slice_is}
+use Rattle.ethernet.proofs.Parts.{slice_crossed, slice_cut}
 use Rattle.ethernet.proofs.part.Goals as goal
 
-pub returns-then-from-to : goal.returns-then-from-to
-returns-then-from-to c = slice_inside _ _ _ (omega arith) (omega arith)
+pub returns-in-Some : goal.returns-in-Some
+returns-in-Some c =
+    let found = c.in-Some.ensures.lookup.0 in
+    found.2 ∙ sym (slice_is c.args.from c.min.result c.args.bytes.now found.0) ∙ rw c.min.ensures (slice_cut _ _ _)
 
-pub returns-then-to-bytes : goal.returns-then-to-bytes
-returns-then-to-bytes c = slice_crossed _ _ _ (omega arith)
-
-pub returns-then-from-bytes : goal.returns-then-from-bytes
-returns-then-from-bytes c = slice_rest _ _ _ (omega arith) (omega arith)
-
-pub returns : goal.returns
-returns c = slice_past _ _ _ (omega arith) (omega arith)
+pub returns-in-None : goal.returns-in-None
+returns-in-None c = slice_crossed c.args.from c.min.result c.args.bytes.now (omega (arith, c.in-None.ensures.lookup.0)) ∙ rw c.min.ensures (slice_cut _ _ _)

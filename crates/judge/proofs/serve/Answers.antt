@@ -1,41 +1,21 @@
 -- `serve` meets its contract: turn after turn, each on what the one before left. Assumes nothing.
-use mathlib.Core.Path.{◌∙◌}
 use native.Mathlib.Omega.{arith}
-use Rattle.judge.proofs.Serving.{serving_start, serving_end, serving_refused, serving_tired, serving_on}
+use Rattle.records.proofs.Pieces.{going_start}
+use Rattle.judge.specs.Serving.{no_tally}
+use Rattle.judge.proofs.Serving.{judging, serving_end, serving_refused, serving_tired, serving_on}
 use Rattle.judge.proofs.serve.Goals as goal
 
-pub loop-number-init : goal.loop-number-init
-loop-number-init g c = rw c.start-input.ensures (serving_start _ _)
-
-pub shape_of-buffer-in-End : goal.shape_of-buffer-in-End
-shape_of-buffer-in-End g c = c.turn-left.auto.buffer ∙ c.loop-number.invariant.going.size
-
-pub shape_of-words-in-End : goal.shape_of-words-in-End
-shape_of-words-in-End g c = c.turn-left.auto.words ∙ c.loop-number.invariant.words_size
+pub loop-before-init : goal.loop-before-init
+loop-before-init g c = rw c.start-input.ensures (going_start (judging c.args.ports c.args.id) _ (1, c.args.words.now, no_tally))
 
 pub returns-in-End : goal.returns-in-End
-returns-in-End g c = serving_end c.loop-number.invariant (omega arith) c.turn-left.ensures c.in-End.is
+returns-in-End g c = serving_end c.loop-before.invariant (omega arith) c.turn-left.ensures c.in-End.is
 
-pub loop-number-smaller : goal.loop-number-smaller
-loop-number-smaller g c = omega (arith, c.loop-number-test.true)
-
-pub loop-number-preserved : goal.loop-number-preserved
-loop-number-preserved g c = serving_on c.loop-number.invariant (omega arith) c.turn-left.ensures c.loop-number-test.true c.in-Record.is c.turn-left.auto.buffer c.turn-left.auto.words
-
-pub shape_of-buffer-in-Refused : goal.shape_of-buffer-in-Refused
-shape_of-buffer-in-Refused g c = c.turn-left.auto.buffer ∙ c.loop-number.invariant.going.size
-
-pub shape_of-words-in-Refused : goal.shape_of-words-in-Refused
-shape_of-words-in-Refused g c = c.turn-left.auto.words ∙ c.loop-number.invariant.words_size
+pub loop-before-preserved : goal.loop-before-preserved
+loop-before-preserved g c = serving_on c.loop-before.invariant (omega arith) c.turn-left.ensures c.in-Record.is c.turn-left.auto.buffer
 
 pub returns-in-Refused : goal.returns-in-Refused
-returns-in-Refused g c = serving_refused c.loop-number.invariant (omega arith) c.turn-left.ensures c.in-Refused.is
-
-pub shape_of-buffer : goal.shape_of-buffer
-shape_of-buffer g c = c.loop-number.invariant.going.size
-
-pub shape_of-words : goal.shape_of-words
-shape_of-words g c = c.loop-number.invariant.words_size
+returns-in-Refused g c = serving_refused c.loop-before.invariant (omega arith) c.turn-left.ensures c.in-Refused.is
 
 pub returns : goal.returns
-returns g c = serving_tired c.loop-number.invariant (omega (arith, c.loop-number-test.false))
+returns g c = serving_tired c.loop-before.invariant (omega arith)

@@ -1,16 +1,6 @@
 -- `turn` meets its contract, by what came. Assumes nothing.
 use Rattle.judge.proofs.Serving.{turn_end, turn_refused, turn_record}
-use Rattle.records.proofs.Pieces.{came_inside}
 use Rattle.judge.proofs.turn.Goals as goal
-
-pub slice_bounds-judge-count : goal.slice_bounds-judge-count
-slice_bounds-judge-count g c = (came_inside c.read_record-came.ensures c.in-Record.is).0
-
-pub slice_bounds-judge-start : goal.slice_bounds-judge-start
-slice_bounds-judge-start g c = (came_inside c.read_record-came.ensures c.in-Record.is).0
-
-pub slice_bounds-judge-end : goal.slice_bounds-judge-end
-slice_bounds-judge-end g c = (came_inside c.read_record-came.ensures c.in-Record.is).1
 
 pub returns-in-End : goal.returns-in-End
 returns-in-End g c = turn_end c.read_record-came.ensures c.in-End.is

@@ -1,20 +1,15 @@
-use Rattle.std.proofs.Common.{◌≡◌, arith, add-one}
-use Rattle.octets.proofs.Search.{index_none, index_here, index_on}
+use Rattle.std.proofs.Common.{◌≡◌, ◌-◌, take, drop, length, length-drop, length-take-le, arith, sym}
+use Rattle.octets.proofs.Search.{index_found, index_absent, slice_is}
 use Rattle.octets.proofs.find.Goals as goal
 
-pub returns-then-text-at-clause-place : goal.returns-then-text-at-clause-place
-returns-then-text-at-clause-place c =
-    let here = index_here c.args.byte c.args.text.now c.loop-at.at c.args.to c.loop-at-test.true c.requires.in_bounds c.if-text-at.true in
-    omega (arith, c.loop-at.invariant, here)
+pub returns-in-Some-clause-place : goal.returns-in-Some-clause-place
+returns-in-Some-clause-place c =
+    let at = index_found c.args.byte c.in-Some.at _ (sym c.in-Some.ensures) in
+    rw (slice_is c.args.from c.args.to c.args.text.now c.requires.in_order) (omega (arith, at))
 
-pub loop-at-preserved : goal.loop-at-preserved
-loop-at-preserved c =
-    let on = index_on c.args.byte c.args.text.now c.loop-at.at c.args.to c.loop-at-test.true c.requires.in_bounds c.if-text-at.false in
-    (omega arith, omega arith, rw (add-one c.loop-at.at) (omega (arith, c.loop-at.invariant, on)))
-
-pub returns-clause-place : goal.returns-clause-place
-returns-clause-place c =
-    let end : c.loop-at.at ≡ c.args.to = omega arith in
-    let none = index_none c.args.byte c.args.text.now c.args.to in
-    let known = rw end at c.loop-at.invariant.2 in
-    omega (arith, known, none)
+pub returns-in-None-clause-place : goal.returns-in-None-clause-place
+returns-in-None-clause-place c =
+    let part = take (c.args.to - c.args.from) (drop c.args.from c.args.text.now) in
+    let all = index_absent c.args.byte part (sym c.in-None.ensures) in
+    let whole : length part ≡ c.args.to - c.args.from = length-take-le (c.args.to - c.args.from) (drop c.args.from c.args.text.now) (simp length-drop (omega arith)) in
+    rw (slice_is c.args.from c.args.to c.args.text.now c.requires.in_order) (omega (arith, all, whole))

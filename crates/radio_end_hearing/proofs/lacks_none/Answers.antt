@@ -1,25 +1,14 @@
 -- `lacks_none` meets its contract. Assumes nothing.
-use native.Mathlib.Omega.{arith}
-use Rattle.radio_end_hearing.proofs.Passing.{ask_start, ask_out, ask_on, ask_end}
+use mathlib.Core.Path.{refl}
+use Rattle.std.proofs.Common.{rules}
+use Rattle.quantity.specs.Limits.{CHANNEL-IDS}
+use Rattle.lent_messages.proofs.Ranges.{all_from_Range}
+use Rattle.radio_end_state.specs.Calls.{names_own}
+use Rattle.radio_end_words.specs.Words.{state_in}
+use Rattle.radio_end_hearing.proofs.Passing.{all_own, one_lacks}
 use Rattle.radio_end_hearing.proofs.lacks_none.Goals as goal
 
-pub loop-id-init : goal.loop-id-init
-loop-id-init c = ask_start _ _
-
-pub names_own-requires : goal.names_own-requires
-names_own-requires c = c.requires
-
-pub returns-then-not-names_own : goal.returns-then-not-names_own
-returns-then-not-names_own c = ask_out _ _ _ c.loop-id-test.true _ c.names_own.ensures (c.if-not-names_own.true)
-
-pub overflow_add-id : goal.overflow_add-id
-overflow_add-id c = omega (arith, c.loop-id-test.true)
-
-pub loop-id-smaller : goal.loop-id-smaller
-loop-id-smaller c = omega (arith, c.loop-id-test.true)
-
-pub loop-id-preserved : goal.loop-id-preserved
-loop-id-preserved c = ask_on _ _ _ c.loop-id.invariant c.loop-id-test.true _ c.names_own.ensures (c.if-not-names_own.false)
-
 pub returns : goal.returns
-returns c = ask_end _ _ _ c.loop-id.invariant c.loop-id-test.false
+returns c =
+    let s = state_in c.args.words.now in
+    all_from_Range (names_own s c.args.message.now) CHANNEL-IDS _ _ c.all.result _ c.all.ensures.ran refl (λ x a q k. search rules) (all_own s c.args.message.now) (one_lacks s c.args.message.now)

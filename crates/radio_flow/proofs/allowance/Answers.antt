@@ -8,4 +8,4 @@ use Rattle.radio_flow.proofs.allowance.Goals as goal
 
 pub returns : goal.returns
 unfolding allowance_of
-returns c = ap {B = ByteCount} (λ (n : ℕ). record { 0 = n }) (omega (arith, c.sum_cut.ensures, c.less.ensures, c.less-over.ensures, c.less-above.ensures))
+returns c = ap {B = ByteCount} (λ (n : ℕ). record { 0 = n }) (omega arith)

@@ -6,10 +6,10 @@ pub returns-then-not-controlled : goal.returns-then-not-controlled
 unfolding hearing
 returns-then-not-controlled c = rw c.if-not-controlled.true
 
-pub returns-in-Absent : goal.returns-in-Absent
+pub returns-in-None : goal.returns-in-None
 unfolding hearing
-returns-in-Absent c = rw (c.if-not-controlled.false, c.in-Absent.is)
+returns-in-None c = rw (c.if-not-controlled.false, c.in-None.is)
 
-pub returns-in-Given : goal.returns-in-Given
+pub returns-in-Some : goal.returns-in-Some
 unfolding hearing
-returns-in-Given c = rw (c.if-not-controlled.false, c.in-Given.is) c.hear.ensures
+returns-in-Some c = rw (c.if-not-controlled.false, c.in-Some.is) c.hear.ensures

@@ -6,10 +6,6 @@ use Rattle.quantity.specs.declared.count.ByteCount.{ByteCount}
 use Rattle.radio_flow.specs.Granting.{queued_on}
 use Rattle.radio_flow.proofs.queue.Goals as goal
 
-pub returns-then-queued-bytes : goal.returns-then-queued-bytes
-unfolding queued_on
-returns-then-queued-bytes c = ap {B = ByteCount} (λ (n : ℕ). record { 0 = n }) (omega arith)
-
 pub returns : goal.returns
 unfolding queued_on
 returns c = ap {B = ByteCount} (λ (n : ℕ). record { 0 = n }) (omega arith)

@@ -2,4 +2,4 @@
 use Rattle.read_data.proofs.is_paired.Goals as goal
 
 pub returns : goal.returns
-returns c = rw (c.in-Given.is, c.in-Given-channel.is)
+returns c = rw (c.in-Some.is, c.in-Some-channel.is)

@@ -5,12 +5,12 @@ use Rattle.records.proofs.is_right.Goals as goal
 
 pub returns-then-pair-ne2 : goal.returns-then-pair-ne2
 unfolding is_right
-returns-then-pair-ne2 c = rw (← c.pair.ensures.value) (simp (ne_eqb _ 2 c.if-pair-ne2.true))
+returns-then-pair-ne2 c = rw (← c.pair.ensures) (simp (ne_eqb _ 2 c.if-pair-ne2.true))
 
 pub returns-then-pair-ne4 : goal.returns-then-pair-ne4
 unfolding is_right
-returns-then-pair-ne4 c = rw (← c.pair.ensures.value, ← c.pair-2.ensures.value) (simp (eq-eqb _ 2 c.if-pair-ne2.false, ne_eqb _ 4 c.if-pair-ne4.true))
+returns-then-pair-ne4 c = rw (← c.pair.ensures, ← c.pair-2.ensures) (simp (eq-eqb _ 2 c.if-pair-ne2.false, ne_eqb _ 4 c.if-pair-ne4.true))
 
 pub returns : goal.returns
 unfolding is_right
-returns c = rw (← c.pair.ensures.value, ← c.pair-2.ensures.value, ← c.number.ensures) (simp (eq-eqb _ 2 c.if-pair-ne2.false, eq-eqb _ 4 c.if-pair-ne4.false))
+returns c = rw (← c.pair.ensures, ← c.pair-2.ensures, ← c.number.ensures) (simp (eq-eqb _ 2 c.if-pair-ne2.false, eq-eqb _ 4 c.if-pair-ne4.false))

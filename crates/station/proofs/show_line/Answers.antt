@@ -2,8 +2,8 @@
 use Rattle.station.proofs.Laws.{shows, shows_refused}
 use Rattle.station.proofs.show_line.Goals as goal
 
-pub returns-in-Shown : goal.returns-in-Shown
-returns-in-Shown c = shows _ _ c.show.ensures c.in-Shown.is c.channel.ensures
+pub returns-in-Ok : goal.returns-in-Ok
+returns-in-Ok c = shows _ _ c.show.ensures c.in-Ok.is c.channel.ensures
 
-pub returns-in-Refused : goal.returns-in-Refused
-returns-in-Refused c = shows_refused _ _ c.show.ensures c.in-Refused.is c.refused.ensures
+pub returns-in-Err : goal.returns-in-Err
+returns-in-Err c = shows_refused _ _ c.show.ensures c.in-Err.is c.refused.ensures

@@ -7,10 +7,3 @@ use Rattle.bench_reader.proofs.digest.packet_sum.Goals as goal
 pub returns-then-n-eq0 : goal.returns-then-n-eq0
 unfolding packet_sum
 returns-then-n-eq0 c = rw (c.mix-then-n-eq0.ensures, c.mix.ensures, get_or-eq_default c.args.packet.now 0 {n = length c.args.packet.now - 1} (omega arith), c.if-n-eq0.true)
-
-pub overflow_cast-packet : goal.overflow_cast-packet
-overflow_cast-packet c = omega (arith, c.type_inv.packet (length c.args.packet.now - 1))
-
-pub returns : goal.returns
-unfolding packet_sum
-returns c = rw (c.mix-3.ensures, c.mix-2.ensures)

@@ -1,6 +1,6 @@
 -- `channel::save` meets its contract. Assumes nothing.
 use native.Mathlib.Omega.{arith}
-use Rattle.endpoint.proofs.Placing.{few, slot_ends, part_long, part_saved}
+use Rattle.endpoint.proofs.Placing.{few, slot_ends, part_saved}
 use Rattle.endpoint.proofs.channel.save.Goals as goal
 
 pub overflow_mul-from : goal.overflow_mul-from
@@ -17,9 +17,6 @@ offset_bounds-words-from c = omega (arith, few _ _ c.requires)
 
 pub slice_bounds-save-end : goal.slice_bounds-save-end
 slice_bounds-save-end c = slot_ends _ _ c.requires
-
-pub save-requires : goal.save-requires
-save-requires c = part_long _ _ c.requires
 
 pub returns : goal.returns
 returns c = part_saved _ _ c.requires _ _ c.save.ensures

@@ -3,10 +3,10 @@ use Rattle.endpoint.proofs.Showing.{channel_placed, channel_shown}
 use Rattle.endpoint.proofs.shown.find_channel.Goals as goal
 
 pub load-channel-requires : goal.load-channel-requires
-load-channel-requires c = channel_placed _ _ _ c.survey_words-survey.ensures _ c.find.ensures _ c.in-At.is
+load-channel-requires c = channel_placed _ _ _ c.memory_asked.ensures _ c.find-place.ensures _ c.in-Ok.is
 
-pub returns-in-At : goal.returns-in-At
-returns-in-At c = channel_shown _ _ _ c.survey_words-survey.ensures _ c.find.ensures _ _ c.in-At.is c.load-channel.ensures
+pub returns-in-Ok : goal.returns-in-Ok
+returns-in-Ok c = channel_shown _ _ _ c.memory_asked.ensures _ c.find-place.ensures _ _ c.in-Ok.is c.load-channel.ensures
 
-pub returns-in-Refused : goal.returns-in-Refused
-returns-in-Refused c = channel_shown _ _ _ c.survey_words-survey.ensures _ c.find.ensures _ _ c.in-Refused.is c.fresh-channel.ensures
+pub returns-in-Err : goal.returns-in-Err
+returns-in-Err c = rw c.in-Err.is (channel_shown _ _ _ c.memory_asked.ensures _ c.find-place.ensures _ _ c.in-Err.is c.fresh-channel.ensures)

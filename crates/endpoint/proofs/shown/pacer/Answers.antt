@@ -1,19 +1,16 @@
 -- `shown::pacer` meets its contract. Assumes nothing.
-use borrow.Author.Tests.{not-true, not-false}
-use mathlib.Core.Bool.{true}
-use mathlib.Core.Path.{◌≡◌}
-use Rattle.ips_state.specs.Limits.{state_fits}
+use Rattle.std.proofs.lemmas.Result.{err_from_is_err_and}
 use Rattle.ips_words.specs.Words.{state_in}
-use Rattle.ips_words_survey.proofs.Finding.{survey_unfit, survey_fits}
+use Rattle.ips_words_survey.proofs.Finding.{judged_within, judged_outside}
 use Rattle.ips_words_query.proofs.Gathering.{said_head}
 use Rattle.endpoint.proofs.Showing.{pacer_unfit, pacer_told}
 use Rattle.endpoint.proofs.shown.pacer.Goals as goal
 
-pub returns-then-not-survey : goal.returns-then-not-survey
-returns-then-not-survey c = pacer_unfit _ (survey_unfit _ _ _ c.survey_words-survey.ensures (not-true _ c.if-not-survey.true))
+pub returns-in_err-judge : goal.returns-in_err-judge
+returns-in_err-judge c = let p = err_from_is_err_and c.from_residual.result c.from_residual.ensures.1 in rw (p.1, p.2, (judged_outside (state_in c.args.words.now) c.in_err-judge.ensures).1) (pacer_unfit _ (judged_outside (state_in c.args.words.now) c.in_err-judge.ensures).0)
 
 pub pacer-requires : goal.pacer-requires
-pacer-requires c = (said_head _ ((let the_fits : state_fits (state_in c.args.words.now) ≡ true = survey_fits _ _ _ c.survey_words-survey.ensures (not-false _ c.if-not-survey.false) in the_fits))).0
+pacer-requires c = (said_head _ (judged_within (state_in c.args.words.now) c.in_ok-judge.ensures)).0
 
 pub returns : goal.returns
-returns c = pacer_told _ ((let the_fits : state_fits (state_in c.args.words.now) ≡ true = survey_fits _ _ _ c.survey_words-survey.ensures (not-false _ c.if-not-survey.false) in the_fits)) _ c.pacer.ensures
+returns c = pacer_told _ (judged_within (state_in c.args.words.now) c.in_ok-judge.ensures) _ c.pacer.ensures

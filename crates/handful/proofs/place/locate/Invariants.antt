@@ -1,9 +1,5 @@
-use Prim.Native.Nat.{◌-◌}
 use Rattle.handful.proofs.Locating.{Locating}
 use Rattle.handful.proofs.place.locate.Given as goal
 
 abbrev pub invariant-loop-index : goal.invariant-loop-index
-invariant-loop-index l = Locating l.words l.id l.start l.index l.from
-
-abbrev pub decreases-loop-index : goal.decreases-loop-index
-decreases-loop-index l = l.count - l.index
+invariant-loop-index l = Locating l.words l.id l.start l.index

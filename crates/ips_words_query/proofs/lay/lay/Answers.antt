@@ -1,5 +1,4 @@
 -- `lay::lay` meets its contract: at each stage the rest of the output is lent to the writer of the next part. Assumes nothing.
-use native.Mathlib.Omega.{arith}
 use Prim.Native.Nat.{ℕ, ◌-◌, ◌≤◌}
 use mathlib.Core.List.{List, [], ◌∷◌}
 use lib.ListN.{length, take, drop, set, length-set}
@@ -33,9 +32,6 @@ slice_bounds-lay_datalink-start c = (stage_datalink _ _ _ c.requires.contents_in
 pub lay_datalink-at-requires : goal.lay_datalink-at-requires
 lay_datalink-at-requires c = (stage_datalink _ _ _ c.requires.contents_in_bounds).lent.room
 
-pub overflow_add-at : goal.overflow_add-at
-overflow_add-at c = omega (arith, (stage_datalink c.args.datalink.0 c.args.contents.now c.args.out.now c.requires.contents_in_bounds).lent.fits _ c.lay_datalink-at.ensures.count_is)
-
 pub slice_bounds-lay_sequences-count : goal.slice_bounds-lay_sequences-count
 slice_bounds-lay_sequences-count c = (stage_sequences _ _ _ c.requires.contents_in_bounds _ _ c.lay_datalink-at.ensures).lent.start
 
@@ -45,13 +41,6 @@ slice_bounds-lay_sequences-start c = (stage_sequences _ _ _ c.requires.contents_
 pub lay_sequences-at-requires : goal.lay_sequences-at-requires
 lay_sequences-at-requires c =
     record { rising_contents = c.requires.rising_contents; contents_in_bounds = (stage_sequences _ _ _ c.requires.contents_in_bounds _ _ c.lay_datalink-at.ensures).lent.room }
-
-pub overflow_add-at-2 : goal.overflow_add-at-2
-overflow_add-at-2 c =
-    omega (arith, (stage_sequences c.args.datalink.0 c.args.contents.now c.args.out.now c.requires.contents_in_bounds _ _ c.lay_datalink-at.ensures).lent.fits _ c.lay_sequences-at.ensures.count_is)
-
-pub shape_of-out : goal.shape_of-out
-shape_of-out c = ((stage_sequences _ _ _ c.requires.contents_in_bounds _ _ c.lay_datalink-at.ensures).lent.back _ _ c.lay_sequences-at.ensures).long
 
 pub returns : goal.returns
 returns c = standing_end ((stage_sequences _ _ _ c.requires.contents_in_bounds _ _ c.lay_datalink-at.ensures).lent.back _ _ c.lay_sequences-at.ensures)

@@ -12,8 +12,5 @@ returns-else-status_fits c = rw (fits_in, sym c.is_spelled.ensures ∙ c.if-is_s
 pub returns-else-setting_fits : goal.returns-else-setting_fits
 returns-else-setting_fits c = rw (fits_in, sym c.is_spelled.ensures ∙ c.if-is_spelled.true, sym (rw c.narrow-size.ensures at c.setting_fits.ensures) ∙ c.if-setting_fits.false) c.if-setting_fits.false
 
-pub returns-else-is_spelled : goal.returns-else-is_spelled
-returns-else-is_spelled c = rw (sym c.is_spelled.ensures ∙ c.if-is_spelled.false) c.if-is_spelled.false
-
 pub returns-then-flow_fits : goal.returns-then-flow_fits
 returns-then-flow_fits c = rw (fits_in, sym c.is_spelled.ensures ∙ c.if-is_spelled.true, sym (rw c.narrow-size.ensures at c.setting_fits.ensures) ∙ c.if-setting_fits.true, sym c.status_fits.ensures ∙ c.if-status_fits.true, sym c.flow_fits.ensures ∙ c.if-flow_fits.true) (rw c.narrow-size.ensures at c.well_formed-then-flow_fits.ensures)

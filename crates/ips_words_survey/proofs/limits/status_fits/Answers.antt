@@ -9,4 +9,4 @@ returns-then-tag-eq-ABSENT c = rw c.if-tag-eq-ABSENT.true
 
 pub returns : goal.returns
 unfolding status_of
-returns c = rw (ne_eqb _ ABSENT c.if-tag-eq-ABSENT.false)
+returns c = rw (ne_eqb _ ABSENT c.if-tag-eq-ABSENT.false, c.from.ensures)

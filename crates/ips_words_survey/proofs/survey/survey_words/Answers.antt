@@ -4,25 +4,22 @@ use Rattle.ips_words_survey.proofs.Looking.{in_short, in_long, in_few, in_many, 
 use Rattle.ips_words_survey.proofs.survey.survey_words.Goals as goal
 
 pub returns-then-words-lt-HEAD : goal.returns-then-words-lt-HEAD
-returns-then-words-lt-HEAD c = c.outside.ensures ∙ in_short _ _ c.if-words-lt-HEAD.true
+returns-then-words-lt-HEAD c = in_short _ _ c.if-words-lt-HEAD.true
 
 pub returns-then-count-lt-FEWEST_CHANNELS : goal.returns-then-count-lt-FEWEST_CHANNELS
-returns-then-count-lt-FEWEST_CHANNELS c = c.outside-then-count-lt-FEWEST_CHANNELS.ensures ∙ in_few _ _ _ c.narrow-count.ensures c.if-count-lt-FEWEST_CHANNELS.true
+returns-then-count-lt-FEWEST_CHANNELS c = in_few _ _ _ c.narrow-count.ensures c.if-count-lt-FEWEST_CHANNELS.true
 
 pub returns-then-count-gt-MOST_CHANNELS : goal.returns-then-count-gt-MOST_CHANNELS
-returns-then-count-gt-MOST_CHANNELS c = c.outside-then-count-gt-MOST_CHANNELS.ensures ∙ in_many _ _ _ c.narrow-count.ensures c.if-count-gt-MOST_CHANNELS.true
+returns-then-count-gt-MOST_CHANNELS c = in_many _ _ _ c.narrow-count.ensures c.if-count-gt-MOST_CHANNELS.true
 
 pub returns-then-words-count : goal.returns-then-words-count
-returns-then-words-count c = c.outside-then-words-count.ensures ∙ in_long _ _ _ c.narrow-count.ensures c.if-words-count.true
+returns-then-words-count c = in_long _ _ _ c.narrow-count.ensures c.if-words-count.true
 
 pub returns-then-not-head_spelled : goal.returns-then-not-head_spelled
-returns-then-not-head_spelled c = c.outside-then-not-head_spelled.ensures ∙ in_tags _ _ (sym c.head_spelled.ensures ∙ c.if-not-head_spelled.true)
+returns-then-not-head_spelled c = in_tags _ _ (sym c.head_spelled.ensures ∙ c.if-not-head_spelled.true)
 
 pub returns-then-not-head_fits : goal.returns-then-not-head_fits
-returns-then-not-head_fits c = c.outside-then-not-head_fits.ensures ∙ in_head _ _ (sym c.head_fits.ensures ∙ c.if-not-head_fits.true)
-
-pub walk-requires : goal.walk-requires
-walk-requires c = record { long = c.if-words-count.false; count_is = c.narrow-count.ensures; few = c.if-count-gt-MOST_CHANNELS.false }
+returns-then-not-head_fits c = in_head _ _ (sym c.head_fits.ensures ∙ c.if-not-head_fits.true)
 
 pub returns : goal.returns
 returns c =

@@ -1,34 +1,15 @@
--- `control::load` meets its contract. The loop's invariant: the places of the Channel IDs passed hold what the words state. Assumes nothing.
-use native.Mathlib.Omega.{arith}
-use Rattle.lent_messages.proofs.Saying.{loading_start, loading_on, loading_end}
+-- `control::load` meets its contract. Assumes nothing.
+use Rattle.quantity.specs.Limits.{CHANNEL-IDS}
+use Rattle.std.proofs.Common.{rules, None}
+use Rattle.lent_messages.specs.Stated.{datalink_of}
+use Rattle.lent_messages.specs.Words.{channel_start, status_at, sequence_at, window_at, control_of}
+use Rattle.lent_messages.proofs.Ranges.{made_table}
 use Rattle.lent_messages.proofs.control.load.Goals as goal
 
-pub loop-id-init : goal.loop-id-init
-loop-id-init c = loading_start _
-
-pub status_at-requires : goal.status_at-requires
-status_at-requires c = rw c.loop-id.invariant.place (c.requires.channels _ c.loop-id-test.true)
-
-pub bounds-statuses-id : goal.bounds-statuses-id
-bounds-statuses-id c = omega (arith, c.loop-id.invariant.status_cells.long)
-
-pub sequence_at-requires : goal.sequence_at-requires
-sequence_at-requires c = rw c.loop-id.invariant.place (c.requires.channels _ c.loop-id-test.true)
-
-pub bounds-sequences-id : goal.bounds-sequences-id
-bounds-sequences-id c = omega (arith, c.loop-id.invariant.sequence_cells.long)
-
-pub window_at-requires : goal.window_at-requires
-window_at-requires c = rw c.loop-id.invariant.place (c.requires.channels _ c.loop-id-test.true)
-
-pub bounds-windows-id : goal.bounds-windows-id
-bounds-windows-id c = omega (arith, c.loop-id.invariant.window_cells_lem.long)
-
-pub overflow_add-from : goal.overflow_add-from
-overflow_add-from c = omega (arith, c.loop-id.invariant.place)
-
-pub loop-id-preserved : goal.loop-id-preserved
-loop-id-preserved c = loading_on _ _ _ _ _ _ _ _ _ c.loop-id.invariant c.loop-id-test.true c.status_at.ensures c.sequence_at.ensures c.window_at.ensures
-
 pub returns : goal.returns
-returns c = loading_end _ _ _ _ _ _ _ _ _ c.loop-id.invariant c.loop-id-test.false c.datalink_of.ensures c.instance_of.ensures c.context_of.ensures
+unfolding control_of datalink_of
+returns c =
+    let statuses = made_table (λ id. status_at c.args.words.now (channel_start id)) None _ (λ i a q k. search rules) CHANNEL-IDS c.from_fn.result c.from_fn.ensures.items in
+    let sequences = made_table (λ id. sequence_at c.args.words.now (channel_start id)) None _ (λ i a q k. search rules) CHANNEL-IDS c.from_fn-2.result c.from_fn-2.ensures.items in
+    let windows = made_table (λ id. window_at c.args.words.now (channel_start id)) None _ (λ i a q k. search rules) CHANNEL-IDS c.from_fn-3.result c.from_fn-3.ensures.items in
+    rw (c.one_of.ensures, c.instance_of.ensures, c.context_of.ensures, statuses, sequences, windows)

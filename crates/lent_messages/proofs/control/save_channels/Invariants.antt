@@ -1,13 +1,8 @@
-use Prim.Native.Nat.{◌-◌}
 use lib.ListN.{take}
-use Rattle.quantity.specs.Limits.{CHANNEL-IDS}
 use Rattle.lent_messages.specs.Layout.{CONTROL-HEAD}
 use Rattle.lent_messages.specs.Words.{words_at}
 use Rattle.lent_messages.proofs.Saving.{Going}
 use Rattle.lent_messages.proofs.control.save_channels.Given as goal
 
 abbrev pub invariant-loop-id : goal.invariant-loop-id
-invariant-loop-id l = Going (words_at l.statuses l.sequences l.windows) (take CONTROL-HEAD l.initial.words) l.words l.from l.id
-
-abbrev pub decreases-loop-id : goal.decreases-loop-id
-decreases-loop-id l = CHANNEL-IDS - l.id
+invariant-loop-id l = Going (words_at l.statuses l.sequences l.windows) (take CONTROL-HEAD l.initial.words) l.words l.id

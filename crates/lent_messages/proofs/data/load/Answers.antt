@@ -1,7 +1,8 @@
 -- `data::load` meets its contract. Assumes nothing.
+use Rattle.lent_messages.specs.Stated.{datalink_of, channel_of, expiration_of}
 use Rattle.lent_messages.specs.Words.{data_of}
 use Rattle.lent_messages.proofs.data.load.Goals as goal
 
 pub returns : goal.returns
-unfolding data_of
-returns c = rw (c.expiration_of.ensures, c.channel_of.ensures, c.counted_of.ensures, c.datalink_of.ensures)
+unfolding data_of datalink_of channel_of expiration_of
+returns c = rw (c.one_of-3.ensures, c.one_of-2.ensures, c.counted_of.ensures, c.one_of.ensures)

@@ -5,7 +5,7 @@ use Rattle.lent_messages.proofs.stated.fits.Goals as goal
 
 pub returns-then-tag-given : goal.returns-then-tag-given
 unfolding fits
-returns-then-tag-given c = rw (lt-ltb _ _ c.if-tag-given.true)
+returns-then-tag-given c = rw (lt-ltb c.args.tag c.args.given c.if-tag-given.true)
 
 pub returns-then-tag-given-2 : goal.returns-then-tag-given-2
 unfolding fits

@@ -1,7 +1,6 @@
 -- `row::item` meets its contract, way by way. Assumes nothing.
-use native.Mathlib.Omega.{arith}
 use borrow.Author.Tests.{not-true, not-false}
-use Rattle.line_rows.proofs.Laws.{advance_idle, advance_full, advance_bad, advance_fits, advance_value}
+use Rattle.line_rows.proofs.Laws.{advance_idle, advance_full, advance_bad, advance_value}
 use Rattle.line_rows.proofs.row.item.Goals as goal
 
 pub returns-then-not-s : goal.returns-then-not-s
@@ -13,8 +12,5 @@ returns-then-n-numbers c = advance_full c.args.line.now c.args.s c.args.numbers.
 pub returns-in_default : goal.returns-in_default
 returns-in_default c = advance_bad c.args.line.now c.args.s c.args.numbers.now c.args.bytes.now c.requires c.args.a c.args.b (not-false _ c.if-not-s.false) c.if-n-numbers.false c.word.ensures c.value.ensures c.in_default.is c.stop-in_default.ensures
 
-pub overflow_add-result-2 : goal.overflow_add-result-2
-overflow_add-result-2 c = omega (arith, advance_fits c.args.line.now c.args.s c.args.numbers.now c.args.bytes.now c.requires c.args.a c.args.b (not-false _ c.if-not-s.false) c.if-n-numbers.false c.word.ensures c.value.ensures c.in-Value.is c.length_laid.ensures)
-
 pub returns : goal.returns
-returns c = advance_value c.args.line.now c.args.s c.args.numbers.now c.args.bytes.now c.requires c.args.a c.args.b (not-false _ c.if-not-s.false) c.if-n-numbers.false c.word.ensures c.value.ensures c.in-Value.is c.length_laid.ensures c.behind_item-next.ensures
+returns c = advance_value c.args.line.now c.args.s c.args.numbers.now c.args.bytes.now c.requires c.args.a c.args.b (not-false _ c.if-not-s.false) c.if-n-numbers.false c.word.ensures c.value.ensures c.in-Some.is c.length_laid.ensures c.behind_item-next.ensures

@@ -5,9 +5,6 @@ use Rattle.line_rows.proofs.row.item_or_list.Goals as goal
 pub returns-then-skip-gt0 : goal.returns-then-skip-gt0
 returns-then-skip-gt0 c = part_over _ _ _ _ _ _ _ _ c.if-skip-gt0.true c.requires
 
-pub item-requires : goal.item-requires
-item-requires c = c.requires
-
 pub returns : goal.returns
 returns c = part_one _ _ _ _ _ _ _ _ c.if-skip-gt0.false c.if-a-eq-LIST.false c.item.ensures
 

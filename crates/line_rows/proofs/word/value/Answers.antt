@@ -5,11 +5,11 @@ use Rattle.line_rows.proofs.word.value.Goals as goal
 pub returns-then-a-eq-NUMBER : goal.returns-then-a-eq-NUMBER
 returns-then-a-eq-NUMBER c = value_number _ _ _ _ c.if-a-eq-NUMBER.true c.parse.ensures
 
-pub returns-in_default : goal.returns-in_default
-returns-in_default c = value_no_bytes _ _ _ _ c.if-a-eq-BYTES.true c.unhex.ensures.value c.unhex.ensures.out_after c.in_default.is
+pub returns-in_err-n : goal.returns-in_err-n
+returns-in_err-n c = rw c.from_residual.ensures (value_no_bytes _ _ _ _ c.if-a-eq-BYTES.true c.unhex.ensures.value c.unhex.ensures.out_after c.in_err-n.was)
 
 pub returns-then-a-eq-BYTES : goal.returns-then-a-eq-BYTES
-returns-then-a-eq-BYTES c = value_bytes _ _ _ _ c.if-a-eq-BYTES.true c.unhex.ensures.value c.unhex.ensures.out_after c.in-Long.is
+returns-then-a-eq-BYTES c = value_bytes _ _ _ _ c.if-a-eq-BYTES.true c.unhex.ensures.value c.unhex.ensures.out_after c.in_ok-n.was
 
 pub returns-then-spells : goal.returns-then-spells
 returns-then-spells c = value_there _ _ _ _ c.if-a-eq-OPTIONAL.true c.spells.ensures c.if-spells.true

@@ -8,5 +8,5 @@ returns-in_default c = rw c.in_default.is (says_none _ _)
 
 pub returns : goal.returns
 returns c =
-    rw c.in-Given.is
-    (says_then (says_one c.put-behind.ensures) (says_spelt _ (part_size _ _ _ c.shown-n.ensures ∙ c.shown-n.ensures) c.spelt.ensures))
+    rw c.in-Some.is
+    (says_then (says_one c.put-behind.ensures) (says_spelt _ (part_size _ _ _ c.min-n.ensures ∙ c.min-n.ensures) c.spelt.ensures))

@@ -4,6 +4,3 @@ use Rattle.message_words.proofs.part.status.Goals as goal
 
 pub returns-in_default : goal.returns-in_default
 returns-in_default c = rw c.in_default.is (says_none _ _)
-
-pub returns : goal.returns
-returns c = rw c.in-Given.is c.paired.ensures

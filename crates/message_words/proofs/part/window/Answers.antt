@@ -2,11 +2,8 @@
 use Rattle.message_words.proofs.Saying.{says_none, says_one, says_then}
 use Rattle.message_words.proofs.part.window.Goals as goal
 
-pub returns-in-Absent : goal.returns-in-Absent
-returns-in-Absent c = rw c.in-Absent.is (says_none _ _)
+pub returns-in-None : goal.returns-in-None
+returns-in-None c = rw c.in-None.is (says_none _ _)
 
-pub returns-in-Empty : goal.returns-in-Empty
-returns-in-Empty c = rw c.in-Empty.is (says_then c.labelled-behind.ensures (says_one c.put.ensures))
-
-pub returns-in-Given : goal.returns-in-Given
-returns-in-Given c = rw c.in-Given.is c.paired.ensures
+pub returns-in-Some-Empty : goal.returns-in-Some-Empty
+returns-in-Some-Empty c = rw (c.in-Some-Empty.is, rw c.in-Some-Empty.is at c.in-Some-Empty.field-0-is) (says_then c.labelled-behind.ensures (says_one c.put.ensures))

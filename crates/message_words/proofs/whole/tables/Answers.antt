@@ -3,4 +3,4 @@ use Rattle.message_words.proofs.Saying.{says_then}
 use Rattle.message_words.proofs.whole.tables.Goals as goal
 
 pub returns : goal.returns
-returns c = says_then c.statuses-behind.ensures (says_then c.sequences-further.ensures c.windows.ensures)
+returns c = says_then c.table-behind.ensures (says_then c.table-further.ensures c.table.ensures)

@@ -1,11 +1,11 @@
 -- `answer::of_radio` meets its contract. Assumes nothing.
 use Rattle.nespovarda.proofs.answer.of_radio.Goals as goal
 
-pub returns-in-Accepted : goal.returns-in-Accepted
-returns-in-Accepted c = rw c.in-Accepted.is c.plain.ensures
+pub returns-in-Ok-Accepted : goal.returns-in-Ok-Accepted
+returns-in-Ok-Accepted c = rw (c.in-Ok-Accepted.is, rw c.in-Ok-Accepted.is at c.in-Ok-Accepted.field-0-is) c.plain.ensures
 
-pub returns-in-Due : goal.returns-in-Due
-returns-in-Due c = rw c.in-Due.is c.plain-in-Due.ensures
+pub returns-in-Ok-Due : goal.returns-in-Ok-Due
+returns-in-Ok-Due c = rw (c.in-Ok-Due.is, rw c.in-Ok-Due.is at c.in-Ok-Due.field-0-is) c.plain-in-Ok-Due.ensures
 
-pub returns-in-Refused : goal.returns-in-Refused
-returns-in-Refused c = rw c.in-Refused.is c.refused.ensures
+pub returns-in-Err : goal.returns-in-Err
+returns-in-Err c = rw c.in-Err.is c.refused.ensures

@@ -1,8 +1,8 @@
 -- `answer::of_withdraw` meets its contract. Assumes nothing.
 use Rattle.nespovarda.proofs.answer.of_withdraw.Goals as goal
 
-pub returns-in-Withdrawn : goal.returns-in-Withdrawn
-returns-in-Withdrawn c = rw c.in-Withdrawn.is c.plain.ensures
+pub returns-in-Ok : goal.returns-in-Ok
+returns-in-Ok c = rw c.in-Ok.is c.plain.ensures
 
-pub returns-in-Refused : goal.returns-in-Refused
-returns-in-Refused c = rw c.in-Refused.is c.refused.ensures
+pub returns-in-Err : goal.returns-in-Err
+returns-in-Err c = rw c.in-Err.is c.refused.ensures

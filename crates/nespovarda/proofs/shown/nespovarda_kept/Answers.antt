@@ -2,8 +2,8 @@
 use Rattle.nespovarda.proofs.Showing.{shows_kept, kept_refused}
 use Rattle.nespovarda.proofs.shown.nespovarda_kept.Goals as goal
 
-pub returns-in-Kept : goal.returns-in-Kept
-returns-in-Kept c = shows_kept _ _ c.kept.ensures _ _ _ _ c.in-Kept.is c.plain.ensures _ c.show_kept.ensures
+pub returns-in-Ok : goal.returns-in-Ok
+returns-in-Ok c = shows_kept _ _ c.kept.ensures _ _ _ c.in-Ok.is c.plain.ensures _ c.show_kept.ensures
 
-pub returns-in-Refused : goal.returns-in-Refused
-returns-in-Refused c = kept_refused _ _ c.kept.ensures _ _ _ c.in-Refused.is c.refused.ensures
+pub returns-in-Err : goal.returns-in-Err
+returns-in-Err c = kept_refused _ _ c.kept.ensures _ _ _ c.in-Err.is c.refused.ensures

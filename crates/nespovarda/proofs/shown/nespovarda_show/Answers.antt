@@ -2,8 +2,8 @@
 use Rattle.nespovarda.proofs.Showing.{is_there, shows_channel, shows_refused}
 use Rattle.nespovarda.proofs.shown.nespovarda_show.Goals as goal
 
-pub returns-in-At : goal.returns-in-At
-returns-in-At c = shows_channel _ _ _ _ (is_there _ _ _ c.find_channel-found.ensures _ c.in-At.is) _ _ c.plain.ensures _ c.show.ensures
+pub returns-in-Ok : goal.returns-in-Ok
+returns-in-Ok c = shows_channel _ _ _ _ (is_there _ _ _ c.find_channel-found.ensures _ c.in-Ok.is) _ _ c.plain.ensures _ c.show.ensures
 
-pub returns-in-Refused : goal.returns-in-Refused
-returns-in-Refused c = shows_refused _ _ _ c.find_channel-found.ensures _ c.in-Refused.is _ _ _ _ c.refused.ensures
+pub returns-in-Err : goal.returns-in-Err
+returns-in-Err c = shows_refused _ _ _ c.find_channel-found.ensures _ c.in-Err.is _ _ _ _ c.refused.ensures

@@ -9,4 +9,4 @@ returns-then-says_none c = rw (sym c.says_none.ensures, c.if-says_none.true)
 
 pub returns : goal.returns
 unfolding instance_said
-returns c = rw (sym c.says_none.ensures, c.if-says_none.false, c.narrow.ensures)
+returns c = rw (sym c.says_none.ensures, c.if-says_none.false)

@@ -1,24 +1,21 @@
--- `count::distance` meets its contract: below 2^31 the wrapped difference, from there on that less 2^32. Assumes nothing.
--- r - 2^32 fits, of a word r
-use Rattle.std.proofs.Common.{◌≡◌, ℕ, ◌^◌, ◌<◌, pos, ◌-ℤ◌, sym, ◌∙◌, arith, w64, SFits, to_z, lt-ltb}
+-- `count::distance` meets its contract: the word read as a signed one. Assumes nothing.
+use Rattle.std.proofs.Common.{◌≡◌, ℕ, ◌^◌, ◌<◌, ap, ◌∙◌, arith, w32, w64, SFits, to_z, le-ltb, lt-ltb}
+use Rattle.std.proofs.Math.Facts.{sfits_to_z, sfits_widen}
 use mir.ValLaws.{to_z-of_z}
-use Rattle.quantity.proofs.Distance.{distance_ahead, distance_behind}
+use Rattle.facts.proofs.Tests.{by_le}
+use Rattle.quantity.specs.Distance.{signed_of, distance_of}
 use Rattle.quantity.proofs.count.distance.Goals as goal
 
-behind-fits : (r : ℕ) → r < 2 ^ 32 → SFits w64 (pos r -ℤ pos (2 ^ 32))
-behind-fits r h = rw (lt-ltb r (2 ^ 32) h) (record { sfits = omega arith })
+signed_is : (word : ℕ) → word < 2 ^ 32 → to_z w32 word ≡ signed_of word
+signed_is word h =
+    by_le (2 ^ 31) word
+    (λ k. rw (le-ltb word (2 ^ 31) k, lt-ltb word (2 ^ 32) h))
+    (λ k. rw (lt-ltb word (2 ^ 31) k))
 
--- what the machine reads back from a small word is the word
-small : (r : ℕ) → r < 2 ^ 63 → to_z w64 r ≡ pos r
-small r h = to_z-of_z w64 (pos r) (record { sfits = h })
-
-pub overflow_sub-result : goal.overflow_sub-result
-overflow_sub-result c = rw (small c.ahead-word.result (omega arith)) (behind-fits c.ahead-word.result (omega arith))
-
-pub returns-then-word-lt-HALF : goal.returns-then-word-lt-HALF
-returns-then-word-lt-HALF c = small _ (omega arith) ∙ sym (distance_ahead _ _ _ c.ahead-word.ensures (omega arith))
-
-pub returns-else-word-lt-HALF : goal.returns-else-word-lt-HALF
-returns-else-word-lt-HALF c =
-    let fits : SFits w64 (to_z w64 c.ahead-word.result -ℤ pos (2 ^ 32)) = rw (small c.ahead-word.result (omega arith)) (behind-fits c.ahead-word.result (omega arith)) in
-    to_z-of_z w64 _ fits ∙ rw (small c.ahead-word.result (omega arith)) (sym (distance_behind _ _ _ c.ahead-word.ensures (omega arith)))
+pub returns : goal.returns
+unfolding distance_of
+returns c =
+    let word : c.cast_signed.result ≡ to_z w32 c.ahead.result = c.cast_signed.ensures in
+    let small : SFits w32 c.cast_signed.result = rw word (sfits_to_z (record { fits = omega arith })) in
+    let same : c.from.result ≡ c.cast_signed.result = c.from.ensures ∙ to_z-of_z w32 c.cast_signed.result small in
+    to_z-of_z w64 c.from.result (rw same (sfits_widen tt small)) ∙ same ∙ word ∙ signed_is c.ahead.result (omega arith) ∙ ap signed_of c.ahead.ensures

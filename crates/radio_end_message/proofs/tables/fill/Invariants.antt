@@ -5,6 +5,3 @@ use Rattle.radio_end_message.proofs.tables.fill.Given as goal
 
 abbrev pub invariant-loop-at : goal.invariant-loop-at
 invariant-loop-at l = Filling (changed_channels (state_in l.words) l.index l.channel l.sequences) l.statuses l.windows l.at
-
-abbrev pub decreases-loop-at : goal.decreases-loop-at
-decreases-loop-at l = l.at

@@ -1,15 +1,9 @@
--- `judge::allowances_fit` meets its contract: the law of each turn is `Allowing`'s. Assumes nothing.
-use Rattle.radio_end_start.proofs.Allowing.{allow_start, out_large, allow_on, allow_end}
+-- `judge::allowances_fit` meets its contract. Assumes nothing.
+use mathlib.Core.Path.{refl}
+use Rattle.std.proofs.Common.{rules}
+use Rattle.lent_messages.proofs.Ranges.{all_from_Range}
+use Rattle.radio_end_start.proofs.Allowing.{allowed_in, all_allowed, one_large}
 use Rattle.radio_end_start.proofs.judge.allowances_fit.Goals as goal
 
-pub loop-at-init : goal.loop-at-init
-loop-at-init c = allow_start _ _
-
-pub returns-then-not-allowance_fits : goal.returns-then-not-allowance_fits
-returns-then-not-allowance_fits c = out_large _ _ _ _ c.loop-at.invariant c.loop-at-test.true _ c.allowance_fits.ensures (c.if-not-allowance_fits.true)
-
-pub loop-at-preserved : goal.loop-at-preserved
-loop-at-preserved c = allow_on _ _ _ _ c.loop-at.invariant c.loop-at-test.true _ c.allowance_fits.ensures (c.if-not-allowance_fits.false)
-
 pub returns : goal.returns
-returns c = allow_end _ _ _ _ c.loop-at.invariant c.loop-at-test.false
+returns c = all_from_Range (allowed_in c.args.configuration.now) c.args.count _ _ c.all.result _ c.all.ensures.ran refl (λ x a q k. search rules) (all_allowed _ _) (one_large _ _)

@@ -1,19 +1,12 @@
--- `judge::walk` meets its contract: the law of each turn is `Walking`'s. Assumes nothing.
+-- `judge::walk` meets its contract. Assumes nothing.
 use mathlib.Core.Path.{refl}
-use Rattle.radio_end_start.proofs.Walking.{walk_start, out_unfit, out_twice, walk_on, walk_end}
+use Rattle.std.proofs.Common.{rules}
+use Rattle.lent_messages.proofs.Ranges.{all_from_Range}
+use Rattle.radio_end_start.proofs.Walking.{said_in, all_said, one_unsaid, walked_is, unwalked}
 use Rattle.radio_end_start.proofs.judge.walk.Goals as goal
 
-pub loop-at-init : goal.loop-at-init
-loop-at-init c = walk_start _ _
+pub returns-then-all : goal.returns-then-all
+returns-then-all c = walked_is c.args.configuration.now c.args.count _ _ (all_from_Range (said_in c.args.configuration.now) c.args.count _ _ c.all.result _ c.all.ensures.ran refl (λ x a q k. search rules) (all_said _ _) (one_unsaid _ _)) c.ids_fit.ensures c.if-all.true
 
-pub returns-then-not-setting_fits : goal.returns-then-not-setting_fits
-returns-then-not-setting_fits c = out_unfit _ _ _ _ c.loop-at.invariant c.loop-at-test.true _ c.setting_fits.ensures (c.if-not-setting_fits.true)
-
-pub returns-then-index_of-at : goal.returns-then-index_of-at
-returns-then-index_of-at c = out_twice _ _ _ _ c.loop-at.invariant c.loop-at-test.true _ c.setting_fits.ensures _ _ refl c.index_of.ensures c.if-index_of-at.true
-
-pub loop-at-preserved : goal.loop-at-preserved
-loop-at-preserved c = walk_on _ _ _ _ c.loop-at.invariant c.loop-at-test.true _ c.setting_fits.ensures _ _ refl c.index_of.ensures (c.if-not-setting_fits.false) c.if-index_of-at.false
-
-pub returns : goal.returns
-returns c = walk_end _ _ _ _ c.loop-at.invariant _ c.loop-at-test.false c.index_of-2.ensures
+pub returns-else-all : goal.returns-else-all
+returns-else-all c = unwalked c.args.configuration.now c.args.count _ (all_from_Range (said_in c.args.configuration.now) c.args.count _ _ c.all.result _ c.all.ensures.ran refl (λ x a q k. search rules) (all_said _ _) (one_unsaid _ _)) c.if-all.false

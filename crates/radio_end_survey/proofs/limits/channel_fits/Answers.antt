@@ -6,9 +6,6 @@ use Rattle.quantity.specs.Limits.{HIGHEST-STATUS}
 use Rattle.radio_end_survey.proofs.Judging.{channel_is}
 use Rattle.radio_end_survey.proofs.limits.channel_fits.Goals as goal
 
-pub returns-then-not-is_spelled : goal.returns-then-not-is_spelled
-returns-then-not-is_spelled c = rw (sym c.is_spelled.ensures ∙ c.if-not-is_spelled.true)
-
 pub returns-then-not-setting_fits : goal.returns-then-not-setting_fits
 returns-then-not-setting_fits c = rw (channel_is c.args.part.now, sym c.setting_fits.ensures ∙ c.if-not-setting_fits.true, and-false)
 

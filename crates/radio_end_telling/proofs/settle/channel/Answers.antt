@@ -1,5 +1,6 @@
 -- `settle::channel` meets its contract. Assumes nothing.
 use mathlib.Core.Path.{ap, ◌∙◌}
+use Rattle.std.proofs.lemmas.Result.{err_from_is_err_and}
 use Rattle.radio_end_state.specs.declared.channel.Channel.{Channel}
 use Rattle.radio_end_state.specs.Channel.{channel_differs}
 use Rattle.quantity.specs.Limits.{CHANNEL-IDS}
@@ -12,8 +13,8 @@ returns-then-not-differs c = channel_quiet _ _ _ c.requires _ _ (c.differs.ensur
 pub write-requires : goal.write-requires
 write-requires c = settle_change _ _ _ c.requires _ c.context-context.ensures
 
-pub returns-in-Wrote : goal.returns-in-Wrote
-returns-in-Wrote c = channel_wrote _ _ _ c.requires _ _ (c.differs.ensures ∙ ap (λ (b : Channel). channel_differs b c.args.after) c.load-before.ensures) (c.if-not-differs.false) CHANNEL-IDS _ c.context-context.ensures _ _ c.write.ensures _ c.in-Wrote.is _ c.save-in-Wrote.ensures
+pub returns-in_err-size : goal.returns-in_err-size
+returns-in_err-size c = let p = err_from_is_err_and c.from_residual.result c.from_residual.ensures.1 in rw (p.1, p.2) (channel_refused _ _ _ c.requires _ _ (c.differs.ensures ∙ ap (λ (b : Channel). channel_differs b c.args.after) c.load-before.ensures) (c.if-not-differs.false) CHANNEL-IDS _ c.context-context.ensures _ _ c.write.ensures _ c.in_err-size.was)
 
-pub returns-in-Refused : goal.returns-in-Refused
-returns-in-Refused c = channel_refused _ _ _ c.requires _ _ (c.differs.ensures ∙ ap (λ (b : Channel). channel_differs b c.args.after) c.load-before.ensures) (c.if-not-differs.false) CHANNEL-IDS _ c.context-context.ensures _ _ c.write.ensures _ c.in-Refused.is
+pub returns : goal.returns
+returns c = channel_wrote _ _ _ c.requires _ _ (c.differs.ensures ∙ ap (λ (b : Channel). channel_differs b c.args.after) c.load-before.ensures) (c.if-not-differs.false) CHANNEL-IDS _ c.context-context.ensures _ _ c.write.ensures _ c.in_ok-size.was _ c.save-2.ensures

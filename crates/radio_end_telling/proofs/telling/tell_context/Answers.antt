@@ -9,8 +9,5 @@ returns-then-not-fits c = context_unfit _ _ _ _ (sym c.fits.ensures ∙ c.if-not
 pub returns-then-not-context : goal.returns-then-not-context
 returns-then-not-context c = context_unwritable _ _ _ _ (sym c.fits.ensures ∙ c.if-not-fits.false) (sym c.context.ensures ∙ c.if-not-context.true) c.refused-then-not-context.ensures
 
-pub context-requires-2 : goal.context-requires-2
-context-requires-2 c = record { words_value = sym c.fits.ensures ∙ c.if-not-fits.false; after_value = sym c.context.ensures ∙ c.if-not-context.false }
-
 pub returns : goal.returns
 returns c = context_done _ _ _ _ (sym c.fits.ensures ∙ c.if-not-fits.false) (sym c.context.ensures ∙ c.if-not-context.false) _ _ c.context-2.ensures

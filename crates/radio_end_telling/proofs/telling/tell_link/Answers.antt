@@ -9,8 +9,5 @@ returns-then-not-fits c = link_unfit _ _ _ (sym c.fits.ensures ∙ c.if-not-fits
 pub returns-then-not-instance : goal.returns-then-not-instance
 returns-then-not-instance c = link_unwritable _ _ _ (sym c.fits.ensures ∙ c.if-not-fits.false) (sym c.instance.ensures ∙ c.if-not-instance.true) c.refused-then-not-instance.ensures
 
-pub save_instance-requires : goal.save_instance-requires
-save_instance-requires c = sym c.fits.ensures ∙ c.if-not-fits.false
-
 pub returns : goal.returns
 returns c = link_done _ _ (sym c.fits.ensures ∙ c.if-not-fits.false) (sym c.instance.ensures ∙ c.if-not-instance.false) _ c.save_instance.ensures

@@ -1,6 +1,6 @@
 -- `place::save` meets its contract. Assumes nothing.
 use native.Mathlib.Omega.{arith}
-use Rattle.radio_end_words.proofs.Placing.{place_few, place_ends, part_long, part_saved}
+use Rattle.radio_end_words.proofs.Placing.{place_few, place_ends, part_saved}
 use Rattle.radio_end_words.proofs.place.save.Goals as goal
 
 pub overflow_mul-from : goal.overflow_mul-from
@@ -17,9 +17,6 @@ offset_bounds-words-from c = omega (arith, place_few _ _ c.requires)
 
 pub slice_bounds-save-end : goal.slice_bounds-save-end
 slice_bounds-save-end c = place_ends _ _ c.requires
-
-pub save-requires : goal.save-requires
-save-requires c = part_long _ _ c.requires
 
 pub returns : goal.returns
 returns c = part_saved _ _ c.requires _ _ c.save.ensures

@@ -9,4 +9,4 @@ returns-then-tag-eq-UNHEARD c = rw c.if-tag-eq-UNHEARD.true
 
 pub returns : goal.returns
 unfolding highest_of
-returns c = rw (ne_eqb _ UNHEARD c.if-tag-eq-UNHEARD.false, c.half.ensures)
+returns c = rw (ne_eqb _ UNHEARD c.if-tag-eq-UNHEARD.false)

@@ -4,4 +4,4 @@ use Rattle.radio_end_words.proofs.slot.load.Goals as goal
 
 pub returns : goal.returns
 unfolding channel_in
-returns c = rw (c.narrow-3.ensures, c.byte-2.ensures, c.highest_of-highest.ensures, c.narrow-2.ensures, c.narrow.ensures, c.byte.ensures)
+returns c = rw c.highest_of-highest.ensures

@@ -16,22 +16,22 @@ returns-in_default c =
 
 pub overflow_add-to : goal.overflow_add-to
 overflow_add-to c =
-    let turned : Turned (packet_of c.args.datagram.now) c.args.datagram.now c.loop-at.at c.in-Whole.kind c.in-Whole.size = record { so_far = c.loop-at.invariant; frame = sym c.in-Whole.is ∙ c.first.ensures } in
+    let turned : Turned (packet_of c.args.datagram.now) c.args.datagram.now c.loop-at.at c.in-Some.kind c.in-Some.size = record { so_far = c.loop-at.invariant; frame = sym c.in-Some.is ∙ c.first.ensures } in
     omega (arith, inside turned)
 
 pub slice_bounds-result-end-then-kind : goal.slice_bounds-result-end-then-kind
 slice_bounds-result-end-then-kind c =
-    let turned : Turned (packet_of c.args.datagram.now) c.args.datagram.now c.loop-at.at c.in-Whole.kind c.in-Whole.size = record { so_far = c.loop-at.invariant; frame = sym c.in-Whole.is ∙ c.first.ensures } in
+    let turned : Turned (packet_of c.args.datagram.now) c.args.datagram.now c.loop-at.at c.in-Some.kind c.in-Some.size = record { so_far = c.loop-at.invariant; frame = sym c.in-Some.is ∙ c.first.ensures } in
     inside turned
 
 pub returns-then-kind : goal.returns-then-kind
 returns-then-kind c =
-    let turned : Turned (packet_of c.args.datagram.now) c.args.datagram.now c.loop-at.at c.in-Whole.kind c.in-Whole.size = record { so_far = c.loop-at.invariant; frame = sym c.in-Whole.is ∙ c.first.ensures } in
+    let turned : Turned (packet_of c.args.datagram.now) c.args.datagram.now c.loop-at.at c.in-Some.kind c.in-Some.size = record { so_far = c.loop-at.invariant; frame = sym c.in-Some.is ∙ c.first.ensures } in
     here turned c.if-kind.true
 
 pub loop-at-preserved : goal.loop-at-preserved
 loop-at-preserved c =
-    let turned : Turned (packet_of c.args.datagram.now) c.args.datagram.now c.loop-at.at c.in-Whole.kind c.in-Whole.size = record { so_far = c.loop-at.invariant; frame = sym c.in-Whole.is ∙ c.first.ensures } in
+    let turned : Turned (packet_of c.args.datagram.now) c.args.datagram.now c.loop-at.at c.in-Some.kind c.in-Some.size = record { so_far = c.loop-at.invariant; frame = sym c.in-Some.is ∙ c.first.ensures } in
     further turned c.if-kind.false
 
 pub returns : goal.returns

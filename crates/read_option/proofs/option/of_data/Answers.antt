@@ -1,4 +1,5 @@
 -- `option::of_data` meets its contract, arm by arm: what the message may hold and no other arm takes is Flow Sequence. Assumes nothing.
+use Rattle.std.specs.Prelude.{Ok}
 use mathlib.Core.Path.{◌≡◌, sym, ◌∙◌}
 use mathlib.Core.Bool.{true, false}
 use native.Mathlib.Omega.{arith}
@@ -6,7 +7,6 @@ use Rattle.std.proofs.lemmas.Grind.{common_steps}
 use Rattle.meaning.specs.declared.message.Plane.{Plane}
 use Rattle.meaning.specs.Kinds.{among, may_hold, length_listed, value_listed}
 use Rattle.read_option.specs.declared.answer.Item.{Item}
-use Rattle.read_option.specs.declared.answer.OptionAnswer.{OptionAnswer}
 use Rattle.read_option.specs.Items.{item_of, stated_of}
 use Rattle.read_option.proofs.Contents.{answer_listed, answer_unlisted, data_keys, data_left}
 use Rattle.read_option.proofs.option.of_data.Goals as goal
@@ -27,7 +27,7 @@ pub returns-in-128 : goal.returns-in-128
 unfolding stated_of length_listed value_listed item_of
 returns-in-128 c =
     let held : among c.args.kind (may_hold Plane.Data c.args.end) ≡ true = sym c.may_hold.ensures ∙ c.if-not-may_hold.false in
-    let stated : OptionAnswer.Took Item.Packet ≡ stated_of c.args.kind c.args.content.now = rw c.in-128.is in
+    let stated : Ok Item.Packet ≡ stated_of c.args.kind c.args.content.now = rw c.in-128.is in
     let both = answer_listed Plane.Data c.args.end c.args.kind c.args.content.now held stated in
     record { value = both.0; placed = both.1 }
 

@@ -2,17 +2,14 @@
 use Rattle.message_words.proofs.Saying.{says_one}
 use Rattle.session_print.proofs.answers.paced.Goals as goal
 
-pub returns-in-Quiet : goal.returns-in-Quiet
-returns-in-Quiet c = rw c.in-Quiet.is (says_one c.put.ensures)
+pub returns-in-Ok-Quiet : goal.returns-in-Ok-Quiet
+returns-in-Ok-Quiet c = rw (c.in-Ok-Quiet.is, rw c.in-Ok-Quiet.is at c.in-Ok-Quiet.field-0-is) (says_one c.put.ensures)
 
-pub returns-in-Due : goal.returns-in-Due
-returns-in-Due c = rw c.in-Due.is (says_one c.put-in-Due.ensures)
+pub returns-in-Ok-Due : goal.returns-in-Ok-Due
+returns-in-Ok-Due c = rw (c.in-Ok-Due.is, rw c.in-Ok-Due.is at c.in-Ok-Due.field-0-is) (says_one c.put-in-Ok-Due.ensures)
 
-pub returns-in-Silent : goal.returns-in-Silent
-returns-in-Silent c = rw c.in-Silent.is (says_one c.put-in-Silent.ensures)
+pub returns-in-Ok-Silent : goal.returns-in-Ok-Silent
+returns-in-Ok-Silent c = rw (c.in-Ok-Silent.is, rw c.in-Ok-Silent.is at c.in-Ok-Silent.field-0-is) (says_one c.put-in-Ok-Silent.ensures)
 
-pub returns-in-DueSilent : goal.returns-in-DueSilent
-returns-in-DueSilent c = rw c.in-DueSilent.is (says_one c.put-in-DueSilent.ensures)
-
-pub returns-in-Refused : goal.returns-in-Refused
-returns-in-Refused c = rw c.in-Refused.is c.refused.ensures
+pub returns-in-Ok-DueSilent : goal.returns-in-Ok-DueSilent
+returns-in-Ok-DueSilent c = rw (c.in-Ok-DueSilent.is, rw c.in-Ok-DueSilent.is at c.in-Ok-DueSilent.field-0-is) (says_one c.put-in-Ok-DueSilent.ensures)

@@ -2,8 +2,5 @@
 use Rattle.message_words.proofs.Saying.{says_one}
 use Rattle.session_print.proofs.answers.started.Goals as goal
 
-pub returns-in-Started : goal.returns-in-Started
-returns-in-Started c = rw c.in-Started.is (says_one c.put.ensures)
-
-pub returns-in-Refused : goal.returns-in-Refused
-returns-in-Refused c = rw c.in-Refused.is c.refused.ensures
+pub returns-in-Ok : goal.returns-in-Ok
+returns-in-Ok c = rw c.in-Ok.is (says_one c.put.ensures)

@@ -4,6 +4,3 @@ use Rattle.session_print.proofs.reading.data_said.Goals as goal
 
 pub returns-in-OtherPlane : goal.returns-in-OtherPlane
 returns-in-OtherPlane c = rw c.in-OtherPlane.is (says_none _ _)
-
-pub returns-in-Refused : goal.returns-in-Refused
-returns-in-Refused c = rw c.in-Refused.is c.refused.ensures

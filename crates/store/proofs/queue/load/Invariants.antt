@@ -1,11 +1,6 @@
-use Prim.Native.Nat.{◌-◌, ◌≤◌}
-use lib.ListN.{drop}
-use Rattle.store.specs.Waiting.{waiting}
+use Rattle.std.proofs.Common.{◌≤◌, drop}
 use Rattle.store.proofs.Turns.{Loading}
 use Rattle.store.proofs.queue.load.Given as goal
 
-abbrev pub invariant-loop-at : goal.invariant-loop-at
-invariant-loop-at l = (l.packets ≤ l.at) × Loading l.time (waiting l.queue) (drop l.at (waiting l.queue)) l.packets l.bytes
-
-abbrev pub decreases-loop-at : goal.decreases-loop-at
-decreases-loop-at l = l.count - l.at
+abbrev pub invariant-loop-entry : goal.invariant-loop-entry
+invariant-loop-entry l = (l.packets ≤ l.entry-index) × Loading l.time l.entries (drop l.entry-index l.entries) l.packets l.bytes

@@ -4,4 +4,9 @@ use Rattle.store.proofs.Moved.{retained_moves}
 use Rattle.store.proofs.waiting.retain.Goals as goal
 
 pub returns : goal.returns
-returns c = let packed = c.compact-compacted.ensures.end_in_bounds in record { holds = retained _ _ _ _ _ c.requires _ _ _ _ c.compact-compacted.auto.store packed.0 packed.1 c.fill_zeros.ensures c.keep-queue.ensures; moved_value = retained_moves _ _ _ _ _ c.requires _ c.compact-compacted.ensures.moved_value }
+returns c =
+    let packed = c.compact-compacted.ensures.end_in_bounds in
+    record {
+      holds = retained _ _ _ _ _ c.requires _ _ _ _ c.compact-compacted.auto.store packed.0 packed.1 (c.fill.ensures.after (λ y e. e)) c.keep-queue.ensures;
+      moved_value = retained_moves _ _ _ _ _ c.requires _ c.compact-compacted.ensures.moved_value;
+    }

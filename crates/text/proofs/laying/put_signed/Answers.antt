@@ -5,7 +5,7 @@ use Rattle.text.proofs.Signs.{signed_is}
 use Rattle.text.proofs.laying.put_signed.Goals as goal
 
 pub returns-then-value-ge0 : goal.returns-then-value-ge0
-returns-then-value-ge0 c = lays_as (signed_is _ _ true c.ranges.value c.magnitude-size.ensures c.if-value-ge0.true) c.put_number.ensures
+returns-then-value-ge0 c = lays_as (signed_is _ _ true c.ranges.value c.unsigned_abs-size.ensures.value c.if-value-ge0.true) c.put_number.ensures
 
 pub returns : goal.returns
-returns c = lays_as (signed_is _ _ false c.ranges.value c.magnitude-size.ensures c.if-value-ge0.false) c.put_negative.ensures
+returns c = lays_as (signed_is _ _ false c.ranges.value c.unsigned_abs-size.ensures.value c.if-value-ge0.false) c.put_negative.ensures

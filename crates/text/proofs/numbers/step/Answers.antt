@@ -14,16 +14,6 @@ returns-then-value-most c =
     let k = bound_passed _ _ _ _ c.requires (omega arith) c.if-value-most.true in
     step_over _ _ _ _ (omega arith)
 
-pub overflow_mul-result : goal.overflow_mul-result
-overflow_mul-result c =
-    let k = bound_kept _ _ _ _ c.requires (omega arith) c.if-value-most.false in
-    omega arith
-
-pub overflow_add-result : goal.overflow_add-result
-overflow_add-result c =
-    let k = bound_kept _ _ _ _ c.requires (omega arith) c.if-value-most.false in
-    omega arith
-
 pub returns : goal.returns
 returns c =
     step_on _ _ _ _ _ c.digit-d.ensures (omega arith)

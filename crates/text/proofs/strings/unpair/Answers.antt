@@ -1,14 +1,8 @@
 -- `strings::unpair` meets its contract: at each turn the bytes of the first n pairs are laid. Assumes nothing.
 use native.Mathlib.Omega.{arith}
 use mathlib.Core.Path.{sym, ◌∙◌}
-use Rattle.text.proofs.Hexadecimal.{unpair_none, unpair_on, unpair_end, paired_bad, paired_end, paired_small}
+use Rattle.text.proofs.Hexadecimal.{unpair_on, unpair_end, paired_bad, paired_end, paired_small}
 use Rattle.text.proofs.strings.unpair.Goals as goal
-
-pub loop-i-init : goal.loop-i-init
-loop-i-init c = unpair_none _ _
-
-pub shape_of-out-in_default : goal.shape_of-out-in_default
-shape_of-out-in_default c = c.loop-i.invariant.size
 
 pub returns-in_default : goal.returns-in_default
 returns-in_default c =
@@ -18,15 +12,12 @@ returns-in_default c =
 pub overflow_cast-out : goal.overflow_cast-out
 overflow_cast-out c =
     let k = c.loop-i.invariant in
-    record { fits = paired_small k.paired (omega arith) (sym c.pair.ensures ∙ c.in-Value.is) }
+    record { fits = paired_small k.paired (omega arith) (sym c.pair.ensures ∙ c.in-Some.is) }
 
 pub loop-i-preserved : goal.loop-i-preserved
 loop-i-preserved c =
     let k = c.loop-i.invariant in
-    unpair_on k (omega arith) (omega arith) (sym c.pair.ensures ∙ c.in-Value.is)
-
-pub shape_of-out : goal.shape_of-out
-shape_of-out c = c.loop-i.invariant.size
+    unpair_on k (omega arith) (omega arith) (sym c.pair.ensures ∙ c.in-Some.is)
 
 pub returns : goal.returns
 returns c = let k = c.loop-i.invariant in unpair_end k (omega arith) (paired_end k.paired (omega arith))

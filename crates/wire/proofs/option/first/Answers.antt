@@ -2,9 +2,8 @@
 use mathlib.Core.Path.{◌≡◌, ap, ◌∙◌}
 use native.Mathlib.Omega.{arith}
 use lib.ListN.{get_or}
-use Rattle.wire.specs.declared.option.Frame.TheVariants.{Whole}
 use Rattle.wire.specs.Options.{length_at}
-use Rattle.wire.proofs.Options.{frame_short, frame_past, frame_whole}
+use Rattle.wire.proofs.Options.{whole, frame_short, frame_past, frame_whole}
 use Rattle.wire.proofs.option.first.Goals as goal
 
 pub returns-then-rest-lt-FRAME_SIZE : goal.returns-then-rest-lt-FRAME_SIZE
@@ -20,4 +19,4 @@ pub returns : goal.returns
 returns c =
     let rest = c.args.rest.now in
     let size : c.read-size.result ≡ length_at rest = c.read-size.ensures.value in
-    ap (Whole (get_or rest 0 0)) size ∙ frame_whole rest (omega (arith, c.if-rest-size.false, c.if-rest-lt-FRAME_SIZE.false))
+    ap (whole (get_or rest 0 0)) size ∙ frame_whole rest (omega (arith, c.if-rest-size.false, c.if-rest-lt-FRAME_SIZE.false))

@@ -1,14 +1,11 @@
--- `part::fits` meets its contract. The loop's invariant: what is left fits what is left of the length exactly when the number fits. Assumes nothing.
-use mathlib.Core.Path.{refl, ◌∙◌}
-use lib.Arith.{le-zero}
-use Rattle.writable.proofs.Fitting.{fits_less, fits_nothing}
+-- `part::fits` meets its contract: eight bytes hold any number, and fewer what has no bit beyond them. Assumes nothing.
+use Rattle.std.proofs.Common.{◌∙◌, sym}
+use borrow.Author.Tests.{le-leb}
+use Rattle.writable.proofs.Fitting.{fits_long, fits_bits}
 use Rattle.writable.proofs.part.fits.Goals as goal
 
-pub loop-i-init : goal.loop-i-init
-loop-i-init c = refl
+pub returns-then-size-ge8 : goal.returns-then-size-ge8
+returns-then-size-ge8 c = le-leb 8 c.args.size c.if-size-ge8.true ∙ sym (fits_long c.args.number c.args.size c.ranges.number.fits c.if-size-ge8.true)
 
-pub loop-i-preserved : goal.loop-i-preserved
-loop-i-preserved c = rw (← fits_less _ _ c.loop-i-test.true) c.loop-i.invariant
-
-pub returns : goal.returns
-returns c = fits_nothing c.loop-i.left ∙ rw (le-zero c.loop-i-test.false) at c.loop-i.invariant
+pub returns-else-size-ge8 : goal.returns-else-size-ge8
+returns-else-size-ge8 c = fits_bits c.args.number c.args.size

@@ -2,8 +2,8 @@
 use Rattle.write_option.proofs.Laying.{laid_nothing}
 use Rattle.write_option.proofs.option.lay_context.Goals as goal
 
-pub returns-in-Absent : goal.returns-in-Absent
-returns-in-Absent c = rw c.in-Absent.is (laid_nothing _)
+pub returns-in-None : goal.returns-in-None
+returns-in-None c = rw c.in-None.is (laid_nothing _)
 
-pub returns-in-Given : goal.returns-in-Given
-returns-in-Given c = rw c.in-Given.is c.lay_number.ensures
+pub returns-in-Some : goal.returns-in-Some
+returns-in-Some c = rw c.in-Some.is c.lay_number.ensures

@@ -1,5 +1,0 @@
--- `carried` meets its contract, case by case of the flow state. Assumes nothing.
-use Rattle.flow.proofs.carried.Goals as goal
-
-pub returns-in-InForce : goal.returns-in-InForce
-returns-in-InForce c = rw c.in-InForce.is

@@ -1,9 +1,0 @@
-use Prim.Native.Nat.{◌-◌}
-use Rattle.radio_end_start.proofs.Allowing.{Allowing}
-use Rattle.radio_end_start.proofs.judge.allowances_fit.Given as goal
-
-abbrev pub invariant-loop-at : goal.invariant-loop-at
-invariant-loop-at l = Allowing l.configuration l.count l.at l.from
-
-abbrev pub decreases-loop-at : goal.decreases-loop-at
-decreases-loop-at l = l.count - l.at

@@ -1,5 +1,0 @@
--- `start` meets its contract. Assumes nothing.
-use Rattle.records.proofs.start.Goals as goal
-
-pub returns : goal.returns
-returns c = rw c.start.ensures
