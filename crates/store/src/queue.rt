@@ -48,15 +48,6 @@ pub fn empty() -> Queue
     Queue { entries, count: 0 }
 }
 
-// The entries that wait, from an index on.
-pub(crate) fn waiting_from(queue: &Queue, index: usize) -> &[Entry]
-    requires { queue.now.count ≤ MOST-WAITING }
-    ensures { result.now ≡ drop index (waiting queue.now) }
-{
-    let count = queue.count;
-    &queue.entries[index.min(count)..count]
-}
-
 // Whether a packet is not expired yet.
 pub(crate) fn lasts(entry: Entry, time: u64) -> bool
     ensures { result ≡ lasts_at time entry.expiry }
@@ -83,11 +74,12 @@ pub(crate) fn keep(queue: Queue, index: usize, time: u64) -> Queue
     ensures { result ≡ listed (kept time (drop index (waiting queue))) }
 {
     let mut left = empty();
-    let entries = waiting_from(&queue, index);
-    for entry in entries {
-        if lasts(*entry, time) {
+    // By index here and below: entries lent as a slice have a queue that is held by value copied first.
+    for at in index..queue.count {
+        let entry = queue.entries[at];
+        if lasts(entry, time) {
             let kept = left.count;
-            left.entries[kept] = *entry;
+            left.entries[kept] = entry;
             left.count = kept + 1;
         }
     }
@@ -101,9 +93,9 @@ pub fn load(queue: Queue, time: u64) -> Amount
 {
     let mut packets = 0;
     let mut bytes = 0;
-    let entries = waiting_from(&queue, 0);
-    for entry in entries {
-        if lasts(*entry, time) {
+    for at in 0..queue.count {
+        let entry = queue.entries[at];
+        if lasts(entry, time) {
             packets += 1;
             bytes += entry.length.0;
         }
@@ -120,14 +112,14 @@ pub(crate) fn first(queue: Queue, time: u64) -> Front
     ensures { IsFirst queue time result }
 {
     let mut start = 0;
-    let entries = waiting_from(&queue, 0);
-    for (index, entry) in entries.iter().enumerate() {
+    for at in 0..queue.count {
+        let entry = queue.entries[at];
         let end = start + entry.length.0;
-        if lasts(*entry, time) {
+        if lasts(entry, time) {
             return Front {
                 start,
                 end,
-                behind: index + 1,
+                behind: at + 1,
             };
         }
         start = end;
@@ -135,6 +127,6 @@ pub(crate) fn first(queue: Queue, time: u64) -> Front
     Front {
         start,
         end: start,
-        behind: entries.len(),
+        behind: queue.count,
     }
 }

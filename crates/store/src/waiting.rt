@@ -35,10 +35,11 @@ fn compact(queue: Queue, store: &mut [u8], index: usize, start: usize, time: u64
     let mut from = start;
     let mut to = 0;
     let mut moved = 0;
-    let entries = queue::waiting_from(&queue, index);
-    for entry in entries {
+    // By index, as in `queue::keep`.
+    for at in index..queue.count {
+        let entry = queue.entries[at];
         let next = from + entry.length.0;
-        if queue::lasts(*entry, time) {
+        if queue::lasts(entry, time) {
             let written = stretch::move_down(store, from, to, entry.length);
             moved += written.0;
             to += entry.length.0;

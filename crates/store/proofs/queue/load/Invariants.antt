@@ -1,6 +1,8 @@
-use Rattle.std.proofs.Common.{◌≤◌, drop}
+use Prim.Native.Nat.{◌≤◌}
+use lib.ListN.{drop}
+use Rattle.store.specs.Waiting.{waiting}
 use Rattle.store.proofs.Turns.{Loading}
 use Rattle.store.proofs.queue.load.Given as goal
 
-abbrev pub invariant-loop-entry : goal.invariant-loop-entry
-invariant-loop-entry l = (l.packets ≤ l.entry-index) × Loading l.time l.entries (drop l.entry-index l.entries) l.packets l.bytes
+abbrev pub invariant-loop-at : goal.invariant-loop-at
+invariant-loop-at l = (l.packets ≤ l.at) × Loading l.time (waiting l.queue) (drop l.at (waiting l.queue)) l.packets l.bytes
