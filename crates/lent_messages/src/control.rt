@@ -1,5 +1,5 @@
 // A control message in words.
-ghost use Rattle.std.specs.Prelude.{◌≡◌, ◌++◌, ◌+◌, ◌≤◌, ◌<◌, length, take, drop};
+ghost use Rattle.std.specs.Prelude.{◌≡◌, ◌&&◌, is_none, ◌++◌, ◌+◌, ◌≤◌, ◌<◌, length, take, drop};
 ghost use Rattle.quantity.specs.Limits.{CHANNEL-IDS};
 ghost use Rattle.lent_messages.specs.Layout.{CONTROL-HEAD, CHANNEL-WORDS, CONTROL-WORDS};
 ghost use Rattle.lent_messages.specs.Words.{head_words, channel_words, channel_start, words_at, joined, control_words, status_at, sequence_at, window_at, control_of, head_spelled, channel_spelled, channels_spelled, ChannelSays, ControlSays, control_spelled};
@@ -46,6 +46,13 @@ fn channel_start(id: usize) -> usize
     CONTROL_HEAD + CHANNEL_WORDS * id
 }
 
+// Whether a message says nothing of a Channel ID, as it does of most.
+fn says_nothing(status: Option<u8>, sequence: Option<FlowSequence>, window: Option<Window>) -> bool
+    ensures { result ≡ (is_none status && (is_none sequence && is_none window)) }
+{
+    status.is_none() && (sequence.is_none() && window.is_none())
+}
+
 // The words of one Channel ID, from a place on.
 fn save_channel(
     words: &mut [u64],
@@ -57,6 +64,10 @@ fn save_channel(
     requires { from + CHANNEL-WORDS ≤ length words.old }
     ensures { words.new ≡ take from words.old ++ (channel_words status sequence window ++ drop (from + CHANNEL-WORDS) words.old) }
 {
+    if says_nothing(status, sequence, window) {
+        words[from..from + CHANNEL_WORDS].fill(0);
+        return;
+    }
     let state = stated::one(status);
     let counted = stated::one(sequence);
     let opened = stated::window(window);
@@ -68,14 +79,15 @@ fn save_channel(
     words[from + WINDOW_VALUE] = opened.first;
 }
 
+// The tables are lent: by value each would be copied.
 fn save_channels(
     words: &mut [u64],
-    statuses: [Option<u8>; CHANNEL_IDS],
-    sequences: [Option<FlowSequence>; CHANNEL_IDS],
-    windows: [Option<Window>; CHANNEL_IDS],
+    statuses: &[Option<u8>; CHANNEL_IDS],
+    sequences: &[Option<FlowSequence>; CHANNEL_IDS],
+    windows: &[Option<Window>; CHANNEL_IDS],
 )
     requires { length words.old ≡ CONTROL-WORDS }
-    ensures { words.new ≡ take CONTROL-HEAD words.old ++ joined (words_at statuses sequences windows) CHANNEL-IDS }
+    ensures { words.new ≡ take CONTROL-HEAD words.old ++ joined (words_at statuses.now sequences.now windows.now) CHANNEL-IDS }
 {
     for id in 0..CHANNEL_IDS {
         save_channel(
@@ -89,18 +101,17 @@ fn save_channels(
 }
 
 // The words of a message, over all that stood there.
-pub fn save(words: &mut [u64], message: Control)
+pub fn save(words: &mut [u64], message: &Control)
     requires { length words.old ≡ CONTROL-WORDS }
-    ensures { words.new ≡ control_words message }
+    ensures { words.new ≡ control_words message.now }
 {
-    let datalink = message.datalink;
-    let instance = message.instance;
-    let context = message.context;
-    let statuses = message.statuses;
-    let sequences = message.sequences;
-    let windows = message.windows;
-    save_head(words, datalink, instance, context);
-    save_channels(words, statuses, sequences, windows);
+    save_head(words, message.datalink, message.instance, message.context);
+    save_channels(
+        words,
+        &message.statuses,
+        &message.sequences,
+        &message.windows,
+    );
 }
 
 // The words say something: tags that there are, and numbers no wider than what they are numbers of.

@@ -22,7 +22,7 @@ pub fn read_control(datagram: &[u8], end: u8, datalink: u8, meaning: &mut [u64])
     }
     let reading = control::read(datagram, end, DatalinkId(datalink));
     if let Verdict::Accepted = reading.verdict {
-        lent_messages::control::save(meaning, reading.message);
+        lent_messages::control::save(meaning, &reading.message);
     }
     of_verdict(reading.verdict)
 }

@@ -90,17 +90,15 @@ fn window_cell(window: Option<Window>) -> Option<Window>
     }
 }
 
-// The options one after another, from the byte behind the header on. What they state stands in locals: a call that took the tables would copy
-// them at each option.
+// The options one after another, from the byte behind the header on. What they state stands where it is handed on, in the reading of an accepted message:
+// a call that took the tables would copy them at each option, and tables of their own would be copied once more at the end.
 pub fn options(datagram: &[u8], end: End, id: DatalinkId) -> ControlReading
     ensures { result ≡ judge (rules_of (control_sort end id)) (split (drop 1 datagram.now)) 1 blank_control }
 {
-    let mut datalink = None;
-    let mut instance = None;
-    let mut context = None;
-    let mut statuses = [None; CHANNEL_IDS];
-    let mut sequences = [None; CHANNEL_IDS];
-    let mut windows = [None; CHANNEL_IDS];
+    let mut reading = ControlReading {
+        verdict: Verdict::Accepted,
+        message: blank(),
+    };
     let mut at: usize = 1;
     // Each option says where the next begins: no `for` or iterator goes by such steps.
     while at < datagram.len() {
@@ -115,70 +113,57 @@ pub fn options(datagram: &[u8], end: End, id: DatalinkId) -> ControlReading
         };
         match item {
             Item::Datalink(stated) => {
-                let None = datalink else {
+                let None = reading.message.datalink else {
                     return refused(REPEATED, at);
                 };
-                datalink = Some(stated);
+                reading.message.datalink = Some(stated);
             }
             Item::Instance(number, length) => {
-                let None = instance else {
+                let None = reading.message.instance else {
                     return refused(REPEATED, at);
                 };
-                instance = Some((number, length));
+                reading.message.instance = Some((number, length));
             }
             Item::Context(bytes, length) => {
-                let None = context else {
+                let None = reading.message.context else {
                     return refused(REPEATED, at);
                 };
-                context = Some((bytes, length));
+                reading.message.context = Some((bytes, length));
             }
             Item::Status(channel, status) => {
                 let i = channel as usize;
-                let cell = statuses[i];
-                let there = cell;
-                let None = there else {
+                let None = reading.message.statuses[i] else {
                     return refused(REPEATED, at);
                 };
-                statuses[i] = Some(status);
+                reading.message.statuses[i] = Some(status);
             }
             Item::Sequence(channel, sequence) => {
                 let i = channel as usize;
-                let cell = sequences[i];
-                let there = cell;
-                let None = there else {
+                let None = reading.message.sequences[i] else {
                     return refused(REPEATED, at);
                 };
-                sequences[i] = Some(sequence);
+                reading.message.sequences[i] = Some(sequence);
             }
             Item::Window(channel, window) => {
                 let i = channel as usize;
-                let cell = windows[i];
-                let there = cell;
-                let None = there else {
+                let None = reading.message.windows[i] else {
                     return refused(REPEATED, at);
                 };
-                windows[i] = window_cell(window);
+                reading.message.windows[i] = window_cell(window);
             }
             // An unknown option is skipped; what only a data message states was refused.
             _ => {}
         }
         at = to;
     }
-    let cell = statuses[0];
-    let status = cell;
-    let number = fault(end, id, datalink, status);
+    let number = fault(
+        end,
+        id,
+        reading.message.datalink,
+        reading.message.statuses[0],
+    );
     if number != 0 {
         return refused(number, at);
     }
-    ControlReading {
-        verdict: Verdict::Accepted,
-        message: Control {
-            datalink,
-            instance,
-            context,
-            statuses,
-            sequences,
-            windows,
-        },
-    }
+    reading
 }

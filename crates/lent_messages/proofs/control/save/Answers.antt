@@ -3,4 +3,4 @@ use Rattle.lent_messages.proofs.Saving.{whole_saved}
 use Rattle.lent_messages.proofs.control.save.Goals as goal
 
 pub returns : goal.returns
-returns c = whole_saved c.args.message c.args.words.now _ _ c.save_head.ensures c.save_channels.ensures
+returns c = whole_saved c.args.message.now c.args.words.now _ _ c.save_head.ensures c.save_channels.ensures
