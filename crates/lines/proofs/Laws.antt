@@ -2,6 +2,7 @@
 use mathlib.Core.Path.{◌≡◌, refl, sym, ap, ◌∙◌}
 use mathlib.Core.Bool.{Bool, true, false, true≢false, cond, ◌&&◌, ◌||◌, and-eq-true_iff}
 use mathlib.Core.List.{List, [], ◌∷◌}
+use Rattle.std.specs.Prelude.{Result, Ok, Err, is_err}
 use Prim.Native.Nat.{ℕ, suc, ◌+◌, ◌-◌, ◌≤◌, ◌<◌}
 use native.Mathlib.Omega.{arith}
 use borrow.Author.Tests.{lt-ltb, le-ltb, ltb-true, ltb-false, leb-true, eq-eqb}
@@ -14,7 +15,7 @@ use Rattle.octets.specs.Bytes.{index_of, index_after, slice}
 use Rattle.lines.specs.declared.Input.{Input}
 use Rattle.lines.specs.declared.Found.{Found}
 use Rattle.lines.specs.declared.Found.TheVariants.{More, End, Line, Over, Failed}
-use Rattle.lines.specs.Unread.{tidy_of, rest_of, line_of, last_of, found_of, next_of, lost_of, kept_of, read_of, Behind, Filled}
+use Rattle.lines.specs.Unread.{tidy_of, rest_of, line_of, last_of, found_of, next_of, lost_of, kept_of, got_of, read_of, Behind, Filled}
 
 -- ---- where what is unread lies
 
@@ -61,11 +62,16 @@ module _ (input : Input) where
 
 -- ---- reading more
 
+-- a read that failed left no byte
+none_came : {E : Type 0} (answer : Result ℕ E) → is_err answer ≡ true → got_of answer ≡ 0
+none_came (Ok n) e = clash e
+none_came (Err x) e = refl
+
 -- what a read leaves in the part behind the bytes that are kept
-pub behind_is : (buffer : List ℕ) (kept got : ℕ) (failed dropped : Bool) (part : List ℕ) {r : Input} → kept ≤ length buffer
-    → length part ≡ length (mid_of kept (length buffer - kept) buffer) → got ≤ length part → (failed ≡ true → got ≡ 0)
-    → r ≡ read_of failed kept (kept + got) dropped → Behind buffer kept dropped r (put_mid kept (length buffer - kept) buffer part)
-behind_is buffer kept got failed dropped part h e l c p =
+pub behind_is : {E : Type 0} (buffer : List ℕ) (kept : ℕ) (answer : Result ℕ E) (dropped : Bool) (part : List ℕ) {r : Input} → kept ≤ length buffer
+    → length part ≡ length (mid_of kept (length buffer - kept) buffer) → got_of answer ≤ length part
+    → r ≡ read_of answer kept dropped → Behind buffer kept dropped r (put_mid kept (length buffer - kept) buffer part)
+behind_is buffer kept answer dropped part h e l p =
     let room : length (mid_of kept (length buffer - kept) buffer) ≡ length buffer - kept = mid_len kept (length buffer) buffer (omega arith) in
     rw p
     (record {
@@ -75,7 +81,7 @@ behind_is buffer kept got failed dropped part h e l c p =
       most = omega arith;
       over = refl;
       ended = refl;
-      failed = λ f. let z = c f in eq-eqb (kept + got) kept (omega arith);
+      failed = λ f. let z = none_came answer f in eq-eqb (kept + got_of answer) kept (omega (arith, z));
     })
 
 -- a stretch of a list, taken from its start or from its end

@@ -1,5 +1,6 @@
 -- What was read of an input and isn't handed on yet.
-use Rattle.std.specs.Prelude.{◌≡◌, Bool, true, false, not, cond, ◌&&◌, ◌||◌, List, [], ℕ, ◌+◌, ◌≤◌, ltb, leb, eqb, length, take}
+use Rattle.std.specs.Prelude.{◌≡◌, Bool, true, false, not, cond, ◌&&◌, ◌||◌, List, [], ℕ, ◌+◌, ◌≤◌, ltb, leb, eqb, length, take, Result, is_err}
+use Rattle.std.specs.Result.{result_unwrap_or}
 use Rattle.octets.specs.Bytes.{index_of, slice}
 use Rattle.lines.specs.declared.Input.{Input}
 use Rattle.lines.specs.declared.Found.{Found}
@@ -48,9 +49,13 @@ unfoldable pub kept_of : List ℕ → Input → List ℕ
 kept_of buffer input =
     cond (tidy_of (length buffer) input && not (lost_of (length buffer) input)) (slice input.at input.have buffer) []
 
--- what a read makes of an input: at its end where no byte came behind those that are kept
-abbrev pub read_of : Bool → ℕ → ℕ → Bool → Input
-read_of failed kept have dropped = record { at = 0; have = have; over = dropped; ended = eqb have kept; failed = failed }
+-- the bytes that a read's answer says came: of one that failed, none
+abbrev pub got_of : {E : Type 0} → Result ℕ E → ℕ
+got_of answer = result_unwrap_or answer 0
+
+-- what a read makes of an input, by its answer: at its end where no byte came behind those that are kept
+abbrev pub read_of : {E : Type 0} → Result ℕ E → ℕ → Bool → Input
+read_of answer kept dropped = record { at = 0; have = kept + got_of answer; over = dropped; ended = eqb (kept + got_of answer) kept; failed = is_err answer }
 
 -- bytes at the start of a buffer stay, and more may stand behind them; where none do, the input is at its end, and only there may the read have failed
 pub record Behind (buffer : List ℕ) (kept : ℕ) (dropped : Bool) (r : Input) (buffer' : List ℕ) : Type 0 where

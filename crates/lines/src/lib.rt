@@ -3,7 +3,7 @@
 // Where reading fails, the lines that ended are found, and then that it failed.
 #![tactic(auto)]
 
-ghost use Rattle.std.specs.Prelude.{◌≡◌, ◌+◌, ◌≤◌, length, drop};
+ghost use Rattle.std.specs.Prelude.{◌≡◌, ◌+◌, ◌≤◌, ◌<◌, ◌^◌, length, drop, IfOk};
 ghost use Rattle.lines.specs.Unread.{start_of, tidy_of, line_of, last_of, next_of, lost_of, read_of, Behind, Filled};
 
 use std::io;
@@ -135,10 +135,13 @@ fn lost(input: Input, size: usize) -> bool
     input.have == size
 }
 
-// What a read leaves, with the bytes that are there now: without a new one nothing more comes.
-fn after(failed: bool, kept: usize, have: usize, over: bool) -> Input
-    ensures { result ≡ read_of failed kept have over }
+// What a read's answer leaves: of one that failed, as of one without a new byte, that nothing more comes.
+fn after(answer: io::Result<usize>, kept: usize, over: bool) -> Input
+    requires { IfOk answer (λ n. kept + n < 2 ^ 64) }
+    ensures { result ≡ read_of answer kept over }
 {
+    let failed = answer.is_err();
+    let have = kept + answer.unwrap_or(0);
     Input {
         at: 0,
         have,
@@ -153,11 +156,8 @@ fn read_behind<R: Read>(reader: &mut R, buffer: &mut [u8], kept: usize, over: bo
     requires { kept ≤ length buffer.old }
     ensures { Behind buffer.old kept over result buffer.new }
 {
-    let part = &mut buffer[kept..];
-    match reader.read(part) {
-        Ok(n) => after(false, kept, kept + n, over),
-        Err(_) => after(true, kept, kept, over),
-    }
+    let answer = reader.read(&mut buffer[kept..]);
+    after(answer, kept, over)
 }
 
 // Moves what is unread to the start of the buffer and reads more behind it.
