@@ -1,5 +1,7 @@
 -- Where a byte first stands in a list is what std's `position` gives, or the list's length.
-use Rattle.std.proofs.Common.{◌≡◌, ℕ, ◌+◌, ◌-◌, ◌≤◌, List, length, take, drop, nat_eq, true, false, Bool, cond, refl, ap, ◌∙◌, arith, Some, None}
+use Rattle.std.proofs.Common.{◌≡◌, ℕ, suc, ◌+◌, ◌-◌, ◌<◌, ◌≤◌, List, length, take, drop, get_or, nat_eq, true, false, Bool, cond, refl, ap, ◌∙◌, arith, Some, None}
+use Rattle.std.proofs.Math.Seq.{slice-cons}
+use Rattle.std.proofs.lemmas.Bool.{eq-eqb}
 use Rattle.std.specs.List.{position, position_or_len}
 use Rattle.std.proofs.lemmas.List.{drop-take}
 use Rattle.std.proofs.lemmas.List.Recursion.{is_position_or_len}
@@ -26,3 +28,9 @@ module _ (byte : ℕ) where
 pub slice_is : (from to : ℕ) (text : List ℕ) → from ≤ to → slice from to text ≡ take (to - from) (drop from text)
 unfolding slice
 slice_is from to text h = let e : to ≡ from + (to - from) = omega arith in ap (λ n. drop from (take n text)) e ∙ drop-take from (to - from) text
+
+-- a byte that stands at a part's start is found there
+module _ (byte : ℕ) (text : List ℕ) (at to : ℕ) (lt : at < to) (room : to ≤ length text) where
+  pub index_here : get_or text at 0 ≡ byte → index_of byte (slice at to text) ≡ 0
+  unfolding index_of index_after slice
+  index_here e = ap (index_of byte) (slice-cons at to text 0 lt room) ∙ ap (λ b. index_after b (index_of byte (slice (suc at) to text))) (eq-eqb (get_or text at 0) byte e)
