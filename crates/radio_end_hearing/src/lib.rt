@@ -44,10 +44,10 @@ fn lacks_none(words: &[u64], message: &Control) -> bool
     (0..RESERVED_CHANNEL).all(|id| names_own(words, message, id))
 }
 
-// Every channel hears what is stated of its Channel ID. Here and below a message is lent: by value its tables would be copied.
-fn save_heard(words: &mut [u64], message: &Control)
+// Every channel hears what is stated of its Channel ID.
+fn save_heard(words: &mut [u64], message: Control)
     requires { state_fits (state_in words.old) ≡ true }
-    ensures { words.new ≡ state_words (hearing_all (state_in words.old) message.now) }
+    ensures { words.new ≡ state_words (hearing_all (state_in words.old) message) }
 {
     let count = place::count(words);
     for index in 0..count {
@@ -61,11 +61,11 @@ fn save_heard(words: &mut [u64], message: &Control)
 }
 
 // A control message is always answered, with windows as they are after hearing.
-fn control_accepted(words: &mut [u64], message: &Control, out: &mut [u8]) -> Result<Answer, Refusal>
+fn control_accepted(words: &mut [u64], message: Control, out: &mut [u8]) -> Result<Answer, Refusal>
     requires { state_fits (state_in words.old) ≡ true }
-    ensures { Left (control_heard (state_in words.old) message.now out.old) words.old result words.new out.new }
+    ensures { Left (control_heard (state_in words.old) message out.old) words.old result words.new out.new }
 {
-    if !lacks_none(words, message) {
+    if !lacks_none(words, &message) {
         return settle::refused(refusal::NO_CHANNEL);
     }
     let context = head::context(words);
@@ -77,13 +77,16 @@ fn control_accepted(words: &mut [u64], message: &Control, out: &mut [u8]) -> Res
     Ok(Answer::Answered(size))
 }
 
-fn control(words: &mut [u64], reading: &ControlReading, out: &mut [u8]) -> Result<Answer, Refusal>
+fn control(words: &mut [u64], reading: ControlReading, out: &mut [u8]) -> Result<Answer, Refusal>
     requires { state_fits (state_in words.old) ≡ true }
-    ensures { Left (control_read (state_in words.old) reading.now out.old) words.old result words.new out.new }
+    ensures { Left (control_read (state_in words.old) reading out.old) words.old result words.new out.new }
 {
     let verdict = reading.verdict;
     match verdict {
-        Verdict::Accepted => control_accepted(words, &reading.message, out),
+        Verdict::Accepted => {
+            let message = reading.message;
+            control_accepted(words, message, out)
+        }
         // The plane is known before a reader is asked.
         Verdict::OtherPlane => Ok(Answer::Quiet),
         Verdict::Refused(refusal) => Err(refusal),
@@ -150,10 +153,11 @@ pub fn hear(words: &mut [u64], datagram: &[u8], out: &mut [u8]) -> Result<Answer
     let datalink = head::datalink(words);
     let plane = header::plane(datagram)?;
     match plane {
-        Plane::Control => {
-            let reading = reader::control::read(datagram, End::Ips, datalink);
-            control(words, &reading, out)
-        }
+        Plane::Control => control(
+            words,
+            reader::control::read(datagram, End::Ips, datalink),
+            out,
+        ),
         Plane::Data => {
             let carried = reader::data::read_with_packet(datagram, End::Ips, datalink);
             let reading = carried.reading;

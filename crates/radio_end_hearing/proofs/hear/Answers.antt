@@ -13,7 +13,7 @@ pub overflow_sub-bytes : goal.overflow_sub-bytes
 overflow_sub-bytes c = start_within c.args.words.now c.args.datagram.now c.args.out.now (sym c.fits.ensures ∙ c.if-not-fits.false) _ c.plane.ensures _ c.datalink-datalink.ensures _ c.read_with_packet-carried.ensures.value
 
 pub returns-in-Control : goal.returns-in-Control
-returns-in-Control c = hear_control _ _ _ (sym c.fits.ensures ∙ c.if-not-fits.false) _ c.plane.ensures _ c.datalink-datalink.ensures (c.in_ok-plane.was ∙ ap Ok c.in-Control.is) _ c.read-reading.ensures _ _ _ c.control.ensures
+returns-in-Control c = hear_control _ _ _ (sym c.fits.ensures ∙ c.if-not-fits.false) _ c.plane.ensures _ c.datalink-datalink.ensures (c.in_ok-plane.was ∙ ap Ok c.in-Control.is) _ c.read.ensures _ _ _ c.control.ensures
 
 pub returns-in-Data : goal.returns-in-Data
 returns-in-Data c = hear_data _ _ _ (sym c.fits.ensures ∙ c.if-not-fits.false) _ c.plane.ensures _ c.datalink-datalink.ensures (c.in_ok-plane.was ∙ ap Ok c.in-Data.is) _ c.read_with_packet-carried.ensures.value c.read_with_packet-carried.ensures.packet _ _ _ c.«data».ensures
